@@ -1,0 +1,1 @@
+-- The laws of `matching`, for the proofs of this crate and of those above it. Nothing here need be believed.
