@@ -1,0 +1,4 @@
+-- The laws of `table`, for the proofs of this crate and of those above it. Nothing here need be believed.
+pub mod Books
+pub mod Facts
+pub mod Computed
