@@ -4,5 +4,6 @@ pub mod Same
 pub mod Stores
 pub mod Writes
 pub mod Books
+pub mod Lookups
 pub mod Facts
 pub mod Computed
