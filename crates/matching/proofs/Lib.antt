@@ -7,3 +7,6 @@ pub mod Conserved
 pub mod Fair
 pub mod Crossing
 pub mod Ends
+pub mod Sounds
+pub mod Holding
+pub mod Requests
