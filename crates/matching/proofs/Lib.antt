@@ -10,3 +10,5 @@ pub mod Ends
 pub mod Sounds
 pub mod Holding
 pub mod Requests
+pub mod Best
+pub mod Levels
