@@ -2,3 +2,8 @@
 pub mod Values
 pub mod Books
 pub mod Events
+pub mod Steps
+pub mod Conserved
+pub mod Fair
+pub mod Crossing
+pub mod Ends
