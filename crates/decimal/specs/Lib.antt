@@ -1,0 +1,2 @@
+-- What the contracts of `decimal` cite.
+pub mod Writing

@@ -1,0 +1,2 @@
+// Text against number: digits, yields, averages, times.
+pub mod write;
