@@ -2,6 +2,7 @@
 use Prim.Native.Nat.{ℕ, _+_, _-_, _*_, _/_, _%_, _≤_, _<_}
 use mathlib.Core.Path.{_≡_, refl, sym, ap, _∙_}
 use native.Mathlib.Omega.{arith}
+use native.Mathlib.Decide.{decLt}
 use native.Mathlib.Nat.{div-add-mod', mul-add-div-right, div-le-of-le-mul}
 use borrow.Author.Tests.{eq-eqb, ne-eqb, lt-ltb, le-ltb}
 use Rattle.decimal.specs.Writing.{shareOf, meanOf}
@@ -30,3 +31,21 @@ module _ (sum e : ℕ) where
   pub mean-above : (r : ℕ) → (e ≡ 0 → ⊥) → e * 1000000000 ≤ sum → r ≡ shareOf (sum - e * 1000000000) e → 1000000000000 + r ≡ meanOf sum e
   unfolding meanOf
   mean-above r h l q = simp (ne-eqb e 0 h, le-ltb sum (e * 1000000000) l, q)
+
+-- yields of at most 999999.999 in size have a mean of at most 999999.999999 in size
+below-all : (d e : ℕ) → 0 < e → d ≤ e * 999999999 → shareOf d e ≤ 999999999000
+unfolding shareOf
+below-all d e h l = div-le-of-le-mul e (omega arith)
+
+pub mean-range : (sum e : ℕ) → e ≤ sum → sum ≤ e * 1999999999 → (0 < meanOf sum e) × (meanOf sum e < 2000000000000)
+unfolding meanOf
+mean-range sum e l h =
+    elim (decLt 0 e) [
+      | no p ↦ rw (eq-eqb e 0 (omega (arith, p))) (omega arith)
+      | yes p ↦
+          rw (ne-eqb e 0 (λ z. omega (arith, z, p)))
+          (elim (decLt sum (e * 1000000000)) [
+            | yes q ↦ rw (lt-ltb sum (e * 1000000000) q) (omega (arith, below-all (e * 1000000000 - sum) e p (omega (arith, l))))
+            | no q ↦ rw (le-ltb sum (e * 1000000000) (omega (arith, q))) (omega (arith, below-all (sum - e * 1000000000) e p (omega (arith, h))))
+          ])
+    ]
