@@ -2,4 +2,6 @@
 pub mod Bools
 pub mod Ranges
 pub mod Places
+pub mod Parts
+pub mod Zeros
 pub mod Runs

@@ -2,15 +2,16 @@
 -- into the lent rest of an area is written in the area. Everything is inferred from the records Room and Wrote.
 use mathlib.Core.Path.{_≡_, refl, sym, ap, _∙_}
 use mathlib.Core.List.{List, [], _∷_, _++_}
-use Prim.Native.Nat.{ℕ, suc, _+_, _-_, _≤_, _<_}
+use Prim.Native.Nat.{ℕ, _+_, _-_, _≤_, _<_}
 use native.Mathlib.Nat.{add-zero}
 use native.Mathlib.Omega.{arith}
 use native.Mathlib.Numerals.{add-one}
-use lib.ListN.{length, length-append, take, drop, set, getD}
+use lib.ListN.{length, length-append, take, drop, set, getD, replicate}
 use lib.Seq.{sets-eq, take-suc, take-at, length-take-le}
-use Rattle.octets.specs.Octets.{put}
+use Rattle.octets.specs.Octets.{put, putText}
 use Rattle.octets.specs.Written.{Room, Wrote}
 use Rattle.octets.proofs.Places.{length-put, put-put, part-back}
+use Rattle.octets.proofs.Parts.{put-three}
 
 -- nothing written
 pub wrote-none : (area : List ℕ) (at : ℕ) → Wrote area at [] at area
@@ -77,3 +78,8 @@ pub wrote-rest : (area : List ℕ) (at : ℕ) {xs part : List ℕ} {next : ℕ} 
     → Wrote area at xs (at + next) (take at area ++ (part ++ drop (length area - at) (drop at area)))
 wrote-rest area at {xs} {part} {next} h w =
     record { place = omega (arith, w .place); bytes-in = rw (w .bytes-in) (part-back area at xs h) }
+
+-- ---- a length byte stored, the text copied behind it, and zeros put behind that: the text is put
+pub wrote-text : (n : ℕ) (t : List ℕ) (p : ℕ) {xs : List ℕ} {q : ℕ} {after after₂ : List ℕ} → Wrote (set t p (length xs)) (p + 1) xs q after
+    → after₂ ≡ put after q (replicate (n - length xs) 0) → after₂ ≡ putText n t p xs
+wrote-text n t p {xs} w e = e ∙ rw (w .bytes-in, w .place) (put-three n t p xs)

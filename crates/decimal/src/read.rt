@@ -1,0 +1,195 @@
+// Reads numbers, yields and times from texts.
+use crate::EVEN;
+use crate::Said;
+ghost use mathlib.Core.Path.{_≡_};
+ghost use Prim.Native.Nat.{ℕ, _+_, _-_, _*_, _^_, _≤_, _<_};
+ghost use lib.ListN.{length, take, drop, getD};
+ghost use Rattle.decimal.specs.Reading.{isDigit, digitOf, digitRun, number, numOf, digitAt, fractionOf, sizeOf, levelOf, isTimeLength, twoAt, timeShaped, timeRanged, isTime};
+
+// Whether a byte is a digit.
+pub fn is_digit(b: u8) -> bool
+    ensures { λ r. ⌜ r ≡ isDigit b ⌝ }
+{
+    (48 <= b) & (b <= 57)
+}
+
+// The digit that a byte is, and 100 where it is none.
+pub fn digit(b: u8) -> u64
+    ensures { λ r. ⌜ (r ≡ digitOf b) × (r ≤ 100) ⌝ }
+{
+    if is_digit(b) { (b - 48) as u64 } else { 100 }
+}
+
+// The byte at place `i`, and 0 past the end.
+pub fn byte_at(s: &[u8], i: usize) -> u8
+    ensures { λ r. ⌜ r ≡ getD (now (s .entry)) i 0 ⌝ }
+{
+    if i < s.len() { s[i] } else { 0 }
+}
+
+// How many digits `s` starts with.
+pub fn digit_run(s: &[u8]) -> usize
+    ensures { λ r. ⌜ r ≡ digitRun (now (s .entry)) ⌝ }
+{
+    let mut i = 0;
+    while i < s.len() {
+        if !is_digit(s[i]) {
+            return i;
+        }
+        i += 1;
+    }
+    i
+}
+
+// The number that up to nine digits say.
+pub fn number(s: &[u8]) -> u64
+    requires { ⌜ (length (now s) ≤ 9) × (digitRun (now s) ≡ length (now s)) ⌝ }
+    ensures { λ r. ⌜ r ≡ number (now (s .entry)) ⌝ }
+{
+    let mut n: u64 = 0;
+    let mut i = 0;
+    while i < s.len() {
+        let d = s[i] - 48;
+        n = n * 10 + d as u64;
+        i += 1;
+    }
+    n
+}
+
+// The number that 1 to `most` digits say.
+pub fn read_number(s: &[u8], most: usize) -> Said
+    requires { ⌜ most ≤ 9 ⌝ }
+    ensures { λ r. ⌜ r ≡ numOf most (now (s .entry)) ⌝ }
+{
+    if s.len() == 0 {
+        return Said::Wrong;
+    }
+    if most < s.len() {
+        return Said::Wrong;
+    }
+    let mut n: u64 = 0;
+    let mut i = 0;
+    while i < s.len() {
+        let d = digit(s[i]);
+        if 9 < d {
+            return Said::Wrong;
+        }
+        n = n * 10 + d;
+        i += 1;
+    }
+    Said::Value(n)
+}
+
+// The digit at place `i`, where one that is not written counts as 0.
+fn digit_at(s: &[u8], i: usize) -> u64
+    ensures { λ r. ⌜ (r ≡ digitAt (now (s .entry)) i) × (r ≤ 100) ⌝ }
+{
+    if i < s.len() { digit(s[i]) } else { 0 }
+}
+
+// The thousandths behind the whole digits of a yield: nothing, or a point and 1 to 3 digits.
+fn read_fraction(s: &[u8]) -> Said
+    ensures { λ r. ⌜ r ≡ fractionOf (now (s .entry)) ⌝ }
+{
+    if s.len() == 0 {
+        return Said::Value(0);
+    }
+    let a = digit_at(s, 1);
+    let b = digit_at(s, 2);
+    let c = digit_at(s, 3);
+    if (s[0] == b'.') & (2 <= s.len()) & (s.len() <= 4) & (a < 10) & (b < 10) & (c < 10) {
+        Said::Value(a * 100 + b * 10 + c)
+    } else {
+        Said::Wrong
+    }
+}
+
+// The thousandths of a yield that has no minus.
+fn read_size(s: &[u8]) -> Said
+    ensures { λ r. ⌜ r ≡ sizeOf (now (s .entry)) ⌝ }
+{
+    let k = digit_run(s);
+    if k == 0 {
+        return Said::Wrong;
+    }
+    if 6 < k {
+        return Said::Wrong;
+    }
+    match read_fraction(&s[k..]) {
+        Said::Value(f) => Said::Value(number(&s[..k]) * 1000 + f),
+        Said::Wrong => Said::Wrong,
+    }
+}
+
+// A yield as a level: EVEN and its thousandths, or EVEN less them where a minus stands before it.
+pub fn read_level(s: &[u8]) -> Said
+    ensures { λ r. ⌜ r ≡ levelOf (now (s .entry)) ⌝ }
+{
+    if s.len() == 0 {
+        return Said::Wrong;
+    }
+    if s[0] == b'-' {
+        return match read_size(&s[1..]) {
+            Said::Value(t) => Said::Value(EVEN - t),
+            Said::Wrong => Said::Wrong,
+        };
+    }
+    match read_size(s) {
+        Said::Value(t) => Said::Value(EVEN + t),
+        Said::Wrong => Said::Wrong,
+    }
+}
+
+// The number that the two digits at place `i` say: below 100 exactly where both are digits.
+fn two_at(s: &[u8], i: usize) -> u64
+    requires { ⌜ i < 100 ⌝ }
+    ensures { λ r. ⌜ r ≡ twoAt (now (s .entry)) i ⌝ }
+{
+    digit(byte_at(s, i)) * 10 + digit(byte_at(s, i + 1))
+}
+
+// Whether a time may have this length.
+pub fn is_time_length(n: usize) -> bool
+    ensures { λ r. ⌜ r ≡ isTimeLength n ⌝ }
+{
+    n == 17
+}
+
+// Whether the digits and marks of a time stand where they do in one.
+pub fn time_shaped(s: &[u8]) -> bool
+    ensures { λ r. ⌜ r ≡ timeShaped (now (s .entry)) ⌝ }
+{
+    is_time_length(s.len())
+        & (two_at(s, 0) < 100)
+        & (two_at(s, 2) < 100)
+        & (two_at(s, 4) < 100)
+        & (two_at(s, 6) < 100)
+        & (byte_at(s, 8) == b'-')
+        & (two_at(s, 9) < 100)
+        & (byte_at(s, 11) == b':')
+        & (two_at(s, 12) < 100)
+        & (byte_at(s, 14) == b':')
+        & (two_at(s, 15) < 100)
+}
+
+// Whether month, day, hour, minute and second are in their ranges.
+pub fn time_ranged(s: &[u8]) -> bool
+    ensures { λ r. ⌜ r ≡ timeRanged (now (s .entry)) ⌝ }
+{
+    let month = two_at(s, 4);
+    let day = two_at(s, 6);
+    (1 <= month)
+        & (month <= 12)
+        & (1 <= day)
+        & (day <= 31)
+        & (two_at(s, 9) <= 23)
+        & (two_at(s, 12) <= 59)
+        & (two_at(s, 15) <= 59)
+}
+
+// Whether `s` is a time.
+pub fn is_time(s: &[u8]) -> bool
+    ensures { λ r. ⌜ r ≡ isTime (now (s .entry)) ⌝ }
+{
+    time_shaped(s) & time_ranged(s)
+}

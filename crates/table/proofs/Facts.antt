@@ -1,0 +1,345 @@
+-- The test and the facts are the same: what isMarket says, as facts, and from the facts the test again.
+use mathlib.Core.Path.{_≡_, refl, sym, ap, _∙_}
+use mathlib.Core.Bool.{Bool, true, false, not, cond, _&&_, _||_}
+use mathlib.Core.List.{List}
+use mathlib.Core.Logic.{⊎-elim}
+use Prim.Native.Nat.{ℕ, zero, suc, _+_, _*_, _-_, _≤_, _<_}
+use native.Mathlib.Numerals.{add-one}
+use native.Mathlib.Omega.{arith}
+use lib.Dec.{eqb, leb, ltb}
+use lib.ListN.{length, getD, List·getD-eq-default}
+use Rattle.octets.proofs.Places.{below-or}
+use borrow.Author.Tests.{ltb-true, ltb-false, leb-true, leb-false, eqb-true, eqb-false, lt-ltb, le-ltb, le-leb, lt-leb, eq-eqb, ne-eqb, not-true}
+use Rattle.octets.specs.Octets.{sameBytes}
+use Rattle.octets.specs.Tests.{allUpTo}
+use Rattle.octets.proofs.Bools.{split, both-i, both-l, both-r, or-l, or-r}
+use Rattle.octets.proofs.Ranges.{all-at, all-from}
+use Rattle.matching.specs.declared.Order.{Order}
+use Rattle.matching.specs.Matching.{Book, none, at, openOf, isBuy, isOpen, crosses, opposedTo}
+use Rattle.matching.specs.Held.{Sound, In, Held}
+use Rattle.matching.proofs.Books.{open-low, open-high}
+use Rattle.table.specs.Heading.{nextOf, workOf, isListed}
+use Rattle.table.specs.Orders.{clOrdIdAt, orderAt, filled, bookOf}
+use Rattle.table.specs.Market.{hasLength, hasSettings, hasNext, hasWork, hasSpare, restZero, isRecord, isRanged, isKnown, isWithin, isShut, isPriced, isOrder, hasOrders, isFreshId, hasIds, isFreshPlace, hasPlaces, isDone, noIoc, isClear, noCross, hasNumbers, isBook, isMarket}
+use Rattle.table.specs.Facts.{Market}
+use Rattle.table.proofs.Books.{length-book, at-book}
+
+-- ---- tests taken apart
+
+or-second : (a b : Bool) → b ≡ true → (a || b) ≡ true
+or-second true b h = refl
+or-second false b h = h
+
+not-i : {a : Bool} → a ≡ false → not a ≡ true
+not-i h = rw h
+
+-- ---- one order
+
+pub sound-facts : (o : Order) → isRanged o ≡ true → isWithin o ≡ true → isShut o ≡ true → isPriced o ≡ true → Sound o
+unfolding isRanged isWithin isShut isPriced
+sound-facts o r w s p =
+    record {
+      sides = search (both-l, both-r) depth 9;
+      tifs = search (both-l, both-r) depth 9;
+      level-low = leb-true _ _ (search (both-l, both-r) depth 9);
+      level-high = leb-true _ _ (search (both-l, both-r) depth 9);
+      qty-low = leb-true _ _ (search (both-l, both-r));
+      qty-high = leb-true _ _ (search (both-l, both-r));
+      covered = leb-true _ _ w;
+      dead = λ c. eqb-true _ _ (or-r _ _ s (ne-eqb (o .canceled) 0 (λ e. omega arith)));
+      sum-low = leb-true _ _ (search both-l);
+      sum-high = leb-true _ _ (search both-r);
+      place-low = leb-true _ _ (search both-r);
+    }
+
+pub sound-ranged : (o : Order) → Sound o → isRanged o ≡ true
+unfolding isRanged
+sound-ranged o h =
+    both-i (both-i (both-i (both-i (both-i (both-i
+    (h .sides) (h .tifs))
+    (le-leb _ _ (h .level-low))) (le-leb _ _ (h .level-high)))
+    (le-leb _ _ (h .qty-low))) (le-leb _ _ (h .qty-high))) (le-leb _ _ (h .place-low))
+
+pub sound-within : (o : Order) → Sound o → isWithin o ≡ true
+unfolding isWithin
+sound-within o h = le-leb _ _ (h .covered)
+
+pub sound-shut : (o : Order) → Sound o → isShut o ≡ true
+unfolding isShut
+sound-shut o h =
+    split (eqb (o .canceled) 0) (λ e. or-l _ (eqb (openOf o) 0) e)
+    (λ e. or-second (eqb (o .canceled) 0) _ (eq-eqb _ _ (h .dead (omega (arith, eqb-false)))))
+
+pub sound-priced : (o : Order) → Sound o → isPriced o ≡ true
+unfolding isPriced
+sound-priced o h = both-i (le-leb _ _ (h .sum-low)) (le-leb _ _ (h .sum-high))
+
+-- an IOC that is done has nothing open
+done-order : (o : Order) → isDone o ≡ true → o .tif ≡ 3 → openOf o ≡ 0
+unfolding isDone
+done-order o h e =
+    let g : (eqb (o .tif) 3 && isOpen o) ≡ false = not-true _ h in
+    let f : ltb 0 (openOf o) ≡ false = rw (eq-eqb (o .tif) 3 e) at g in
+    omega (arith, ltb-false)
+
+order-done : (o : Order) → (o .tif ≡ 3 → openOf o ≡ 0) → isDone o ≡ true
+unfolding isDone
+order-done o h =
+    split (eqb (o .tif) 3)
+    (λ e.
+    let f : ltb 0 (openOf o) ≡ false = le-ltb 0 (openOf o) (omega (arith, h (eqb-true _ _ e))) in
+    rw (e, f))
+    (λ e. rw e)
+
+-- an open buy and an open sell that are clear of each other
+clear-order : (o r : Order) → isClear o r ≡ true → isBuy o ≡ true → isBuy r ≡ false → 0 < openOf o → 0 < openOf r → r .level < o .level
+unfolding isClear
+clear-order o r h bo br oo or =
+    let g : (isOpen o && isBuy o && (isOpen r && not (isBuy r)) && crosses (o .level) (r .level)) ≡ false = not-true _ h in
+    leb-false _ _ (rw (lt-ltb 0 (openOf o) oo, lt-ltb 0 (openOf r) or, bo, br) at g)
+
+order-clear : (o r : Order)
+    → (isBuy o ≡ true → isBuy r ≡ false → 0 < openOf o → 0 < openOf r → r .level < o .level) → isClear o r ≡ true
+unfolding isClear
+order-clear o r h =
+    split (isOpen o)
+    (λ oo. split (isBuy o)
+    (λ bo. split (isOpen r)
+    (λ or. split (isBuy r) (λ br. rw (oo, bo, or, br))
+    (λ br. rw (oo, bo, or, br) (not-i (lt-leb _ _ (h bo br (ltb-true _ _ oo) (ltb-true _ _ or))))))
+    (λ or. rw (oo, bo, or)))
+    (λ bo. rw (oo, bo)))
+    (λ oo. rw oo)
+
+-- ---- the book
+
+-- a test of all numbers from 1 to n
+pub upto-at : (f : ℕ → Bool) (n : ℕ) → allUpTo (λ k. f (suc k)) n ≡ true → (k : ℕ) → 1 ≤ k → k ≤ n → f k ≡ true
+upto-at f n h zero l m = absurd (omega arith)
+upto-at f n h (suc k) l m = all-at (λ j. f (suc j)) n h k m
+
+pub upto-from : (f : ℕ → Bool) (n : ℕ) → ((k : ℕ) → 1 ≤ k → k ≤ n → f k ≡ true) → allUpTo (λ k. f (suc k)) n ≡ true
+upto-from f n h = all-from (λ j. f (suc j)) n (λ k l. h (suc k) (omega arith) l)
+
+module _ (b : Book) (w next : ℕ) where
+  work-or : (k : ℕ) (x : Bool) → (eqb k w || x) ≡ true → (k ≡ w → ⊥) → x ≡ true
+  work-or k x h n = or-r (eqb k w) x h (ne-eqb k w n)
+
+  or-work : (k : ℕ) (x : Bool) → ((k ≡ w → ⊥) → x ≡ true) → (eqb k w || x) ≡ true
+  or-work k x h = split (eqb k w) (λ e. or-l (eqb k w) x e) (λ e. or-second (eqb k w) x (h (eqb-false k w e)))
+
+  -- places
+  place-facts : hasPlaces b next ≡ true → (k : ℕ) → 1 ≤ k → k ≤ length b
+      → (at b k .place < next) × ((j : ℕ) → 1 ≤ j → j < k → at b j .place ≡ at b k .place → ⊥)
+  unfolding hasPlaces isFreshPlace
+  place-facts h zero l m = absurd (omega arith)
+  place-facts h (suc k) l m =
+      let f = all-at (λ j. ltb (at b (suc j) .place) next && isFreshPlace b j) (length b) h k m in (
+        ltb-true _ _ (both-l _ (isFreshPlace b k) f),
+        λ j i g e. eqb-false _ _ (not-true _ (upto-at (λ (i : ℕ). not (eqb (at b i .place) (at b (suc k) .place))) k (both-r (ltb (at b (suc k) .place) next) _ f) j i (omega arith))) e,
+      )
+
+  apart : hasPlaces b next ≡ true → (j k : ℕ) → In b j → In b k → at b j .place ≡ at b k .place → j ≡ k
+  apart h j k jl kl e =
+      ⊎-elim (λ (l : j < k). absurd (place-facts h k (kl .low) (kl .high) .1 j (jl .low) l e))
+      (λ (l : k ≤ j).
+      ⊎-elim (λ (m : k < j). absurd (place-facts h j (jl .low) (jl .high) .1 k (kl .low) m (sym e)))
+      (λ (m : j ≤ k). omega arith) (below-or k j))
+      (below-or j k)
+
+  facts-place : ((k : ℕ) → 1 ≤ k → k ≤ length b → at b k .place < next)
+      → ((j k : ℕ) → 1 ≤ j → j < k → k ≤ length b → at b j .place ≡ at b k .place → ⊥) → hasPlaces b next ≡ true
+  unfolding hasPlaces isFreshPlace
+  facts-place p q =
+      all-from (λ j. ltb (at b (suc j) .place) next && isFreshPlace b j) (length b)
+      (λ k l.
+      both-i (lt-ltb _ _ (p (suc k) (omega arith) l))
+      (all-from (λ i. not (eqb (at b (suc i) .place) (at b (suc k) .place))) k
+      (λ i h. not-i (ne-eqb _ _ (q (suc i) (suc k) (omega arith) (omega arith) l)))))
+
+  -- no IOC is open
+  done-facts : noIoc b w ≡ true → (k : ℕ) → 1 ≤ k → k ≤ length b → (k ≡ w → ⊥) → at b k .tif ≡ 3 → openOf (at b k) ≡ 0
+  unfolding noIoc
+  done-facts h k l m n e =
+      done-order (at b k) (work-or k (isDone (at b k)) (upto-at (λ j. eqb j w || isDone (at b j)) (length b) h k l m) n) e
+
+  facts-done : ((k : ℕ) → 1 ≤ k → k ≤ length b → (k ≡ w → ⊥) → at b k .tif ≡ 3 → openOf (at b k) ≡ 0) → noIoc b w ≡ true
+  unfolding noIoc
+  facts-done h =
+      upto-from (λ j. eqb j w || isDone (at b j)) (length b)
+      (λ k l m. or-work k (isDone (at b k)) (λ n. order-done (at b k) (h k l m n)))
+
+  -- no open buy meets an open sell
+  cross-facts : noCross b w ≡ true → (j k : ℕ) → 1 ≤ j → j ≤ length b → 1 ≤ k → k ≤ length b → (j ≡ w → ⊥) → (k ≡ w → ⊥)
+      → isClear (at b j) (at b k) ≡ true
+  unfolding noCross
+  cross-facts h j k jl jm kl km nj nk =
+      let f : ℕ → ℕ → Bool = λ j k. eqb j w || eqb k w || isClear (at b j) (at b k) in
+      let g = upto-at (f j) (length b) (upto-at (λ (j : ℕ). allUpTo (λ k. f j (suc k)) (length b)) (length b) h j jl jm) k kl km in
+      or-r (eqb j w || eqb k w) (isClear (at b j) (at b k)) g (rw (ne-eqb j w nj, ne-eqb k w nk))
+
+  facts-cross : ((j k : ℕ) → (j ≡ w → ⊥) → (k ≡ w → ⊥) → isClear (at b j) (at b k) ≡ true) → noCross b w ≡ true
+  unfolding noCross
+  facts-cross h =
+      let f : ℕ → ℕ → Bool = λ j k. eqb j w || eqb k w || isClear (at b j) (at b k) in
+      upto-from (λ (j : ℕ). allUpTo (λ k. f j (suc k)) (length b)) (length b) (λ j jl jm. upto-from (f j) (length b) (λ k kl km.
+      split (eqb j w) (λ e. rw e)
+      (λ e.
+      rw e
+      (or-work k (isClear (at b j) (at b k)) (λ n. h j k (eqb-false j w e) n)))))
+
+  -- the numbers
+  number-facts : hasNumbers b w next ≡ true → 0 < openOf (at b w) → next + 2 * opposedTo b w + 1 ≤ 1000000000
+  unfolding hasNumbers
+  number-facts h o =
+      leb-true (next + 2 * opposedTo b w + 1) 1000000000
+      (or-r (not (isOpen (at b w))) _ h (rw (lt-ltb 0 (openOf (at b w)) o)))
+
+  facts-number : (0 < openOf (at b w) → next + 2 * opposedTo b w + 1 ≤ 1000000000) → hasNumbers b w next ≡ true
+  unfolding hasNumbers
+  facts-number h =
+      split (isOpen (at b w))
+      (λ e. or-second (not (isOpen (at b w))) _ (le-leb _ _ (h (ltb-true 0 (openOf (at b w)) e))))
+      (λ e. or-l (not (isOpen (at b w))) (leb (next + 2 * opposedTo b w + 1) 1000000000) (not-i e))
+
+-- an order out of the book is no IOC
+ioc-in : (b : Book) (k : ℕ) → at b k .tif ≡ 3 → (1 ≤ k) × (k ≤ length b)
+ioc-in b zero e = absurd (omega arith)
+ioc-in b (suc k) e = (
+  omega arith,
+  ⊎-elim (λ (l : k < length b). l)
+      (λ (l : length b ≤ k).
+      let d : getD b k none ≡ none = List·getD-eq-default b none l in
+      let z : 0 ≡ 3 = rw d at e in
+      absurd (omega arith))
+      (below-or k (length b)),
+)
+
+-- ---- the table
+
+-- a test of all records from 1 to n
+pub record-at : (f : ℕ → Bool) (n : ℕ) → allUpTo (λ k. f (k + 1)) n ≡ true → (i : ℕ) → 1 ≤ i → i ≤ n → f i ≡ true
+record-at f n h i l m =
+    let e : i - 1 + 1 ≡ i = omega arith in
+    rw e at (all-at (λ k. f (k + 1)) n h (i - 1) (omega arith))
+
+pub record-from : (f : ℕ → Bool) (n : ℕ) → ((i : ℕ) → 1 ≤ i → i ≤ n → f i ≡ true) → allUpTo (λ k. f (k + 1)) n ≡ true
+record-from f n h = all-from (λ k. f (k + 1)) n (λ k l. h (k + 1) (omega arith) (omega arith))
+
+module _ (t : List ℕ) where
+  id-facts : hasIds t ≡ true → (j k : ℕ) → 1 ≤ j → j < k → k ≤ filled t → sameBytes (clOrdIdAt t j) (clOrdIdAt t k) ≡ false
+  unfolding hasIds isFreshId
+  id-facts h j k l m n =
+      let e : k - 1 + 1 ≡ k = omega arith in
+      let f : ℕ → Bool = λ i. not (sameBytes (clOrdIdAt t i) (clOrdIdAt t (k - 1 + 1))) in
+      let g : f j ≡ true = record-at f (k - 1) (all-at (isFreshId t) (filled t) h (k - 1) (omega arith)) j l (omega arith) in
+      let n : sameBytes (clOrdIdAt t j) (clOrdIdAt t (k - 1 + 1)) ≡ false = not-true _ g in
+      rw e at n
+
+  facts-id : ((j k : ℕ) → 1 ≤ j → j < k → k ≤ filled t → sameBytes (clOrdIdAt t j) (clOrdIdAt t k) ≡ false) → hasIds t ≡ true
+  unfolding hasIds isFreshId
+  facts-id h =
+      all-from (isFreshId t) (filled t) (λ j l.
+      record-from (λ i. not (sameBytes (clOrdIdAt t i) (clOrdIdAt t (j + 1)))) j (λ i m n. not-i (h i (j + 1) m (omega arith) (omega arith))))
+
+  order-sound : (i : ℕ) → isOrder t i ≡ true → Sound (orderAt t i)
+  unfolding isOrder
+  order-sound i h = sound-facts (orderAt t i) (search (both-l, both-r)) (search (both-l, both-r)) (search (both-l, both-r)) (search (both-l, both-r))
+
+  order-record : (i : ℕ) → isOrder t i ≡ true → isRecord t i ≡ true
+  unfolding isOrder
+  order-record i h = search (both-l, both-r)
+
+  order-known : (i : ℕ) → isOrder t i ≡ true → isKnown t (orderAt t i .mpid) ≡ true
+  unfolding isOrder
+  order-known i h = search (both-l, both-r)
+
+  facts-order : (i : ℕ) → isRecord t i ≡ true → isKnown t (orderAt t i .mpid) ≡ true → Sound (orderAt t i) → isOrder t i ≡ true
+  unfolding isOrder
+  facts-order i r k h =
+      both-i (both-i (both-i (both-i (both-i r (sound-ranged (orderAt t i) h)) k) (sound-within (orderAt t i) h)) (sound-shut (orderAt t i) h))
+      (sound-priced (orderAt t i) h)
+
+  work-within : hasWork t ≡ true → workOf t ≤ filled t
+  unfolding hasWork
+  work-within h = leb-true _ _ (search both-l)
+
+  -- what matching works with
+  book-facts : hasNext t ≡ true → hasWork t ≡ true → ((i : ℕ) → 1 ≤ i → i ≤ filled t → isOrder t i ≡ true)
+      → isBook (bookOf t) (workOf t) (nextOf t) ≡ true → Held (isListed t) (nextOf t) (bookOf t) (workOf t)
+  unfolding isBook hasNext isKnown
+  book-facts n g is h =
+      let b : Book = bookOf t in
+      let w : ℕ = workOf t in
+      let x : ℕ = nextOf t in
+      let size : length b ≡ filled t = length-book t in
+      let within = work-within g in
+      let p : hasPlaces b x ≡ true = search (both-l, both-r) in
+      let i : noIoc b w ≡ true = search (both-l, both-r) in
+      let c : noCross b w ≡ true = search (both-l, both-r) in
+      let m : hasNumbers b w x ≡ true = search (both-l, both-r) in
+      record {
+        work = omega arith;
+        sound = λ k l. rw (at-book t k (l .low) (omega (arith, l .high))) (order-sound k (is k (l .low) (omega (arith, l .high))));
+        owned = λ k l. rw (at-book t k (l .low) (omega (arith, l .high))) (order-known k (is k (l .low) (omega (arith, l .high))));
+        places-apart = λ j k jl kl e. apart b w x p j k jl kl e;
+        places-below = λ k l. place-facts b w x p k (l .low) (l .high) .0;
+        no-ioc = λ k nk e. let l = ioc-in b k e in done-facts b w x i k (l .0) (l .1) nk e;
+        uncrossed = λ j k nj nk bj bk oj ok.
+            clear-order (at b j) (at b k) (cross-facts b w x c j k (open-low b j oj) (open-high b j oj) (open-low b k ok) (open-high b k ok) nj nk) bj bk oj ok;
+        next-high = leb-true _ _ (both-r (leb 1 (nextOf t)) _ n);
+        numbers = number-facts b w x m;
+      }
+
+  facts-book : Held (isListed t) (nextOf t) (bookOf t) (workOf t) → isBook (bookOf t) (workOf t) (nextOf t) ≡ true
+  unfolding isBook
+  facts-book h =
+      let b : Book = bookOf t in
+      let w : ℕ = workOf t in
+      let x : ℕ = nextOf t in
+      both-i (both-i (both-i
+      (facts-place b w x (λ k l m. h .places-below k (record { low = l; high = m }))
+      (λ j k l m n e.
+      let q : j ≡ k = h .places-apart j k (record { low = l; high = omega arith }) (record { low = omega arith; high = n }) e in
+      omega arith))
+      (facts-done b w x (λ k l m. h .no-ioc k)))
+      (facts-cross b w x (λ j k nj nk. order-clear (at b j) (at b k) (h .uncrossed j k nj nk))))
+      (facts-number b w x (h .numbers))
+
+  -- what the test says of a market
+  pub market-facts : isMarket t ≡ true → Market t
+  unfolding isMarket hasLength hasNext hasOrders
+  market-facts h =
+      let n : hasNext t ≡ true = search (both-l, both-r) depth 9 in
+      let w : hasWork t ≡ true = search (both-l, both-r) depth 9 in
+      let o : hasOrders t ≡ true = search (both-l, both-r) depth 9 in
+      let b : isBook (bookOf t) (workOf t) (nextOf t) ≡ true = search both-r in
+      let is : (i : ℕ) → 1 ≤ i → i ≤ filled t → isOrder t i ≡ true = record-at (isOrder t) (filled t) o in
+      record {
+        long = eqb-true _ _ (search both-l depth 10);
+        settings = search (both-l, both-r) depth 9;
+        next-low = leb-true _ _ (both-l _ (leb (nextOf t) 1000000000) n);
+        work = w;
+        spare = search (both-l, both-r) depth 9;
+        rest = search (both-l, both-r) depth 9;
+        records = λ i l m. order-record i (is i l m);
+        ids = id-facts (search (both-l, both-r) depth 9);
+        held = book-facts n w is b;
+      }
+
+  -- and back
+  pub facts-market : Market t → isMarket t ≡ true
+  unfolding isMarket hasLength hasNext hasOrders isKnown
+  facts-market m =
+      let h = m .held in
+      let size : length (bookOf t) ≡ filled t = length-book t in
+      let in-book : (i : ℕ) → 1 ≤ i → i ≤ filled t → In (bookOf t) i = λ i l n. record { low = l; high = omega arith } in
+      both-i (both-i (both-i (both-i (both-i (both-i (both-i (both-i
+      (eq-eqb _ _ (m .long)) (m .settings))
+      (both-i (le-leb _ _ (m .next-low)) (le-leb _ _ (h .next-high)))) (m .work)) (m .spare)) (m .rest))
+      (record-from (isOrder t) (filled t) (λ i l n.
+      facts-order i (m .records i l n)
+      (rw (at-book t i l n) at (h .owned i (in-book i l n)))
+      (rw (at-book t i l n) at (h .sound i (in-book i l n))))))
+      (facts-id (m .ids)))
+      (facts-book h)

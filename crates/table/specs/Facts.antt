@@ -1,0 +1,24 @@
+-- What a market promises to whoever works on it, as facts: the same clauses as in Market, which the laws derive from the test
+-- and give back to it. What holds of its orders and of its book is what matching works with. Assumes nothing.
+use mathlib.Core.Path.{_≡_}
+use mathlib.Core.Bool.{true, false}
+use mathlib.Core.List.{List}
+use Prim.Native.Nat.{ℕ, _≤_, _<_}
+use lib.ListN.{length}
+use Rattle.octets.specs.Octets.{sameBytes}
+use Rattle.matching.specs.Held.{Held}
+use Rattle.table.specs.Places.{tableBytes}
+use Rattle.table.specs.Heading.{nextOf, workOf, isListed}
+use Rattle.table.specs.Orders.{clOrdIdAt, filled, bookOf}
+use Rattle.table.specs.Market.{hasSettings, hasWork, hasSpare, restZero, isRecord}
+
+pub record Market (t : List ℕ) : Type 0 where
+  pub long : length t ≡ tableBytes
+  pub settings : hasSettings t ≡ true
+  pub next-low : 1 ≤ nextOf t
+  pub work : hasWork t ≡ true
+  pub spare : hasSpare t ≡ true
+  pub rest : restZero t ≡ true
+  pub records : (i : ℕ) → 1 ≤ i → i ≤ filled t → isRecord t i ≡ true
+  pub ids : (j k : ℕ) → 1 ≤ j → j < k → k ≤ filled t → sameBytes (clOrdIdAt t j) (clOrdIdAt t k) ≡ false
+  pub held : Held (isListed t) (nextOf t) (bookOf t) (workOf t)

@@ -1,0 +1,92 @@
+-- The heading of a table by name: the settings, the next report number, the order in work and the 52 of its message
+-- (document 01, "The table and its calls"). Reading any table gives something; writing changes the named bytes alone. Assumes
+-- nothing: whether what is read makes sense is said in Market.
+use mathlib.Core.Bool.{Bool, cond}
+use mathlib.Core.List.{List, [], _∷_, _++_}
+use Prim.Native.Nat.{ℕ, _+_, _*_}
+use lib.Dec.{eqb, ltb}
+use lib.ListN.{getD}
+use Rattle.octets.specs.Octets.{leAt, bytesOf, put, textAt, textBytes, putText}
+use Rattle.octets.specs.Tests.{firstFrom}
+use Rattle.table.specs.Places.{venueByte, portByte, idRoom, codeByte, codeRoom, nextByte, workByte, stampByte, stampRoom, mpidsByte, modesByte, mostMpids}
+
+-- ---- reading
+
+-- the venue id, the port id and the bond code
+abbrev pub venueOf : List ℕ → List ℕ
+venueOf t = textAt t venueByte
+
+abbrev pub portOf : List ℕ → List ℕ
+portOf t = textAt t portByte
+
+abbrev pub codeOf : List ℕ → List ℕ
+codeOf t = textAt t codeByte
+
+-- the next report number
+abbrev pub nextOf : List ℕ → ℕ
+nextOf t = leAt 4 t nextByte
+
+-- the order in work, 0 for none, and the 52 of its message
+abbrev pub workOf : List ℕ → ℕ
+workOf t = getD t workByte 0
+
+abbrev pub stampOf : List ℕ → List ℕ
+stampOf t = textAt t stampByte
+
+-- entry k of the list of MPIDs, from 0: the MPID and its mode
+abbrev pub mpidAt : List ℕ → ℕ → ℕ
+mpidAt t k = leAt 4 t (mpidsByte + 4 * k)
+
+abbrev pub modeAt : List ℕ → ℕ → ℕ
+modeAt t k = getD t (modesByte + k) 0
+
+-- the number of entries: those before the first MPID 0
+unfoldable pub entries : List ℕ → ℕ
+entries t = firstFrom (λ k. eqb (mpidAt t k) 0) 0 mostMpids
+
+-- the entry that has MPID m; the number of entries if none has
+unfoldable pub entryOf : List ℕ → ℕ → ℕ
+entryOf t m = firstFrom (λ k. eqb (mpidAt t k) m) 0 (entries t)
+
+-- MPID m is listed
+unfoldable pub isListed : List ℕ → ℕ → Bool
+isListed t m = ltb (entryOf t m) (entries t)
+
+-- the mode of MPID m: 1 Cancel Newest, 2 Cancel Oldest, 3 Decrement; 0 if it is not listed
+unfoldable pub modeOf : List ℕ → ℕ → ℕ
+modeOf t m = cond (isListed t m) (modeAt t (entryOf t m)) 0
+
+-- ---- writing
+
+-- the settings
+abbrev pub putVenue : List ℕ → List ℕ → List ℕ
+putVenue t xs = putText idRoom t venueByte xs
+
+abbrev pub putPort : List ℕ → List ℕ → List ℕ
+putPort t xs = putText idRoom t portByte xs
+
+abbrev pub putCode : List ℕ → List ℕ → List ℕ
+putCode t xs = putText codeRoom t codeByte xs
+
+-- the bytes of a list of MPIDs
+unfoldable pub mpidBytes : List ℕ → List ℕ
+mpidBytes [] = []
+mpidBytes (m ∷ ms) = bytesOf 4 m ++ mpidBytes ms
+
+abbrev pub putMpids : List ℕ → List ℕ → List ℕ
+putMpids t ms = put t mpidsByte (mpidBytes ms)
+
+abbrev pub putModes : List ℕ → List ℕ → List ℕ
+putModes t ds = put t modesByte ds
+
+-- the next report number
+abbrev pub putNext : List ℕ → ℕ → List ℕ
+putNext t n = put t nextByte (bytesOf 4 n)
+
+-- order w in work with the 52 of its message
+abbrev pub putWork : List ℕ → ℕ → List ℕ → List ℕ
+putWork t w stamp = put t workByte (w ∷ textBytes stampRoom stamp)
+
+-- nothing in work
+abbrev pub endWork : List ℕ → List ℕ
+endWork t = putWork t 0 []

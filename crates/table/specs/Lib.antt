@@ -1,0 +1,8 @@
+-- What the contracts of `table` cite. A reader believes, in this order: Places (which byte is what), Heading and Orders (reading
+-- and writing by name), Market (when a table is a market), Facts (what a market promises), Opened (what opening writes).
+pub mod Places
+pub mod Heading
+pub mod Orders
+pub mod Market
+pub mod Facts
+pub mod Opened

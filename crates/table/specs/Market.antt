@@ -1,0 +1,177 @@
+-- When a table is a market (document 01, "The table and its calls"): one definition for each clause, in the paper's order.
+-- The places that the paper leaves to the team are decided here: bytes that nothing uses are zero, and so is the room
+-- behind a text; the order in work is a filled record; while one is in work its 52 is a time, and otherwise zeros; OrderQty
+-- and place are at least 1. Assumes nothing: any list of bytes is a market or is not.
+use mathlib.Core.Bool.{Bool, true, false, not, cond, _&&_, _||_}
+use mathlib.Core.List.{List, [], _∷_}
+use Prim.Native.Nat.{ℕ, zero, suc, _+_, _*_, _-_}
+use lib.Dec.{eqb, leb, ltb}
+use lib.ListN.{length, getD, drop}
+use Rattle.octets.specs.Octets.{partAt, textAt, sameBytes, allZero}
+use Rattle.octets.specs.Tests.{allUpTo}
+use Rattle.decimal.specs.Reading.{isDigit, isTime}
+use Rattle.matching.specs.declared.Order.{Order}
+use Rattle.matching.specs.Matching.{Book, at, openOf, isOpen, isBuy, crosses, opposedTo}
+use Rattle.table.specs.Places.{tableBytes, venueByte, portByte, idRoom, codeByte, codeRoom, stampByte, stampRoom, spareByte, mpidsByte, modesByte, mostMpids, headingEnd, headingSpare, recordAt, clOrdIdRoom, accountByte, accountRoom, recordEnd, recordSpare}
+use Rattle.table.specs.Heading.{nextOf, workOf, stampOf, mpidAt, modeAt, entries, isListed}
+use Rattle.table.specs.Orders.{clOrdIdAt, accountAt, capacityAt, classificationAt, orderAt, filled, bookOf}
+
+-- ---- texts
+
+-- every byte passes the test
+unfoldable pub every : (ℕ → Bool) → List ℕ → Bool
+every f [] = true
+every f (x ∷ xs) = f x && every f xs
+
+-- a character of a venue or port id, 21 to 7E hex, and one of a ClOrdID or an account, 20 to 7E hex
+abbrev pub isGraphic : ℕ → Bool
+isGraphic x = leb 33 x && leb x 126
+
+abbrev pub isPrintable : ℕ → Bool
+isPrintable x = leb 32 x && leb x 126
+
+-- zeros stand behind the text at place p, up to its room for n characters
+unfoldable pub isPadded : ℕ → List ℕ → ℕ → Bool
+isPadded n t p = allZero (partAt t (p + 1 + getD t p 0) (n - getD t p 0))
+
+-- the text at place p has low to n characters, of which each passes the test, and zeros behind it
+unfoldable pub isText : (ℕ → Bool) → ℕ → ℕ → List ℕ → ℕ → Bool
+isText f low n t p = leb low (getD t p 0) && leb (getD t p 0) n && every f (textAt t p) && isPadded n t p
+
+-- ---- the heading
+
+-- the length is right
+unfoldable pub hasLength : List ℕ → Bool
+hasLength t = eqb (length t) tableBytes
+
+-- venue and port have 1 to 8 characters, the code has 1 to 9 digits
+unfoldable pub hasNames : List ℕ → Bool
+hasNames t = isText isGraphic 1 idRoom t venueByte && isText isGraphic 1 idRoom t portByte && isText isDigit 1 codeRoom t codeByte
+
+-- a listed MPID is 1 to 999,999 and its mode 1, 2 or 3; it is not listed before
+unfoldable pub isEntry : List ℕ → ℕ → Bool
+isEntry t k =
+    leb (mpidAt t k) 999999 && leb 1 (modeAt t k) && leb (modeAt t k) 3
+    && allUpTo (λ j. not (eqb (mpidAt t j) (mpidAt t k))) k
+
+-- 1 to 8 MPIDs are listed, and zeros stand behind the last one and behind its mode
+unfoldable pub hasList : List ℕ → Bool
+hasList t =
+    leb 1 (entries t) && allUpTo (isEntry t) (entries t)
+    && allZero (partAt t (mpidsByte + 4 * entries t) (4 * (mostMpids - entries t)))
+    && allZero (partAt t (modesByte + entries t) (mostMpids - entries t))
+
+-- the settings keep the ranges of opening
+unfoldable pub hasSettings : List ℕ → Bool
+hasSettings t = hasNames t && hasList t
+
+-- the next number is 1 to 1,000,000,000
+unfoldable pub hasNext : List ℕ → Bool
+hasNext t = leb 1 (nextOf t) && leb (nextOf t) 1000000000
+
+-- nothing is in work and its 52 is zeros, or a filled record is and its 52 is a time
+unfoldable pub hasWork : List ℕ → Bool
+hasWork t =
+    leb (workOf t) (filled t)
+    && cond (eqb (workOf t) 0) (allZero (partAt t stampByte (1 + stampRoom))) (isTime (stampOf t) && isPadded stampRoom t stampByte)
+
+-- the bytes of the heading that nothing uses are zero
+unfoldable pub hasSpare : List ℕ → Bool
+hasSpare t = allZero (partAt t spareByte 1) && allZero (partAt t headingEnd headingSpare)
+
+-- ---- the records
+
+-- records are filled from 1 without gaps, and all behind the last filled one is zero
+unfoldable pub restZero : List ℕ → Bool
+restZero t = allZero (drop (recordAt (filled t + 1)) t)
+
+-- each field is in range: the texts, capacity A or P, classification 1, 3, 4, 5 or 6, and zeros in the unused bytes
+unfoldable pub isRecord : List ℕ → ℕ → Bool
+isRecord t i =
+    isText isPrintable 1 clOrdIdRoom t (recordAt i)
+    && isText isPrintable 0 accountRoom t (recordAt i + accountByte)
+    && (eqb (capacityAt t i) 65 || eqb (capacityAt t i) 80)
+    && (eqb (classificationAt t i) 1 || (leb 3 (classificationAt t i) && leb (classificationAt t i) 6))
+    && allZero (partAt t (recordAt i + recordEnd) recordSpare)
+
+-- side 1 or 2, time in force 0 or 3, level 1 to 1,999,999,999 (a yield of at most 999,999.999 in size), OrderQty 1 to
+-- 999,999,999, a place
+unfoldable pub isRanged : Order → Bool
+isRanged o =
+    (eqb (o .side) 1 || eqb (o .side) 2) && (eqb (o .tif) 0 || eqb (o .tif) 3)
+    && leb 1 (o .level) && leb (o .level) 1999999999
+    && leb 1 (o .qty) && leb (o .qty) 999999999 && leb 1 (o .place)
+
+-- the MPID is 0, for none, or listed
+unfoldable pub isKnown : List ℕ → ℕ → Bool
+isKnown t m = eqb m 0 || isListed t m
+
+-- executed, decremented and canceled are together at most OrderQty
+unfoldable pub isWithin : Order → Bool
+isWithin o = leb (o .executed + o .decremented + o .canceled) (o .qty)
+
+-- something canceled means that nothing is open
+unfoldable pub isShut : Order → Bool
+isShut o = eqb (o .canceled) 0 || eqb (openOf o) 0
+
+-- the sum of quantity times yield is at most executed × 999,999,999 in size; with levels for yields it is between executed
+-- × 1 and executed × 1,999,999,999
+unfoldable pub isPriced : Order → Bool
+isPriced o = leb (o .executed) (o .sum) && leb (o .sum) (o .executed * 1999999999)
+
+-- all of this holds of record i
+unfoldable pub isOrder : List ℕ → ℕ → Bool
+isOrder t i =
+    isRecord t i && isRanged (orderAt t i) && isKnown t (orderAt t i .mpid)
+    && isWithin (orderAt t i) && isShut (orderAt t i) && isPriced (orderAt t i)
+
+-- every filled record is an order
+unfoldable pub hasOrders : List ℕ → Bool
+hasOrders t = allUpTo (λ k. isOrder t (k + 1)) (filled t)
+
+-- ClOrdIDs are distinct: that of record j + 1 is that of no record before it
+unfoldable pub isFreshId : List ℕ → ℕ → Bool
+isFreshId t j = allUpTo (λ i. not (sameBytes (clOrdIdAt t (i + 1)) (clOrdIdAt t (j + 1)))) j
+
+unfoldable pub hasIds : List ℕ → Bool
+hasIds t = allUpTo (isFreshId t) (filled t)
+
+-- ---- the book, with order w in work
+
+-- places are distinct and below the next number
+unfoldable pub isFreshPlace : Book → ℕ → Bool
+isFreshPlace b j = allUpTo (λ i. not (eqb (at b (suc i) .place) (at b (suc j) .place))) j
+
+unfoldable pub hasPlaces : Book → ℕ → Bool
+hasPlaces b next = allUpTo (λ j. ltb (at b (suc j) .place) next && isFreshPlace b j) (length b)
+
+-- apart from the order in work, no IOC is open
+unfoldable pub isDone : Order → Bool
+isDone o = not (eqb (o .tif) 3 && isOpen o)
+
+unfoldable pub noIoc : Book → ℕ → Bool
+noIoc b w = allUpTo (λ k. eqb (suc k) w || isDone (at b (suc k))) (length b)
+
+-- o and r are not an open buy and an open sell whose yields meet
+unfoldable pub isClear : Order → Order → Bool
+isClear o r = not (isOpen o && isBuy o && (isOpen r && not (isBuy r)) && crosses (o .level) (r .level))
+
+-- apart from the order in work, every open buy yield is above every open sell yield
+unfoldable pub noCross : Book → ℕ → Bool
+noCross b w =
+    allUpTo (λ i. allUpTo (λ j. eqb (suc i) w || eqb (suc j) w || isClear (at b (suc i)) (at b (suc j))) (length b)) (length b)
+
+-- while the order in work has something open, the next number and two for each open opposite order and one more fit
+unfoldable pub hasNumbers : Book → ℕ → ℕ → Bool
+hasNumbers b w next = not (isOpen (at b w)) || leb (next + 2 * opposedTo b w + 1) 1000000000
+
+-- the clauses that matching must keep
+unfoldable pub isBook : Book → ℕ → ℕ → Bool
+isBook b w next = hasPlaces b next && noIoc b w && noCross b w && hasNumbers b w next
+
+-- ---- a market
+
+unfoldable pub isMarket : List ℕ → Bool
+isMarket t =
+    hasLength t && hasSettings t && hasNext t && hasWork t && hasSpare t
+    && restZero t && hasOrders t && hasIds t && isBook (bookOf t) (workOf t) (nextOf t)

@@ -1,0 +1,111 @@
+-- The orders of a table by name: reading a record, the book that matching works on, and the writes that change a record
+-- (document 01, "The table and its calls"). Records count from 1. Writing changes the named bytes alone. Assumes nothing:
+-- whether what is read makes sense is said in Market.
+use mathlib.Core.Bool.{Bool}
+use mathlib.Core.List.{List, [], _∷_, _++_}
+use Prim.Native.Nat.{ℕ, zero, suc, _+_, _*_}
+use lib.Dec.{eqb}
+use lib.ListN.{getD}
+use Rattle.octets.specs.Octets.{leAt, bytesOf, put, textAt, textBytes, putText, sameBytes}
+use Rattle.octets.specs.Tests.{firstFrom}
+use Rattle.matching.specs.declared.Order.{Order}
+use Rattle.matching.specs.declared.Event.{Event}
+use Rattle.matching.specs.Matching.{Book, who, change}
+use Rattle.table.specs.Places.{mostOrders, recordAt, clOrdIdRoom, accountByte, accountRoom, sideByte, tifByte, capacityByte, classByte, levelByte, qtyByte, placeByte, mpidByte, sumByte, executedByte, decrementedByte, canceledByte}
+
+-- ---- reading
+
+-- the ClOrdID and the account (empty for none) of record i
+abbrev pub clOrdIdAt : List ℕ → ℕ → List ℕ
+clOrdIdAt t i = textAt t (recordAt i)
+
+abbrev pub accountAt : List ℕ → ℕ → List ℕ
+accountAt t i = textAt t (recordAt i + accountByte)
+
+-- the capacity, a character, and the classification, a number: only reports read them
+abbrev pub capacityAt : List ℕ → ℕ → ℕ
+capacityAt t i = getD t (recordAt i + capacityByte) 0
+
+abbrev pub classificationAt : List ℕ → ℕ → ℕ
+classificationAt t i = getD t (recordAt i + classByte) 0
+
+-- record i as matching takes it: side 1 buys and 2 sells, time in force 0 is Day and 3 IOC, a yield is held as its level
+unfoldable pub orderAt : List ℕ → ℕ → Order
+orderAt t i =
+    record {
+      side = getD t (recordAt i + sideByte) 0;
+      tif = getD t (recordAt i + tifByte) 0;
+      level = leAt 4 t (recordAt i + levelByte);
+      qty = leAt 4 t (recordAt i + qtyByte);
+      executed = leAt 4 t (recordAt i + executedByte);
+      decremented = leAt 4 t (recordAt i + decrementedByte);
+      canceled = leAt 4 t (recordAt i + canceledByte);
+      sum = leAt 8 t (recordAt i + sumByte);
+      place = leAt 4 t (recordAt i + placeByte);
+      mpid = leAt 4 t (recordAt i + mpidByte);
+    }
+
+-- record i is not filled: its first byte, the length of the ClOrdID, is 0
+abbrev pub isFree : List ℕ → ℕ → Bool
+isFree t i = eqb (getD t (recordAt i) 0) 0
+
+-- the number of filled records: those before the first one that is not
+unfoldable pub filled : List ℕ → ℕ
+filled t = firstFrom (λ k. isFree t (k + 1)) 0 mostOrders
+
+-- the orders of n records from record i on
+unfoldable pub ordersFrom : List ℕ → ℕ → ℕ → Book
+ordersFrom t i zero = []
+ordersFrom t i (suc n) = orderAt t i ∷ ordersFrom t (i + 1) n
+
+-- the book: the orders of the filled records, record 1 first
+unfoldable pub bookOf : List ℕ → Book
+bookOf t = ordersFrom t 1 (filled t)
+
+-- among n records the first that has this ClOrdID, less 1; n if none has
+unfoldable pub idIndex : List ℕ → ℕ → List ℕ → ℕ
+idIndex t n xs = firstFrom (λ k. sameBytes (clOrdIdAt t (k + 1)) xs) 0 n
+
+-- ---- writing
+
+-- the ClOrdID of record i
+abbrev pub putId : List ℕ → ℕ → List ℕ → List ℕ
+putId t i xs = putText clOrdIdRoom t (recordAt i) xs
+
+-- the terms of record i: level, OrderQty, place
+unfoldable pub termBytes : Order → List ℕ
+termBytes o = bytesOf 4 (o .level) ++ (bytesOf 4 (o .qty) ++ bytesOf 4 (o .place))
+
+abbrev pub putTerms : List ℕ → ℕ → Order → List ℕ
+putTerms t i o = put t (recordAt i + levelByte) (termBytes o)
+
+-- the amounts of record i: sum, executed, decremented, canceled
+unfoldable pub amountBytes : Order → List ℕ
+amountBytes o = bytesOf 8 (o .sum) ++ (bytesOf 4 (o .executed) ++ (bytesOf 4 (o .decremented) ++ bytesOf 4 (o .canceled)))
+
+abbrev pub putAmounts : List ℕ → ℕ → Order → List ℕ
+putAmounts t i o = put t (recordAt i + sumByte) (amountBytes o)
+
+-- all of a record that is used
+unfoldable pub recordOf : List ℕ → List ℕ → ℕ → ℕ → Order → List ℕ
+recordOf clOrdId account capacity class o =
+    textBytes clOrdIdRoom clOrdId ++ (textBytes accountRoom account ++ ((o .side ∷ o .tif ∷ capacity ∷ class ∷ [])
+    ++ (termBytes o ++ (bytesOf 4 (o .mpid) ++ amountBytes o))))
+
+-- ---- the table after an event
+
+-- after a trade, a cancel, a decrement or an expiry: the amounts of the event's order
+unfoldable pub applied : List ℕ → Event → List ℕ
+applied t e = putAmounts t (who e) (change e (orderAt t (who e)))
+
+-- after event e withdraws its order as requested: the amounts, and a new ClOrdID
+unfoldable pub withdrawn : List ℕ → List ℕ → Event → List ℕ
+withdrawn t clOrdId e = putAmounts (putId t (who e) clOrdId) (who e) (change e (orderAt t (who e)))
+
+-- after event e replaces its order as requested: the terms, and a new ClOrdID
+unfoldable pub replaced : List ℕ → List ℕ → Event → List ℕ
+replaced t clOrdId e = putTerms (putId t (who e) clOrdId) (who e) (change e (orderAt t (who e)))
+
+-- after a new order, o, is accepted as record i
+unfoldable pub accepted : List ℕ → ℕ → List ℕ → List ℕ → ℕ → ℕ → Order → List ℕ
+accepted t i clOrdId account capacity class o = put t (recordAt i) (recordOf clOrdId account capacity class o)

@@ -1,0 +1,1 @@
+// The table of a market: places, heading, orders, opening.
