@@ -1,1 +1,3 @@
-// The table of a market: places, heading, orders, opening.
+// The table of a market: its heading, its orders, lookups in it, and opening.
+pub mod heading;
+pub mod record;
