@@ -10,9 +10,12 @@ use Rattle.matching.specs.declared.Depth.{Depth}
 use Rattle.matching.specs.declared.Depth.the-variants.{Level, NoLevel}
 use Rattle.matching.specs.Matching.{Book, at, openOf, isOpen, isBuy, buys, ahead, sumOver, countOf}
 
--- an open order of side s, 1 the buys and 2 the sells
+-- an order of side s, 1 the buys and any other the sells; an open one
+abbrev pub onSide : ℕ → Order → Bool
+onSide s o = cond (buys s) (isBuy o) (not (isBuy o))
+
 unfoldable pub stands : ℕ → Order → Bool
-stands s o = isOpen o && cond (buys s) (isBuy o) (not (isBuy o))
+stands s o = isOpen o && onSide s o
 
 -- level l comes behind level x, seen from the best; behind level 0 comes any
 unfoldable pub behind : ℕ → ℕ → ℕ → Bool

@@ -222,7 +222,7 @@ play b (e ∷ es) = play (after b e) es
 unfoldable pub happens : (ℕ → ℕ) → Book → ℕ → List Event
 happens modes b w = causes w (partner b w) (outcome modes b w)
 
-unfoldable pub bookAfter : (ℕ → ℕ) → Book → ℕ → Book
+abbrev pub bookAfter : (ℕ → ℕ) → Book → ℕ → Book
 bookAfter modes b w = play b (happens modes b w)
 
 -- who is in work after it: w as long as it was matched with somebody; a step that matches it with none ends the work
@@ -258,11 +258,14 @@ opposed o r = isOpen r && opposite o r
 unfoldable pub opposedTo : Book → ℕ → ℕ
 opposedTo b w = countOf (opposed (at b w)) b (length b)
 
--- the number of reports of an outcome
-unfoldable pub reports : Outcome → ℕ
+-- the number of reports of a prevention, and of any outcome
+abbrev pub preventedReports : Prevention → ℕ
+preventedReports (CancelNewest q) = 1
+preventedReports (CancelOldest q) = 1
+preventedReports (Decrement newest oldest) = 2
+
+abbrev pub reports : Outcome → ℕ
 reports (Trade q l) = 2
-reports (Prevented (CancelNewest q)) = 1
-reports (Prevented (CancelOldest q)) = 1
-reports (Prevented (Decrement n o)) = 2
+reports (Prevented p) = preventedReports p
 reports (Expires q) = 1
 reports Rests = 0

@@ -1,4 +1,10 @@
-// The values of the matching: an order, what prevention does, what a step comes to, what happens to an order, a level.
+// The matching of orders by value: which meet, which is better, what a meeting comes to, an order after an event, and what
+// an order adds to a level. The book itself is the table's.
+ghost use mathlib.Core.Path.{_≡_};
+ghost use Prim.Native.Nat.{_+_, _*_, _≤_, min};
+ghost use Rattle.matching.specs.Matching.{openOf, isOpen, isBuy, opposite, sameOwner, opposed, meets, better, faces, prevention, meeting, ending, change, preventedReports, reports, buys, ahead};
+ghost use Rattle.matching.specs.Depth.{onSide, stands, behind, nearer, onLevel, share};
+ghost use Rattle.matching.specs.Held.{Covered, Sound, May};
 
 // One order: the ten numbers that matching needs. Side 1 buys and 2 sells; time in force 0 is Day and 3 IOC; the level is
 // 1,000,000,000 and the yield in thousandths; the sum is that of executed quantity times level; MPID 0 is none.
@@ -71,4 +77,265 @@ pub enum Event {
 pub enum Depth {
     Level { level: u64, total: u64, orders: u64 },
     NoLevel,
+}
+
+impl Order {
+    // What is open.
+    pub fn open_of(self) -> u64
+        requires { ⌜ Covered self ⌝ }
+        ensures { λ r. ⌜ r ≡ openOf self ⌝ }
+    {
+        self.qty - (self.executed + self.decremented + self.canceled)
+    }
+
+    // Something is open.
+    pub fn is_open(self) -> bool
+        requires { ⌜ Covered self ⌝ }
+        ensures { λ r. ⌜ r ≡ isOpen self ⌝ }
+    {
+        0 < self.open_of()
+    }
+
+    pub fn is_buy(self) -> bool
+        ensures { λ r. ⌜ r ≡ isBuy self ⌝ }
+    {
+        self.side == 1
+    }
+
+    // One buys and the other sells.
+    pub fn opposite(self, other: Order) -> bool
+        ensures { λ r. ⌜ r ≡ opposite self other ⌝ }
+    {
+        let b = other.is_buy();
+        if self.is_buy() { !b } else { b }
+    }
+
+    // The levels of two opposite orders meet.
+    pub fn meets(self, other: Order) -> bool
+        ensures { λ r. ⌜ r ≡ meets self other ⌝ }
+    {
+        if self.side == 1 {
+            self.level <= other.level
+        } else {
+            other.level <= self.level
+        }
+    }
+
+    // This one is better than the other, of the same side: by level, then by place.
+    pub fn better(self, other: Order) -> bool
+        ensures { λ r. ⌜ r ≡ better self other ⌝ }
+    {
+        if self.level == other.level {
+            self.place < other.place
+        } else if self.side == 1 {
+            self.level < other.level
+        } else {
+            other.level < self.level
+        }
+    }
+
+    // The other is open and on the other side.
+    pub fn opposed(self, other: Order) -> bool
+        requires { ⌜ Covered other ⌝ }
+        ensures { λ r. ⌜ r ≡ opposed self other ⌝ }
+    {
+        other.is_open() & self.opposite(other)
+    }
+
+    // The other is open, on the other side, and met.
+    pub fn faces(self, other: Order) -> bool
+        requires { ⌜ Covered other ⌝ }
+        ensures { λ r. ⌜ r ≡ faces self other ⌝ }
+    {
+        other.is_open() & self.opposite(other) & self.meets(other)
+    }
+
+    // Both carry an MPID and it is the same.
+    pub fn same_owner(self, other: Order) -> bool
+        ensures { λ r. ⌜ r ≡ sameOwner self other ⌝ }
+    {
+        (0 < self.mpid) & (self.mpid == other.mpid)
+    }
+
+    // What becomes of an order in work that is matched with none.
+    pub fn ending(self) -> Outcome
+        requires { ⌜ Covered self ⌝ }
+        ensures { λ r. ⌜ r ≡ ending self ⌝ }
+    {
+        let quantity = self.open_of();
+        if (self.tif == 3) & (0 < quantity) {
+            return Outcome::Expires { quantity };
+        }
+        Outcome::Rests
+    }
+
+    // The order after an event of it.
+    pub fn change(self, e: Event) -> Order
+        requires { ⌜ Sound self × May e self ⌝ }
+        ensures { λ r. ⌜ r ≡ change e self ⌝ }
+    {
+        let mut o = self;
+        match e {
+            Event::Accepted { order: _, entered } => {
+                o = entered;
+            }
+            Event::Replaced {
+                order: _,
+                level,
+                quantity,
+                place,
+            } => {
+                o.level = level;
+                o.qty = quantity;
+                o.place = place;
+            }
+            Event::Withdrawn { order: _, quantity } => {
+                o.canceled = o.canceled + quantity;
+            }
+            Event::Canceled { order: _, quantity } => {
+                o.canceled = o.canceled + quantity;
+            }
+            Event::Decremented { order: _, quantity } => {
+                o.decremented = o.decremented + quantity;
+            }
+            Event::Traded {
+                order: _,
+                other: _,
+                quantity,
+                level,
+            } => {
+                o.executed = o.executed + quantity;
+                o.sum = o.sum + quantity * level;
+            }
+            Event::Expired { order: _, quantity } => {
+                o.canceled = o.canceled + quantity;
+            }
+        }
+        o
+    }
+
+    // An order of a side, 1 the buys and any other the sells.
+    pub fn on_side(self, side: u64) -> bool
+        ensures { λ r. ⌜ r ≡ onSide side self ⌝ }
+    {
+        let b = self.is_buy();
+        if side == 1 { b } else { !b }
+    }
+
+    // An open order of a side.
+    pub fn stands(self, side: u64) -> bool
+        requires { ⌜ Covered self ⌝ }
+        ensures { λ r. ⌜ r ≡ stands side self ⌝ }
+    {
+        self.is_open() & self.on_side(side)
+    }
+
+    // Of level c, found so far (0 for none), and this order's, the nearer to the best behind level x.
+    pub fn nearer(self, side: u64, x: u64, c: u64) -> u64
+        requires { ⌜ Covered self ⌝ }
+        ensures { λ r. ⌜ r ≡ nearer side x c self ⌝ }
+    {
+        if self.stands(side)
+            & behind(side, x, self.level)
+            & ((c == 0) | ahead(side, self.level, c))
+        {
+            return self.level;
+        }
+        c
+    }
+
+    // An open order of a side at a level.
+    pub fn on_level(self, side: u64, level: u64) -> bool
+        requires { ⌜ Covered self ⌝ }
+        ensures { λ r. ⌜ r ≡ onLevel side level self ⌝ }
+    {
+        self.stands(side) & (self.level == level)
+    }
+
+    // A level's total so far and what this order adds to it: the totals of 255 orders stay far below 2^64.
+    pub fn add_share(self, side: u64, level: u64, had: u64) -> u64
+        requires { ⌜ Sound self × (had ≤ 254 * 999_999_999) ⌝ }
+        ensures { λ r. ⌜ r ≡ had + share side level self ⌝ }
+    {
+        if self.on_level(side, level) {
+            return had + self.open_of();
+        }
+        had
+    }
+}
+
+// What the mode does to the newest and the oldest.
+pub fn prevented(mode: u64, newest: u64, oldest: u64) -> Prevention
+    ensures { λ r. ⌜ r ≡ prevention mode newest oldest ⌝ }
+{
+    match mode {
+        1 => Prevention::CancelNewest { quantity: newest },
+        2 => Prevention::CancelOldest { quantity: oldest },
+        _ => Prevention::Decrement { newest, oldest },
+    }
+}
+
+// What becomes of an order in work that is matched with a resting one.
+pub fn matched(worker: Order, resting: Order, mode: u64) -> Outcome
+    requires { ⌜ Covered worker × Covered resting ⌝ }
+    ensures { λ r. ⌜ r ≡ meeting worker resting mode ⌝ }
+{
+    let w = worker.open_of();
+    let r = resting.open_of();
+    if worker.same_owner(resting) {
+        return Outcome::Prevented(prevented(mode, w, r));
+    }
+    Outcome::Trade {
+        quantity: smaller(w, r),
+        level: resting.level,
+    }
+}
+
+// How many reports a prevention has.
+pub fn prevented_reports(p: Prevention) -> u64
+    ensures { λ r. ⌜ r ≡ preventedReports p ⌝ }
+{
+    match p {
+        Prevention::CancelNewest { quantity: _ } => 1,
+        Prevention::CancelOldest { quantity: _ } => 1,
+        Prevention::Decrement {
+            newest: _,
+            oldest: _,
+        } => 2,
+    }
+}
+
+// How many reports an outcome has.
+pub fn reports(outcome: Outcome) -> u64
+    ensures { λ r. ⌜ r ≡ reports outcome ⌝ }
+{
+    match outcome {
+        Outcome::Trade {
+            quantity: _,
+            level: _,
+        } => 2,
+        Outcome::Prevented(p) => prevented_reports(p),
+        Outcome::Expires { quantity: _ } => 1,
+        Outcome::Rests => 0,
+    }
+}
+
+// Level x is better than level y on a side.
+pub fn ahead(side: u64, x: u64, y: u64) -> bool
+    ensures { λ r. ⌜ r ≡ ahead (buys side) x y ⌝ }
+{
+    if side == 1 { x < y } else { y < x }
+}
+
+// Level l comes behind level x, seen from the best of a side; behind level 0 comes any.
+pub fn behind(side: u64, x: u64, l: u64) -> bool
+    ensures { λ r. ⌜ r ≡ behind side x l ⌝ }
+{
+    (x == 0) | ahead(side, x, l)
+}
+
+pub fn smaller(a: u64, b: u64) -> u64
+    ensures { λ r. ⌜ r ≡ min a b ⌝ }
+{
+    if a < b { a } else { b }
 }
