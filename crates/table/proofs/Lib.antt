@@ -1,4 +1,5 @@
 -- The laws of `table`, for the proofs of this crate and of those above it. Nothing here need be believed.
 pub mod Books
 pub mod Facts
+pub mod Listed
 pub mod Computed

@@ -1,1 +1,2 @@
-// The table of a market: places, heading, orders, opening.
+// The table of a market: its list of MPIDs.
+pub mod entries;
