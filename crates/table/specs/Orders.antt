@@ -86,11 +86,15 @@ amountBytes o = bytesOf 8 (o .sum) ++ (bytesOf 4 (o .executed) ++ (bytesOf 4 (o 
 abbrev pub putAmounts : List ℕ → ℕ → Order → List ℕ
 putAmounts t i o = put t (recordAt i + sumByte) (amountBytes o)
 
+-- a record's bytes behind its texts: side, time in force, capacity, classification; the terms; the MPID; the amounts
+unfoldable pub fieldBytes : ℕ → ℕ → Order → List ℕ
+fieldBytes capacity class o =
+    (o .side ∷ o .tif ∷ capacity ∷ class ∷ []) ++ (termBytes o ++ (bytesOf 4 (o .mpid) ++ amountBytes o))
+
 -- all of a record that is used
 unfoldable pub recordOf : List ℕ → List ℕ → ℕ → ℕ → Order → List ℕ
 recordOf clOrdId account capacity class o =
-    textBytes clOrdIdRoom clOrdId ++ (textBytes accountRoom account ++ ((o .side ∷ o .tif ∷ capacity ∷ class ∷ [])
-    ++ (termBytes o ++ (bytesOf 4 (o .mpid) ++ amountBytes o))))
+    textBytes clOrdIdRoom clOrdId ++ (textBytes accountRoom account ++ fieldBytes capacity class o)
 
 -- ---- the table after an event
 
