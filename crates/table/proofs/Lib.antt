@@ -5,4 +5,5 @@ pub mod Stores
 pub mod Writes
 pub mod Books
 pub mod Facts
+pub mod Listed
 pub mod Computed
