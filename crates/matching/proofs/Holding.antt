@@ -76,7 +76,6 @@ module _ (listed : ℕ → Bool) (next : ℕ) (b : Book) (w v : ℕ) (es : List 
         places-below = λ k j. omega (arith, place-same k, h .places-below k (back k j));
         no-ioc = λ k n e. ioc k n (sym (ap (λ (t : Terms). t .tif) (play-terms k es b f)) ∙ e);
         uncrossed = x;
-        next-low = omega (arith, h .next-low);
         next-high = omega arith;
         numbers = most-numbers (next + length es) (play b es) v m;
       }

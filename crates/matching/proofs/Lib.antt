@@ -12,3 +12,5 @@ pub mod Holding
 pub mod Requests
 pub mod Best
 pub mod Levels
+pub mod Modes
+pub mod Cases

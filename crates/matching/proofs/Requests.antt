@@ -24,9 +24,9 @@ use Rattle.matching.proofs.Sounds.{quiet}
 use Rattle.matching.proofs.Holding.{moved-held}
 
 -- ---- a market just opened
-pub opened-held : (listed : ℕ → Bool) (next : ℕ) → 0 < next → next ≤ 1_000_000_000 → Held listed next [] 0
+pub opened-held : (listed : ℕ → Bool) (next : ℕ) → next ≤ 1_000_000_000 → Held listed next [] 0
 unfolding openOf
-opened-held listed next l h =
+opened-held listed next h =
     record {
       work = omega arith;
       sound = λ k j. absurd (omega (arith, j .low, j .high));
@@ -35,7 +35,6 @@ opened-held listed next l h =
       places-below = λ k j. absurd (omega (arith, j .low, j .high));
       no-ioc = λ k n e. at-nothing k;
       uncrossed = λ i j hi hj bi bj oi oj. absurd (omega (arith, at-nothing i));
-      next-low = l;
       next-high = h;
       numbers = λ o. absurd (omega arith);
     }
@@ -52,7 +51,6 @@ later-held listed next more b h l m =
       places-below = λ k j. omega (arith, h .places-below k j);
       no-ioc = h .no-ioc;
       uncrossed = h .uncrossed;
-      next-low = omega (arith, h .next-low);
       next-high = m;
       numbers = λ o. absurd (omega arith);
     }
@@ -118,7 +116,6 @@ module _ (listed : ℕ → Bool) (next : ℕ) (b c : Book) (n : ℕ) (o : Order)
         places-below = λ k j. each (λ p. p .place < next + 1) k (omega (arith, newest)) (λ d. omega (arith, h .places-below k (back k d j)));
         no-ioc = λ k d e. rw (there k d) (closed k (rw (there k d) at e));
         uncrossed = uncrossed;
-        next-low = omega arith;
         next-high = omega (arith, numbered);
         numbers = λ x. omega (arith, numbered, filled, opposed-few);
       }
@@ -182,7 +179,7 @@ module _ (listed : ℕ → Bool) (next : ℕ) (b : Book) (n l q p : ℕ) (h : He
         dead = λ z. omega (arith, uncanceled);
         sum-low = s .sum-low;
         sum-high = s .sum-high;
-        place-low = omega (arith, a .newest, h .next-low);
+        place-low = a .place-low;
       }
 
   length-same : length (after b (Replaced n l q p)) ≡ length b

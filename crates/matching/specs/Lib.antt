@@ -5,3 +5,4 @@ pub mod Depth
 pub mod Accounts
 pub mod Held
 pub mod Happens
+pub mod Rehearsed
