@@ -6,4 +6,5 @@ pub mod Writes
 pub mod Books
 pub mod Lookups
 pub mod Facts
+pub mod Listed
 pub mod Computed
