@@ -7,4 +7,5 @@ pub mod Books
 pub mod Lookups
 pub mod Facts
 pub mod Listed
+pub mod Frames
 pub mod Computed
