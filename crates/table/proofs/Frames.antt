@@ -17,11 +17,11 @@ use Rattle.matching.specs.declared.Order.{Order}
 use Rattle.matching.specs.Held.{Held}
 use Rattle.table.specs.Places.{tableBytes, recordAt}
 use Rattle.table.specs.Heading.{nextOf, workOf, isListed}
-use Rattle.table.specs.Orders.{clOrdIdAt, isFree, filled, bookOf}
+use Rattle.table.specs.Orders.{clOrdIdAt, orderAt, isFree, filled, bookOf}
 use Rattle.table.specs.Market.{isPrintable, isText, hasSettings, hasWork, hasSpare, restZero, isRecord}
 use Rattle.table.specs.Facts.{Market}
 use Rattle.table.proofs.Searches.{first-before, first-is, first-holds}
-use Rattle.table.proofs.Same.{Same, same-in, same-then, record-parts, rest-same, id-same, settings-same, spare-same, listed-same, filled-few}
+use Rattle.table.proofs.Same.{Same, same-in, same-then, put-below, put-above, order-same, record-parts, rest-same, id-same, settings-same, spare-same, listed-same, filled-few}
 
 pub record Framed (t u : List ℕ) : Type 0 where
   pub names : Same u t 0 28
@@ -127,3 +127,44 @@ framed-then t u v long f g =
       spares = λ i l h. same-then (g .spares i l (omega arith)) (f .spares i l h);
       behind = same-then (rw (e, z) at (g .behind)) (f .behind);
     }
+
+-- a put among the terms and amounts of a filled record
+pub framed-put : (t : List ℕ) (k a : ℕ) (vs : List ℕ) → 1 ≤ k → k ≤ filled t → 48 ≤ a → a + length vs ≤ 84 → Framed t (put t (recordAt k + a) vs)
+framed-put t k a vs low high l h =
+    let p : ℕ = 128 * k + a in
+    record {
+      names = put-below t p vs 0 28 (omega arith);
+      lists = put-below t p vs 55 128 (omega arith);
+      texts = λ i j m.
+        ⊎-elim (λ (x : k < i). put-above t p vs (128 * i) (128 * i + 44) (omega arith))
+        (λ (x : i ≤ k). put-below t p vs (128 * i) (128 * i + 44) (omega arith)) (below-or k i);
+      kinds = λ i j m.
+        ⊎-elim (λ (x : k < i). put-above t p vs (128 * i + 46) (128 * i + 48) (omega arith))
+        (λ (x : i ≤ k). put-below t p vs (128 * i + 46) (128 * i + 48) (omega arith)) (below-or k i);
+      spares = λ i j m.
+        ⊎-elim (λ (x : i < k). put-below t p vs (128 * i + 84) (128 * i + 128) (omega arith))
+        (λ (x : k ≤ i). put-above t p vs (128 * i + 84) (128 * i + 128) (omega arith)) (below-or i k);
+      behind = put-above t p vs (128 * (filled t + 1)) (length t) (omega arith);
+    }
+
+-- a put among the next number, the order in work and its 52
+pub framed-heading : (t : List ℕ) (a : ℕ) (vs : List ℕ) → 28 ≤ a → a + length vs ≤ 55 → Framed t (put t a vs)
+framed-heading t a vs l h =
+    record {
+      names = put-below t a vs 0 28 (omega arith);
+      lists = put-above t a vs 55 128 (omega arith);
+      texts = λ i j m. put-above t a vs (128 * i) (128 * i + 44) (omega arith);
+      kinds = λ i j m. put-above t a vs (128 * i + 46) (128 * i + 48) (omega arith);
+      spares = λ i j m. put-above t a vs (128 * i + 84) (128 * i + 128) (omega arith);
+      behind = put-above t a vs (128 * (filled t + 1)) (length t) (omega arith);
+    }
+
+-- the orders of the other records, and all orders where the heading was put
+pub order-elsewhere : (t : List ℕ) (k a : ℕ) (vs : List ℕ) (j : ℕ) → (j ≡ k → ⊥) → a + length vs ≤ 128 → orderAt (put t (recordAt k + a) vs) j ≡ orderAt t j
+order-elsewhere t k a vs j n h =
+    order-same j
+    (⊎-elim (λ (x : k < j). put-above t (128 * k + a) vs (128 * j + 44) (128 * j + 84) (omega arith))
+    (λ (x : j ≤ k). put-below t (128 * k + a) vs (128 * j + 44) (128 * j + 84) (omega arith)) (below-or k j))
+
+pub order-below : (t : List ℕ) (a : ℕ) (vs : List ℕ) (j : ℕ) → 1 ≤ j → a + length vs ≤ 128 → orderAt (put t a vs) j ≡ orderAt t j
+order-below t a vs j l h = order-same j (put-above t a vs (128 * j + 44) (128 * j + 84) (omega arith))

@@ -8,4 +8,5 @@ pub mod Lookups
 pub mod Facts
 pub mod Listed
 pub mod Frames
+pub mod Applied
 pub mod Computed
