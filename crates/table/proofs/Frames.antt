@@ -115,6 +115,11 @@ module _ (t u : List ℕ) (long : length t ≡ tableBytes) (f : Framed t u) wher
 
 -- ---- frames one after another, and those of the stores
 
+pub framed-self : (t : List ℕ) → Framed t t
+framed-self t =
+    let s : (p e : ℕ) → Same t t p e = λ p e. record { size = refl; byte = λ k l h. refl } in
+    record { names = s 0 28; lists = s 55 128; texts = λ i l h. s _ _; kinds = λ i l h. s _ _; spares = λ i l h. s _ _; behind = s _ _ }
+
 pub framed-then : (t u v : List ℕ) → length t ≡ tableBytes → Framed t u → Framed u v → Framed t v
 framed-then t u v long f g =
     let e = framed-filled t u long f in
