@@ -29,7 +29,7 @@ use Rattle.table.specs.Changes.{played, stepEvents, numbered, stepped}
 use Rattle.table.proofs.Same.{Same, same-in, put-below, put-above, next-same, work-same}
 use Rattle.table.proofs.Stores.{next-got, work-got}
 use Rattle.table.proofs.Books.{length-book}
-use Rattle.table.proofs.Frames.{Framed, framed-long, framed-filled, framed-market, framed-then, framed-heading}
+use Rattle.table.proofs.Frames.{Framed, framed-long, framed-filled, framed-listed, framed-self, framed-then, framed-heading, Formed, market-formed, formed-market, framed-formed}
 use Rattle.table.proofs.Applied.{AllMove, Played, all-played, fits-move, book-next, book-work}
 use Rattle.table.proofs.Working.{work-low, has-work-kept, has-work-put, has-work-end, time-short}
 
@@ -41,8 +41,8 @@ framed-next t n = framed-heading t 28 (bytesOf 4 n) (lit≤ tt) (omega (arith, l
 work-next : (t : List ℕ) (n : ℕ) → Same (putNext t n) t 32 55
 work-next t n = put-above t 28 (bytesOf 4 n) 32 55 (omega (arith, length-bytesOf 4 n))
 
--- a table with a market's frame, numbers and work in order and its book held, once more with another next number
-module _ (t u : List ℕ) (m : Market t) (f : Framed t u) (w : hasWork u ≡ true) (n : ℕ) (low : 1 ≤ n)
+-- a table with the frame of a formed one, its work in order and its book held, once its next number is set
+module _ (t u : List ℕ) (m : Formed t) (f : Framed t u) (w : hasWork u ≡ true) (n : ℕ) (low : 1 ≤ n)
     (h : Held (isListed t) n (bookOf u) (workOf u)) where
   long : length u ≡ tableBytes
   long = framed-long t u (m .long) f
@@ -55,16 +55,17 @@ module _ (t u : List ℕ) (m : Market t) (f : Framed t u) (w : hasWork u ≡ tru
       let x : workOf v ≡ workOf u = work-same (same-in 32 33 (work-next u n) (lit≤ tt) (lit≤ tt)) in
       let b : bookOf v ≡ bookOf u = book-next u n z in
       let g : filled v ≡ filled u = framed-filled u v z (framed-next u n) in
-      framed-market t v (m .long) (framed-then t u v (m .long) f (framed-next u n)) m
-      (has-work-kept u v z (work-next u n) (omega arith) w) (omega arith) (rw (e, x, b) h)
+      let k : Framed t v = framed-then t u v (m .long) f (framed-next u n) in
+      formed-market v (framed-formed t v (m .long) k m) (has-work-kept u v z (work-next u n) (omega arith) w) (omega arith)
+      (rw (e, x, b, framed-listed t v (m .long) k) h)
 
 -- ---- the work ends
 
 framed-work : (t : List ℕ) (w : ℕ) (stamp : List ℕ) → length stamp ≤ 21 → Framed t (putWork t w stamp)
 framed-work t w stamp h = framed-heading t 32 (w ∷ textBytes 21 stamp) (lit≤ tt) (omega (arith, length-textBytes 21 stamp h))
 
--- the same table with another next number, and with another order in work or none
-module _ (t u : List ℕ) (m : Market t) (f : Framed t u) (n : ℕ) (low : 1 ≤ n) (w : ℕ) (stamp : List ℕ) (short : length stamp ≤ 21)
+-- the same, and with another order in work or none
+module _ (t u : List ℕ) (m : Formed t) (f : Framed t u) (n : ℕ) (low : 1 ≤ n) (w : ℕ) (stamp : List ℕ) (short : length stamp ≤ 21)
     (h : Held (isListed t) n (bookOf u) w) where
   numbered-long : length (putNext u n) ≡ tableBytes
   numbered-long = framed-long t (putNext u n) (m .long) (framed-then t u (putNext u n) (m .long) f (framed-next u n))
@@ -79,8 +80,8 @@ module _ (t u : List ℕ) (m : Market t) (f : Framed t u) (n : ℕ) (low : 1 ≤
       let e : nextOf v ≡ n = next-same s ∙ next-got u n (omega (arith, h .next-high)) (omega arith) in
       let d : workOf v ≡ w = work-got x w stamp (omega arith) short in
       let b : bookOf v ≡ bookOf u = book-work x w stamp y short ∙ book-next u n z in
-      framed-market t v (m .long) (framed-then t x v (m .long) (framed-then t u x (m .long) f (framed-next u n)) (framed-work x w stamp short)) m
-      work (omega arith) (rw (e, d, b) h)
+      let k : Framed t v = framed-then t x v (m .long) (framed-then t u x (m .long) f (framed-next u n)) (framed-work x w stamp short) in
+      formed-market v (framed-formed t v (m .long) k m) work (omega arith) (rw (e, d, b, framed-listed t v (m .long) k) h)
 
 -- ---- one step
 
@@ -109,12 +110,12 @@ stepped-kept t m l =
     let n : ℕ = nextOf t + length es in
     let low : 1 ≤ n = omega (arith, m .next-low) in
     let h : Held (isListed t) n (bookOf u) (workAfter b w) = rw c (step-held (isListed t) (modeOf t) (nextOf t) b w i (m .held)) in
-    let z : length (putNext u n) ≡ tableBytes = numbered-long t u m (p .framed) n low (workAfter b w) [] (lit≤ tt) h in
+    let z : length (putNext u n) ≡ tableBytes = numbered-long t u (market-formed t m) (p .framed) n low (workAfter b w) [] (lit≤ tt) h in
     split (eqb (workAfter b w) 0)
     (λ x.
     let q : workAfter b w ≡ 0 = eqb-true (workAfter b w) 0 x in
-    rw (x, e) (reworked t u m (p .framed) n low 0 [] (lit≤ tt) (subst (λ (v : ℕ). Held (isListed t) n (bookOf u) v) q h) (has-work-end (putNext u n) z)))
+    rw (x, e) (reworked t u (market-formed t m) (p .framed) n low 0 [] (lit≤ tt) (subst (λ (v : ℕ). Held (isListed t) n (bookOf u) v) q h) (has-work-end (putNext u n) z)))
     (λ x.
     let q : workAfter b w ≡ w = work-stays b w (eqb-false (workAfter b w) 0 x) in
     let g : hasWork u ≡ true = has-work-kept t u (m .long) (same-in 32 55 (p .heading) (lit≤ tt) (lit≤ tt)) (omega (arith, framed-filled t u (m .long) (p .framed))) (m .work) in
-    rw (x, e) (renumbered t u m (p .framed) g n low (subst (λ (v : ℕ). Held (isListed t) n (bookOf u) v) (q ∙ sym d) h)))
+    rw (x, e) (renumbered t u (market-formed t m) (p .framed) g n low (subst (λ (v : ℕ). Held (isListed t) n (bookOf u) v) (q ∙ sym d) h)))
