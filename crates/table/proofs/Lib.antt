@@ -11,5 +11,6 @@ pub mod Frames
 pub mod Applied
 pub mod Texts
 pub mod Working
+pub mod Naming
 pub mod Kept
 pub mod Computed
