@@ -12,5 +12,6 @@ pub mod Applied
 pub mod Texts
 pub mod Working
 pub mod Naming
+pub mod Entering
 pub mod Kept
 pub mod Computed
