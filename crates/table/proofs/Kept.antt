@@ -14,23 +14,25 @@ use Rattle.octets.proofs.Places.{length-put, length-bytesOf}
 use Rattle.octets.proofs.Parts.{length-textBytes}
 use Rattle.matching.specs.declared.Order.{Order}
 use Rattle.matching.specs.declared.Event.{Event}
+use Rattle.matching.specs.declared.Event.the-variants.{Accepted, Replaced, Withdrawn}
 use Rattle.matching.specs.Matching.{Book, at, openOf, who, change, after, play, partner, happens, bookAfter, workAfter}
-use Rattle.matching.specs.Held.{Sound, In, Held, Ready, Readies}
+use Rattle.matching.specs.Held.{Sound, In, Held, Ready, Readies, Enters, Renews}
 use Rattle.matching.specs.Happens.{moves, Fits}
 use Rattle.matching.proofs.Steps.{happens-fits}
 use Rattle.matching.proofs.Holding.{step-ready, step-held}
-use Rattle.matching.proofs.Requests.{later-held}
+use Rattle.matching.proofs.Requests.{later-held, accepted-held, replaced-held, withdrawn-fits, withdrawn-held}
 use Rattle.table.specs.Places.{tableBytes}
 use Rattle.table.specs.Heading.{nextOf, workOf, modeOf, isListed, putNext, putWork, endWork}
-use Rattle.table.specs.Orders.{orderAt, filled, bookOf}
+use Rattle.table.specs.Orders.{orderAt, filled, bookOf, putId, putTerms, putAmounts, applied, withdrawn, replaced, accepted}
 use Rattle.table.specs.Market.{hasWork}
-use Rattle.table.specs.Facts.{Market}
-use Rattle.table.specs.Changes.{played, stepEvents, numbered, stepped}
-use Rattle.table.proofs.Same.{Same, same-in, put-below, put-above, next-same, work-same}
+use Rattle.table.specs.Facts.{Market, Named}
+use Rattle.table.specs.Changes.{played, stepEvents, numbered, stepped, entered, renewed, taken}
+use Rattle.table.proofs.Same.{Same, same-in, same-then, put-below, put-above, next-same, work-same}
 use Rattle.table.proofs.Stores.{next-got, work-got}
-use Rattle.table.proofs.Books.{length-book}
+use Rattle.table.proofs.Books.{length-book, at-book}
 use Rattle.table.proofs.Frames.{Framed, framed-long, framed-filled, framed-listed, framed-self, framed-then, framed-heading, Formed, market-formed, formed-market, framed-formed}
-use Rattle.table.proofs.Applied.{AllMove, Played, all-played, fits-move, book-next, book-work}
+use Rattle.table.proofs.Applied.{Played, all-played, fits-move, heading-applied, framed-applied, book-applied, framed-terms, book-terms, book-next, book-work}
+use Rattle.table.proofs.Naming.{named-formed, named-heading, named-book, named-order, named-filled, named-listed}
 use Rattle.table.proofs.Working.{work-low, has-work-kept, has-work-put, has-work-end, time-short}
 
 -- ---- the next number
@@ -119,3 +121,64 @@ stepped-kept t m l =
     let q : workAfter b w ≡ w = work-stays b w (eqb-false (workAfter b w) 0 x) in
     let g : hasWork u ≡ true = has-work-kept t u (m .long) (same-in 32 55 (p .heading) (lit≤ tt) (lit≤ tt)) (omega (arith, framed-filled t u (m .long) (p .framed))) (m .work) in
     rw (x, e) (renumbered t u (market-formed t m) (p .framed) g n low (subst (λ (v : ℕ). Held (isListed t) n (bookOf u) v) (q ∙ sym d) h)))
+
+-- ---- a report about no order
+
+pub numbered-kept : (t : List ℕ) (n : ℕ) → Market t → workOf t ≡ 0 → nextOf t + n ≤ 1000000000 → Market (numbered t n)
+unfolding numbered
+numbered-kept t n m e h =
+    let held : Held (isListed t) (nextOf t) (bookOf t) 0 = rw e at (m .held) in
+    let later : Held (isListed t) (nextOf t + n) (bookOf t) (workOf t) =
+    rw e (later-held (isListed t) (nextOf t) (nextOf t + n) (bookOf t) held (omega arith) h) in
+    renumbered t t (market-formed t m) (framed-self t) (m .work) (nextOf t + n) (omega (arith, m .next-low)) later
+
+-- ---- a requested cancel
+
+module _ (t : List ℕ) (k : ℕ) (clOrdId : List ℕ) (m : Market t) (e : workOf t ≡ 0) (i : In (bookOf t) k) (g : Named t clOrdId) where
+  high : k ≤ filled t
+  high = omega (arith, i .high, length-book t)
+
+  formed : Formed (putId t k clOrdId)
+  formed = named-formed t k clOrdId (market-formed t m) (i .low) high g
+
+  heading : Same (putId t k clOrdId) t 0 128
+  heading = named-heading t k clOrdId (market-formed t m) (i .low) high g
+
+  book : bookOf (putId t k clOrdId) ≡ bookOf t
+  book = named-book t k clOrdId (market-formed t m) (i .low) high g
+
+  order : orderAt (putId t k clOrdId) k ≡ orderAt t k
+  order = named-order t k clOrdId (market-formed t m) (i .low) high g k
+
+  there : at (bookOf t) k ≡ orderAt t k
+  there = at-book t k (i .low) high
+
+  filled-there : filled (putId t k clOrdId) ≡ filled t
+  filled-there = named-filled t k clOrdId (market-formed t m) (i .low) high g
+
+  held : Held (isListed t) (nextOf t) (bookOf t) 0
+  held = rw e at (m .held)
+
+  -- what a market asks of the work, while nothing is in work
+  idle : (u : List ℕ) → Same u (putId t k clOrdId) 0 128 → filled u ≡ filled t → hasWork u ≡ true
+  idle u s z = has-work-kept t u (m .long) (same-in 32 55 (same-then s heading) (lit≤ tt) (lit≤ tt)) (omega arith) (m .work)
+
+  pub taken-kept : nextOf t ≤ 999998976 → Market (taken t clOrdId (Withdrawn k (openOf (at (bookOf t) k))))
+  unfolding taken withdrawn numbered applied
+  taken-kept low =
+      let v : Event = Withdrawn k (openOf (at (bookOf t) k)) in
+      let t1 : List ℕ = putId t k clOrdId in
+      let fit = withdrawn-fits (isListed t) (nextOf t) (bookOf t) k held i low in
+      let r : Ready (bookOf t1) v =
+      rw book (record { inside = i; sound = held .sound k i; may = record { enough = fit .enough; priced = lit≤ tt } }) in
+      let u : List ℕ = applied t1 v in
+      let f = framed-applied t1 v (formed .long) refl r in
+      let s = heading-applied t1 v (i .low) in
+      let b : bookOf u ≡ after (bookOf t) v = book-applied t1 v (formed .long) refl r ∙ ap (λ (c : Book). after c v) book in
+      let n : nextOf u ≡ nextOf t = next-same (same-in 28 32 (same-then s heading) (lit≤ tt) (lit≤ tt)) in
+      let w : workOf u ≡ 0 = work-same (same-in 32 33 (same-then s heading) (lit≤ tt) (lit≤ tt)) ∙ e in
+      let z : filled u ≡ filled t = framed-filled t1 u (formed .long) f ∙ filled-there in
+      let h : Held (isListed t1) (nextOf t + 1) (bookOf u) (workOf u) =
+      rw (b, w, named-listed t k clOrdId (market-formed t m) (i .low) high g) (withdrawn-held (isListed t) (nextOf t) (bookOf t) k held i low) in
+      let x : putAmounts t1 k (change v (orderAt t k)) ≡ u = rw order in
+      rw (x, n) (renumbered t1 u formed f (idle u s z) (nextOf t + 1) (omega arith) h)
