@@ -12,6 +12,7 @@ use Rattle.octets.specs.Octets.{put, bytesOf, textBytes}
 use Rattle.octets.proofs.Bools.{split}
 use Rattle.octets.proofs.Places.{length-put, length-bytesOf}
 use Rattle.octets.proofs.Parts.{length-textBytes}
+use Rattle.decimal.specs.Reading.{isTime}
 use Rattle.matching.specs.declared.Order.{Order}
 use Rattle.matching.specs.declared.Event.{Event}
 use Rattle.matching.specs.declared.Event.the-variants.{Accepted, Replaced, Withdrawn}
@@ -23,12 +24,12 @@ use Rattle.matching.proofs.Holding.{step-ready, step-held}
 use Rattle.matching.proofs.Requests.{later-held, accepted-held, replaced-held, withdrawn-fits, withdrawn-held}
 use Rattle.table.specs.Places.{tableBytes}
 use Rattle.table.specs.Heading.{nextOf, workOf, modeOf, isListed, putNext, putWork, endWork}
-use Rattle.table.specs.Orders.{orderAt, filled, bookOf, putId, putTerms, putAmounts, applied, withdrawn, replaced, accepted}
+use Rattle.table.specs.Orders.{orderAt, filled, bookOf, termBytes, putId, putTerms, putAmounts, applied, withdrawn, replaced, accepted}
 use Rattle.table.specs.Market.{hasWork}
 use Rattle.table.specs.Facts.{Market, Named}
 use Rattle.table.specs.Changes.{played, stepEvents, numbered, stepped, entered, renewed, taken}
 use Rattle.table.proofs.Same.{Same, same-in, same-then, put-below, put-above, next-same, work-same}
-use Rattle.table.proofs.Stores.{next-got, work-got}
+use Rattle.table.proofs.Stores.{Terms, next-got, work-got}
 use Rattle.table.proofs.Books.{length-book, at-book}
 use Rattle.table.proofs.Frames.{Framed, framed-long, framed-filled, framed-listed, framed-self, framed-then, framed-heading, Formed, market-formed, formed-market, framed-formed}
 use Rattle.table.proofs.Applied.{Played, all-played, fits-move, heading-applied, framed-applied, book-applied, framed-terms, book-terms, book-next, book-work}
@@ -182,3 +183,33 @@ module _ (t : List ℕ) (k : ℕ) (clOrdId : List ℕ) (m : Market t) (e : workO
       rw (b, w, named-listed t k clOrdId (market-formed t m) (i .low) high g) (withdrawn-held (isListed t) (nextOf t) (bookOf t) k held i low) in
       let x : putAmounts t1 k (change v (orderAt t k)) ≡ u = rw order in
       rw (x, n) (renumbered t1 u formed f (idle u s z) (nextOf t + 1) (omega arith) h)
+
+  -- ---- a replacement
+
+  pub renewed-kept : (l q p : ℕ) (stamp : List ℕ) → Renews (nextOf t) (bookOf t) k l q p → isTime stamp ≡ true
+      → Market (renewed t clOrdId (Replaced k l q p) stamp)
+  unfolding renewed replaced numbered change after
+  renewed-kept l q p stamp a time =
+      let v : Event = Replaced k l q p in
+      let t1 : List ℕ = putId t k clOrdId in
+      let c : Order = change v (orderAt t k) in
+      let u : List ℕ = putTerms t1 k c in
+      let long = formed .long in
+      let widths : Terms c =
+      record { level = omega (arith, a .level-high); qty = omega (arith, a .qty-high); place = omega (arith, a .newest, a .numbered) } in
+      let inside : k ≤ filled t1 = omega (arith, filled-there, high) in
+      let f = framed-terms t1 k c long (i .low) inside in
+      let s : Same u t1 0 128 = put-below t1 (128 * k + 48) (termBytes c) 0 128 (omega (arith, i .low)) in
+      let o : orderAt t1 k ≡ at (bookOf t) k = order ∙ sym there in
+      let b : bookOf u ≡ after (bookOf t) v = book-terms t1 k c long (i .low) inside widths ∙ rw (book, o) in
+      let n : nextOf u ≡ nextOf t = next-same (same-in 28 32 (same-then s heading) (lit≤ tt) (lit≤ tt)) in
+      let h : Held (isListed t1) (nextOf t + 1) (bookOf u) k =
+      rw (b, named-listed t k clOrdId (market-formed t m) (i .low) high g) (replaced-held (isListed t) (nextOf t) (bookOf t) k l q p held a) in
+      let x : List ℕ = putNext u (nextOf t + 1) in
+      let short = time-short stamp time in
+      let longer = numbered-long t1 u formed f (nextOf t + 1) (omega arith) k stamp short h in
+      let same : filled (putWork x k stamp) ≡ filled t =
+      framed-filled x (putWork x k stamp) longer (framed-work x k stamp short)
+      ∙ framed-filled u x (framed-long t1 u long f) (framed-next u (nextOf t + 1))
+      ∙ framed-filled t1 u long f ∙ filled-there in
+      rw n (reworked t1 u formed f (nextOf t + 1) (omega arith) k stamp short h (has-work-put x k stamp longer (i .low) (omega (arith, high)) time))
