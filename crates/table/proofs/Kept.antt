@@ -1,5 +1,5 @@
--- A market stays a market: one step of the order in work, a report about no order, a requested cancel and a replacement each
--- leave a market, with the numbers that they use.
+-- A market stays a market: one step of the order in work, a report about no order, a requested cancel, a replacement and a
+-- new order each leave a market, with the numbers that they use.
 use mathlib.Core.Path.{_≡_, refl, sym, ap, _∙_, subst}
 use mathlib.Core.Bool.{Bool, true, false, cond}
 use mathlib.Core.List.{List, [], _∷_}
@@ -7,33 +7,37 @@ use Prim.Native.Nat.{ℕ, zero, suc, _+_, _*_, _^_, _≤_, _<_}
 use native.Mathlib.Omega.{arith}
 use lib.Dec.{eqb, lit≤}
 use lib.ListN.{length, getD}
-use borrow.Author.Tests.{eqb-true, eqb-false}
+use borrow.Author.Tests.{eqb-true, eqb-false, leb-true, ltb-true}
 use Rattle.octets.specs.Octets.{put, bytesOf, textBytes}
-use Rattle.octets.proofs.Bools.{split}
+use Rattle.octets.specs.Tests.{allUpTo}
+use Rattle.octets.proofs.Bools.{split, both-l, both-r, or-r}
+use Rattle.octets.proofs.Ranges.{all-at}
 use Rattle.octets.proofs.Places.{length-put, length-bytesOf}
 use Rattle.octets.proofs.Parts.{length-textBytes}
 use Rattle.decimal.specs.Reading.{isTime}
 use Rattle.matching.specs.declared.Order.{Order}
 use Rattle.matching.specs.declared.Event.{Event}
 use Rattle.matching.specs.declared.Event.the-variants.{Accepted, Replaced, Withdrawn}
-use Rattle.matching.specs.Matching.{Book, at, openOf, who, change, after, play, partner, happens, bookAfter, workAfter}
+use Rattle.matching.specs.Matching.{Book, at, put as putOrder, openOf, who, change, after, play, partner, happens, bookAfter, workAfter}
 use Rattle.matching.specs.Held.{Sound, In, Held, Ready, Readies, Enters, Renews}
 use Rattle.matching.specs.Happens.{moves, Fits}
 use Rattle.matching.proofs.Steps.{happens-fits}
 use Rattle.matching.proofs.Holding.{step-ready, step-held}
 use Rattle.matching.proofs.Requests.{later-held, accepted-held, replaced-held, withdrawn-fits, withdrawn-held}
 use Rattle.table.specs.Places.{tableBytes}
-use Rattle.table.specs.Heading.{nextOf, workOf, modeOf, isListed, putNext, putWork, endWork}
+use Rattle.table.specs.Heading.{nextOf, workOf, mpidAt, entries, entryOf, modeOf, isListed, putNext, putWork, endWork}
 use Rattle.table.specs.Orders.{orderAt, filled, bookOf, termBytes, putId, putTerms, putAmounts, applied, withdrawn, replaced, accepted}
-use Rattle.table.specs.Market.{hasWork}
+use Rattle.table.specs.Market.{every, isPrintable, isEntry, hasList, hasSettings, hasWork, isCapacity, isClass}
 use Rattle.table.specs.Facts.{Market, Named}
 use Rattle.table.specs.Changes.{played, stepEvents, numbered, stepped, entered, renewed, taken}
+use Rattle.table.proofs.Searches.{first-holds}
 use Rattle.table.proofs.Same.{Same, same-in, same-then, put-below, put-above, next-same, work-same}
-use Rattle.table.proofs.Stores.{Terms, next-got, work-got}
+use Rattle.table.proofs.Stores.{Terms, Sized, next-got, work-got}
 use Rattle.table.proofs.Books.{length-book, at-book}
 use Rattle.table.proofs.Frames.{Framed, framed-long, framed-filled, framed-listed, framed-self, framed-then, framed-heading, Formed, market-formed, formed-market, framed-formed}
-use Rattle.table.proofs.Applied.{Played, all-played, fits-move, heading-applied, framed-applied, book-applied, framed-terms, book-terms, book-next, book-work}
+use Rattle.table.proofs.Applied.{Played, all-played, fits-move, heading-applied, framed-applied, book-applied, framed-terms, book-terms, book-next, book-work, sound-amounts}
 use Rattle.table.proofs.Naming.{named-formed, named-heading, named-book, named-order, named-filled, named-listed}
+use Rattle.table.proofs.Entering.{entered-formed, entered-heading, entered-filled, entered-book, entered-listed}
 use Rattle.table.proofs.Working.{work-low, has-work-kept, has-work-put, has-work-end, time-short}
 
 -- ---- the next number
@@ -213,3 +217,59 @@ module _ (t : List ℕ) (k : ℕ) (clOrdId : List ℕ) (m : Market t) (e : workO
       ∙ framed-filled u x (framed-long t1 u long f) (framed-next u (nextOf t + 1))
       ∙ framed-filled t1 u long f ∙ filled-there in
       rw n (reworked t1 u formed f (nextOf t + 1) (omega arith) k stamp short h (has-work-put x k stamp longer (i .low) (omega (arith, high)) time))
+
+-- ---- a new order
+
+-- a listed MPID is at most 999,999
+pub listed-small : (t : List ℕ) (m : ℕ) → hasSettings t ≡ true → isListed t m ≡ true → m ≤ 999999
+unfolding hasSettings hasList isListed entryOf isEntry
+listed-small t m h l =
+    let k : ℕ = entryOf t m in
+    let x : k < entries t = ltb-true _ _ l in
+    let e : eqb (mpidAt t k) m ≡ true = first-holds (λ j. eqb (mpidAt t j) m) 0 (entries t) (omega arith) in
+    let a : allUpTo (isEntry t) (entries t) ≡ true = search (both-l, both-r) in
+    let r : isEntry t k ≡ true = all-at (isEntry t) (entries t) a k x in
+    let s : mpidAt t k ≤ 999999 = leb-true _ _ (search both-l) in
+    omega (arith, eqb-true (mpidAt t k) m e)
+
+-- so an order that may enter is of its widths
+enters-sized : (t : List ℕ) (n : ℕ) (o : Order) → Market t → Enters (isListed t) (nextOf t) (bookOf t) n o → Sized o
+enters-sized t n o m a =
+    let s = a .sound in
+    record {
+      terms = record { level = omega (arith, s .level-high); qty = omega (arith, s .qty-high); place = omega (arith, a .newest, a .numbered) };
+      amounts = sound-amounts o s;
+      mpid =
+          split (eqb (o .mpid) 0)
+          (λ z. omega (arith, eqb-true (o .mpid) 0 z))
+          (λ z. omega (arith, listed-small t (o .mpid) (m .settings) (or-r (eqb (o .mpid) 0) (isListed t (o .mpid)) (a .owned) z)));
+    }
+
+pub entered-kept : (t clOrdId account : List ℕ) (capacity class : ℕ) (o : Order) (stamp : List ℕ) → Market t → workOf t ≡ 0 → Named t clOrdId
+    → length account ≤ 10 → every isPrintable account ≡ true → isCapacity capacity ≡ true → isClass class ≡ true
+    → Enters (isListed t) (nextOf t) (bookOf t) (filled t + 1) o → isTime stamp ≡ true → Market (entered t clOrdId account capacity class o stamp)
+unfolding entered numbered after change
+entered-kept t clOrdId account capacity class o stamp m e g few printable cap cls a time =
+    let f0 = market-formed t m in
+    let size = length-book t in
+    let free : filled t < 255 = omega (arith, a .free) in
+    let k : ℕ = filled t + 1 in
+    let u : List ℕ = accepted t k clOrdId account capacity class o in
+    let formed : Formed u = entered-formed t clOrdId account capacity class o f0 free g few printable cap cls in
+    let s : Same u t 0 128 = entered-heading t clOrdId account capacity class o f0 free g few printable cap cls in
+    let n : nextOf u ≡ nextOf t = next-same (same-in 28 32 s (lit≤ tt) (lit≤ tt)) in
+    let q : suc (length (bookOf t)) ≡ k = omega arith in
+    let b : bookOf u ≡ after (bookOf t) (Accepted k o) =
+    entered-book t clOrdId account capacity class o f0 free g few printable cap cls (enters-sized t k o m a)
+    ∙ ap (λ (j : ℕ). putOrder (bookOf t) j o) q in
+    let held : Held (isListed t) (nextOf t) (bookOf t) 0 = rw e at (m .held) in
+    let h : Held (isListed u) (nextOf t + 1) (bookOf u) k =
+    rw (b, entered-listed t clOrdId account capacity class o f0 free g few printable cap cls) (accepted-held (isListed t) (nextOf t) (bookOf t) k o held a) in
+    let x : List ℕ = putNext u (nextOf t + 1) in
+    let short = time-short stamp time in
+    let longer = numbered-long u u formed (framed-self u) (nextOf t + 1) (omega arith) k stamp short h in
+    let same : filled (putWork x k stamp) ≡ filled t + 1 =
+    framed-filled x (putWork x k stamp) longer (framed-work x k stamp short)
+    ∙ framed-filled u x (formed .long) (framed-next u (nextOf t + 1))
+    ∙ entered-filled t clOrdId account capacity class o f0 free g few printable cap cls in
+    rw n (reworked u u formed (framed-self u) (nextOf t + 1) (omega arith) k stamp short h (has-work-put x k stamp longer (omega arith) (omega arith) time))
