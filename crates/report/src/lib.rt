@@ -1,4 +1,5 @@
 // Reports: rows of fields, their bytes, and reading them back.
+pub mod rows;
 pub mod write;
 
 // The value of a field. A text is a part of one of two slices that are lent with a row: the message that was sent (or the
@@ -18,4 +19,12 @@ pub enum Value {
 pub struct Field {
     pub tag: u64,
     pub value: Value,
+}
+
+// Where a text stands: in the message that caused the report, or else in the table where it is stored; its first byte and how
+// many there are.
+pub struct Place {
+    pub sent: bool,
+    pub start: usize,
+    pub length: usize,
 }
