@@ -4,3 +4,5 @@ pub mod Matching
 pub mod Depth
 pub mod Accounts
 pub mod Held
+pub mod Happens
+pub mod Rehearsed

@@ -2,6 +2,7 @@
 pub mod Searches
 pub mod Same
 pub mod Stores
+pub mod Writes
 pub mod Books
 pub mod Facts
 pub mod Listed

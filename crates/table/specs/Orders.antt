@@ -1,10 +1,10 @@
 -- The orders of a table by name: reading a record, the book that matching works on, and the writes that change a record
 -- (document 01, "The table and its calls"). Records count from 1. Writing changes the named bytes alone. Assumes nothing:
 -- whether what is read makes sense is said in Market.
-use mathlib.Core.Bool.{Bool}
+use mathlib.Core.Bool.{Bool, cond}
 use mathlib.Core.List.{List, [], _∷_, _++_}
 use Prim.Native.Nat.{ℕ, zero, suc, _+_, _*_}
-use lib.Dec.{eqb}
+use lib.Dec.{eqb, ltb}
 use lib.ListN.{getD}
 use Rattle.octets.specs.Octets.{leAt, bytesOf, put, textAt, textBytes, putText, sameBytes}
 use Rattle.octets.specs.Tests.{firstFrom}
@@ -65,6 +65,10 @@ bookOf t = ordersFrom t 1 (filled t)
 -- among n records the first that has this ClOrdID, less 1; n if none has
 unfoldable pub idIndex : List ℕ → ℕ → List ℕ → ℕ
 idIndex t n xs = firstFrom (λ k. sameBytes (clOrdIdAt t (k + 1)) xs) 0 n
+
+-- the record among the first n that has this ClOrdID; 0 if none has
+unfoldable pub recordWith : List ℕ → ℕ → List ℕ → ℕ
+recordWith t n xs = cond (ltb (idIndex t n xs) n) (idIndex t n xs + 1) 0
 
 -- ---- writing
 
