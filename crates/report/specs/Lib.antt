@@ -2,3 +2,4 @@
 pub mod Fields
 pub mod Frame
 pub mod Shapes
+pub mod Parse

@@ -1,4 +1,5 @@
 // Reports: rows of fields, their bytes, and reading them back.
+pub mod parse;
 pub mod values;
 pub mod write;
 
@@ -80,4 +81,11 @@ pub enum Pick {
 pub enum Got {
     Value { value: Value, next: usize },
     Wrong,
+}
+
+// The fields of a row that was read and the place behind them, or not ok.
+pub struct Row {
+    pub ok: bool,
+    pub next: usize,
+    pub fields: [Field; 36],
 }
