@@ -3,3 +3,4 @@ pub mod Bytes
 pub mod Walks
 pub mod Labels
 pub mod Parses
+pub mod Frames

@@ -3,3 +3,5 @@ pub mod Fields
 pub mod Frame
 pub mod Shapes
 pub mod Parse
+pub mod Slots
+pub mod Reports
