@@ -27,7 +27,7 @@ use Rattle.report.specs.Frame.{version, trailer, checkSum}
 use Rattle.report.specs.Parse.{starts, fieldAt, Rows, row, bad, readRow, rowOf}
 use Rattle.report.specs.Reports.{lengthIn, lengthSlot, bodyAt, trailerAt, checked, readFramed}
 use Rattle.report.proofs.Bytes.{version-bytes, trailer-length}
-use Rattle.report.proofs.Parses.{starts-length}
+use Rattle.report.proofs.Labels.{starts-length}
 use Rattle.decimal.specs.Writing.{decimal}
 
 -- ---- 9

@@ -2,7 +2,7 @@
 -- CheckSum of all before it; the body is the fields of one kind, slot by slot, and nothing else. 35, and 150 where 35 is 8, say
 -- which kind it can be. A Canceled has exactly one of 41 and 378. No other field is compared with another. Assumes nothing.
 use Prim.Native.Nat.{ℕ, _+_, _-_}
-use mathlib.Core.Bool.{Bool, true, false, cond, not, _&&_, _||_}
+use mathlib.Core.Bool.{Bool, true, false, cond, not, _&&_}
 use mathlib.Core.List.{List, [], _∷_, _++_}
 use lib.Dec.{ltb, leb, eqb}
 use lib.ListN.{length, take, drop, getD}
@@ -19,6 +19,9 @@ use Rattle.report.specs.declared.Frame.the-variants.{Body, Not}
 use Rattle.report.specs.declared.Kind.{Kind}
 use Rattle.report.specs.declared.Kind.the-variants.{Accepted, Replaced, Canceled, Trade, Rejected, CancelReject, SessionReject, Refused}
 use Rattle.report.specs.declared.Reading.{Reading}
+use Rattle.report.specs.declared.Row.{Row}
+use Rattle.report.specs.declared.Part.{Part}
+use Rattle.report.specs.declared.Part.the-variants.{At, Nowhere}
 use Rattle.report.specs.Fields.{field, isAbsent, label, written}
 use Rattle.report.specs.Frame.{version, trailer, checkSum}
 use Rattle.report.specs.Parse.{starts, lenTo, fieldAt, Rows, row, bad, readRow, noFields, placeOf}
@@ -71,8 +74,9 @@ executionFor b =
     cond (eqb b 48) Accepted
     (cond (eqb b 53) Replaced
     (cond (eqb b 52) Canceled
-    (cond (eqb b 49 || eqb b 50) Trade
-    (cond (eqb b 56) Rejected Refused))))
+    (cond (eqb b 49) Trade
+    (cond (eqb b 50) Trade
+    (cond (eqb b 56) Rejected Refused)))))
 
 -- the kind that 35 and 150 say
 unfoldable pub kindFor : ℕ → ℕ → Kind
@@ -111,13 +115,17 @@ abbrev pub readingOf : Kind → Rows → Reading
 readingOf k (row fs next) = cond (agreed k fs) (record { kind = k; fields = fs }) refused
 readingOf k bad = refused
 
+-- the same, of a row as the code has it
+abbrev pub readingFrom : Kind → Row → Reading
+readingFrom k r = cond (r .ok && agreed k (r .fields)) (record { kind = k; fields = r .fields }) refused
+
 -- what the bytes are: a report of a kind with its fields, or none
 unfoldable pub readOf : List ℕ → Reading
 readOf s = readingOf (kindOf s) (readFramed s (slotsOf (kindOf s)))
 
--- where the value of a tag stands, and how long it is; past the end where there is none
-unfoldable pub valueFrom : List ℕ → ℕ → ℕ
-valueFrom s tag = placeOf (label tag) true s + length (label tag)
-
-unfoldable pub valueLength : List ℕ → ℕ → ℕ
-valueLength s tag = lenTo (drop (valueFrom s tag) s)
+-- where the value of the first field with a tag stands, and how long it is
+unfoldable pub partOf : List ℕ → ℕ → Part
+partOf s tag =
+    cond (ltb (placeOf (label tag) true s) (length s))
+    (At (placeOf (label tag) true s + length (label tag)) (lenTo (drop (placeOf (label tag) true s + length (label tag)) s)))
+    Nowhere

@@ -115,3 +115,9 @@ pub enum Frame {
     Body { from: usize, len: usize },
     Not,
 }
+
+// Where the value of a field stands in a report.
+pub enum Part {
+    At { start: usize, len: usize },
+    Nowhere,
+}
