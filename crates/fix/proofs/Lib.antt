@@ -5,3 +5,4 @@ pub mod Loops
 pub mod Sums
 pub mod Tails
 pub mod Opening
+pub mod Verdict

@@ -2,7 +2,7 @@
 use Prim.Native.Nat.{ℕ, zero, suc, _+_, _-_, _%_, _≤_, _<_}
 use mathlib.Core.Path.{_≡_, refl, sym, ap, _∙_}
 use mathlib.Core.List.{List, [], _∷_}
-use mathlib.Core.Bool.{Bool, true, false, cond, not, _&&_, _||_, and-false}
+use mathlib.Core.Bool.{Bool, true, false, cond, not, _&&_, _||_, and-false, or-true}
 use native.Mathlib.Omega.{arith}
 use native.Mathlib.Nat.{suc-ne-zero}
 use lib.Dec.{eqb}
@@ -78,6 +78,13 @@ pub record Clear (m : List ℕ) (l : Fld) (fs : List Fld) (p : Part) : Type 0 wh
   pub distinct : repeats fs ≡ false
   pub fresh : (t : ℕ) → (getD m (slot t) 0 ≡ 0 → ⊥) → hasTag t fs ≡ false
   pub last : lastTagOr (l .tag) fs ≡ 10
+  pub ten : (getD m (slot (l .tag)) 0 ≡ 0 → ⊥) → findTag 10 (l ∷ fs) ≡ At (p .start) (p .len)
+
+-- where 10 is last, it is there
+last-has : (f : Fld) (fs : List Fld) → lastTagOr (f .tag) fs ≡ 10 → hasTag 10 (f ∷ fs) ≡ true
+unfolding lastTagOr hasTag
+last-has f [] e = rw (eq-eqb (f .tag) 10 e)
+last-has f (g ∷ fs) e = rw (last-has g fs e, or-true)
 
 same-slot : (m : List ℕ) (i : ℕ) → i < length m → getD (set m i 1) i 0 ≡ 0 → ⊥
 same-slot m i h e = suc-ne-zero 0 (sym (getD-set-same m i 1 0 h) ∙ e)
@@ -89,20 +96,31 @@ still m i j z h e =
     h (sym (getD-set-other m i j 1 0 d) ∙ e)
 
 pub tail-ten : (fs : List Fld) (m : List ℕ) (l : Fld) (p : Part) → length m ≡ 128 → tailOf m l fs ≡ Ten p → Clear m l fs p
-unfolding tailOf hasTag repeats lastTagOr
+unfolding tailOf hasTag repeats lastTagOr findTag
 tail-ten [] m l p n e =
     let q = ten-end (eqb (l .tag) 10) _ p e in
-    record { unbroken = refl; distinct = refl; fresh = λ t h. refl; last = eqb-true (l .tag) 10 (q .0) }
+    record {
+      unbroken = refl;
+      distinct = refl;
+      fresh = λ t h. refl;
+      last = eqb-true (l .tag) 10 (q .0);
+      ten = λ h. rw (q .0, ← q .1);
+    }
 tail-ten (f ∷ fs) m l p n e =
     let i = slot (f .tag) in
     let q = ten-rest (eqb (f .tag) 0) (eqb (getD m i 0) 0) (tailOf (set m i 1) f fs) p e in
     let z : getD m i 0 ≡ 0 = eqb-true (getD m i 0) 0 (q .1) in
     let c = tail-ten fs (set m i 1) f p (simp length-set n) (q .2) in
+    let one = same-slot m i (slot-in m (f .tag) n) in
+    let new : (t : ℕ) → (getD m (slot t) 0 ≡ 0 → ⊥) → hasTag t (f ∷ fs) ≡ false = λ t h. rw (ne-eqb (f .tag) t (λ y. h (rw (← y) z))) (c .fresh t (still m i (slot t) z h)) in
     record {
       unbroken = rw (q .0) (c .unbroken);
-      distinct = rw (c .fresh (f .tag) (same-slot m i (slot-in m (f .tag) n))) (c .distinct);
-      fresh = λ t h. rw (ne-eqb (f .tag) t (λ y. h (rw (← y) z))) (c .fresh t (still m i (slot t) z h));
+      distinct = rw (c .fresh (f .tag) one) (c .distinct);
+      fresh = new;
       last = c .last;
+      ten = λ h. split (eqb (l .tag) 10)
+          (λ y. absurd (not-both (last-has f fs (c .last)) (rw (eqb-true (l .tag) 10 y) at (new (l .tag) h))))
+          (λ y. rw y (c .ten one));
     }
 
 -- Wrong: a broken field, or 10 not last

@@ -1,14 +1,14 @@
 -- What the inner functions of the reading answer, one step of it each. Nothing here need be believed: `garbled` and `frame`
 -- do not cite it.
-use Prim.Native.Nat.{ℕ, zero, suc, _+_, _-_, _%_}
+use Prim.Native.Nat.{ℕ, zero, suc, _+_, _-_, _%_, _≤_}
 use mathlib.Core.Path.{_≡_}
 use mathlib.Core.List.{List, [], _∷_}
-use mathlib.Core.Bool.{Bool, true, false, cond}
-use lib.ListN.{length, getD, set, replicate}
+use mathlib.Core.Bool.{Bool, true, false, cond, _&&_}
+use lib.ListN.{length, getD, set, take, replicate}
 use lib.Dec.{ltb, leb, eqb}
 use Rattle.decimal.specs.declared.Said.the-variants.{Value, Wrong}
-use Rattle.decimal.specs.Reading.{numOf}
-use Rattle.octets.specs.Octets.{sameBytes}
+use Rattle.decimal.specs.Reading.{numOf, isTime}
+use Rattle.octets.specs.Octets.{partAt, sameBytes}
 use Rattle.fix.specs.declared.fields.Found.the-variants.{At, Nothing}
 use Rattle.fix.specs.declared.fields.Field.{Field}
 use Rattle.fix.specs.declared.frame.Part.{Part}
@@ -20,7 +20,7 @@ use Rattle.fix.specs.declared.frame.Places.{Places}
 use Rattle.fix.specs.declared.frame.Tail.{Tail}
 use Rattle.fix.specs.declared.frame.Ending.{Ending}
 use Rattle.fix.specs.Fields.{Fld, stepOf, fieldsOf, fieldsFrom, findTag, valueOf, hasTag, repeats, cleanFields, lastTagOr}
-use Rattle.fix.specs.Garbled.{fix42, endOf, partOf, garbledMessage}
+use Rattle.fix.specs.Garbled.{fix42, saysIt, endOf, checkSum, garbledMessage}
 
 -- ---- the field at a place, where a given tag has to stand
 abbrev pub asExpected : ℕ → Field → Expected
@@ -94,3 +94,30 @@ pub record Ended (s : List ℕ) (p : Part) : Type 0 where
 abbrev pub EndingSays : List ℕ → Ending → Type 0
 EndingSays s Ending.Wrong = garbledMessage s ≡ true
 EndingSays s (Ending.Ten p) = Ended s p
+
+pub record HeadedAt (s : List ℕ) (at : ℕ) : Type 0 where
+  pub places : Places
+  pub headed : Headed s places at
+
+-- ---- the values, by their places
+abbrev pub partIn : List ℕ → Part → List ℕ
+partIn s p = partAt s (p .start) (p .len)
+
+unfoldable pub rightOf : List ℕ → Places → ℕ → Bool
+rightOf s p n =
+    leb 1 (length (partIn s (p .kind))) && leb (length (partIn s (p .kind))) 2 && ltb 0 n && leb 1 (length (partIn s (p .sender)))
+    && isTime (partIn s (p .time)) && leb 1 (length (partIn s (p .target)))
+
+unfoldable pub sumsOf : List ℕ → ℕ → Part → Bool
+sumsOf s t p = eqb (length (partIn s p)) 3 && saysIt (checkSum (take t s)) (numOf 3 (partIn s p))
+
+-- the message is not too long, and 8 and 9 are read
+pub record Begun (s : List ℕ) (count a : ℕ) : Type 0 where
+  pub short : length s ≤ 1024
+  pub counted : Counted s count a
+
+-- the fields are in order and their places known
+pub record Laid (s : List ℕ) (count a : ℕ) (h : Places) (b : ℕ) (p : Part) : Type 0 where
+  pub begun : Begun s count a
+  pub headed : Headed s h b
+  pub ended : Ended s p

@@ -17,8 +17,8 @@ ghost use lib.ListN.{length, take, drop, getD};
 ghost use Rattle.octets.specs.Octets.{partAt};
 ghost use Rattle.decimal.specs.Reading.{numOf, isTime};
 ghost use Rattle.fix.specs.Fields.{fieldsOf, fieldsFrom, valueOf};
-ghost use Rattle.fix.specs.Garbled.{saidOf, checkSum, frameOf, garbledMessage};
-ghost use Rattle.fix.specs.Steps.{expectOf, Opened, Counted, OpeningSays, Kinded, NumberedSays, Headed, HeaderSays, tailOf, headerMarks, EndingSays};
+ghost use Rattle.fix.specs.Garbled.{saidOf, saysIt, checkSum, frameOf, garbledMessage};
+ghost use Rattle.fix.specs.Steps.{expectOf, Opened, Counted, OpeningSays, Kinded, NumberedSays, Headed, HeaderSays, tailOf, headerMarks, EndingSays, HeadedAt, rightOf, sumsOf, Begun, Laid};
 
 // A part of a message.
 pub struct Part {
@@ -241,5 +241,166 @@ fn walks(s: &[u8], at: usize) -> Tail
                 return Tail::Wrong;
             }
         }
+    }
+}
+
+// How the fields end, looked up plainly: each tag among all that follow it.
+fn plainly(s: &[u8]) -> Ending
+    ensures { λ r. ⌜ EndingSays (now (s .entry)) r ⌝ }
+{
+    if !clean(s) {
+        return Ending::Wrong;
+    }
+    if last_tag(s) != 10 {
+        return Ending::Wrong;
+    }
+    match find(s, 10) {
+        Found::At { start, len } => Ending::Ten(Part { start, len }),
+        Found::Nothing => Ending::Wrong,
+    }
+}
+
+// How the fields end: one walk, and the plain way where that is not sure.
+fn ends(s: &[u8], at: usize) -> Ending
+    requires { ⌜ HeadedAt (now s) at ⌝ }
+    ensures { λ r. ⌜ EndingSays (now (s .entry)) r ⌝ }
+{
+    match walks(s, at) {
+        Tail::Ten(p) => Ending::Ten(p),
+        Tail::Wrong => Ending::Wrong,
+        Tail::Unsure => plainly(s),
+    }
+}
+
+// a less b, and 0 where b is more.
+fn minus(a: usize, b: usize) -> usize
+    ensures { λ r. ⌜ r ≡ a - b ⌝ }
+{
+    if a < b { 0 } else { a - b }
+}
+
+// The number that is said, and 0 where none is.
+pub fn said(x: Said) -> u64
+    ensures { λ r. ⌜ r ≡ saidOf x ⌝ }
+{
+    match x {
+        Said::Value(n) => n,
+        Said::Wrong => 0,
+    }
+}
+
+// Whether the number m is said.
+fn says_it(m: u64, x: Said) -> bool
+    ensures { λ r. ⌜ r ≡ saysIt m x ⌝ }
+{
+    match x {
+        Said::Value(n) => n == m,
+        Said::Wrong => false,
+    }
+}
+
+// Whether the values of the header are what they may be, where 34 says n.
+fn right(s: &[u8], p: Places, n: u64) -> bool
+    ensures { λ r. ⌜ r ≡ rightOf (now (s .entry)) p n ⌝ }
+{
+    let kind = part_at(s, p.kind.start, p.kind.len);
+    let sender = part_at(s, p.sender.start, p.sender.len);
+    let time = part_at(s, p.time.start, p.time.len);
+    let target = part_at(s, p.target.start, p.target.len);
+    (1 <= kind.len())
+        & (kind.len() <= 2)
+        & (0 < n)
+        & (1 <= sender.len())
+        & is_time(time)
+        & (1 <= target.len())
+}
+
+// Whether 10, at p, says the sum of the t bytes before it in three digits.
+fn sums(s: &[u8], t: usize, p: Part) -> bool
+    requires { ⌜ t ≤ length (now s) ⌝ }
+    ensures { λ r. ⌜ r ≡ sumsOf (now (s .entry)) t p ⌝ }
+{
+    let v = part_at(s, p.start, p.len);
+    let sum = checksum(&s[..t]);
+    (v.len() == 3) & says_it(sum as u64, read_number(v, 3))
+}
+
+// The parts of a message whose fields are in order, where 9 says count for the bytes from place a on, the header ends at b,
+// and the value of 10 is at p; or garbled.
+fn settled(s: &[u8], count: u64, a: usize, h: Places, b: usize, p: Part) -> Frame
+    requires { ⌜ Laid (now s) count a h b p ⌝ }
+    ensures { λ r. ⌜ r ≡ frameOf (now (s .entry)) ⌝ }
+{
+    let number = said(read_number(part_at(s, h.number.start, h.number.len), 9));
+    if !right(s, h, number) {
+        return Frame::Garbled;
+    }
+    let t = minus(p.start, 3);
+    if minus(t, a) as u64 != count {
+        return Frame::Garbled;
+    }
+    if !sums(s, t, p) {
+        return Frame::Garbled;
+    }
+    let kind = h.kind;
+    let sender = h.sender;
+    let time = h.time;
+    let target = h.target;
+    let body = Part {
+        start: b,
+        len: minus(t, b),
+    };
+    Frame::Good(Head {
+        kind,
+        number,
+        sender,
+        time,
+        target,
+        body,
+    })
+}
+
+// The parts of a message whose 9 says count for the bytes from place a on, or garbled.
+fn behind(s: &[u8], count: u64, a: usize) -> Frame
+    requires { ⌜ Begun (now s) count a ⌝ }
+    ensures { λ r. ⌜ r ≡ frameOf (now (s .entry)) ⌝ }
+{
+    let Numbered::Reads {
+        kind,
+        number,
+        next: k,
+    } = kinds(s, a)
+    else {
+        return Frame::Garbled;
+    };
+    let Header::Reads { places, next: b } = heads(s, kind, number, k) else {
+        return Frame::Garbled;
+    };
+    let Ending::Ten(p) = ends(s, b) else {
+        return Frame::Garbled;
+    };
+    settled(s, count, a, places, b, p)
+}
+
+// The parts of a message, or garbled.
+pub fn framed(s: &[u8]) -> Frame
+    ensures { λ r. ⌜ r ≡ frameOf (now (s .entry)) ⌝ }
+{
+    if 1024 < s.len() {
+        return Frame::Garbled;
+    }
+    match opens(s) {
+        Opening::Reads { count, next } => behind(s, count, next),
+        Opening::Wrong => Frame::Garbled,
+    }
+}
+
+// Whether a message is garbled.
+pub fn garbled(s: &[u8]) -> bool
+    ensures { λ r. ⌜ r ≡ garbledMessage (now (s .entry)) ⌝ }
+{
+    match framed(s) {
+        Frame::Garbled => true,
+        Frame::Good(_) => false,
     }
 }

@@ -14,3 +14,4 @@ pub mod Best
 pub mod Levels
 pub mod Modes
 pub mod Cases
+pub mod Theorems

@@ -1,17 +1,14 @@
 -- A run asks for one mode only, that of the MPID of the order in work; and a budget beyond the end of the work changes nothing.
 use mathlib.Core.Path.{_≡_, refl, sym, ap, _∙_}
-use mathlib.Core.Bool.{Bool, true, false, cond}
-use mathlib.Core.List.{List, [], _∷_, _++_, append-nil}
-use Prim.Native.Nat.{ℕ, zero, suc, _+_, _≤_, _<_}
+use mathlib.Core.List.{[], _++_, append-nil}
+use Prim.Native.Nat.{ℕ, zero, suc, _+_, _≤_}
 use native.Mathlib.Nat.{add-zero}
-use native.Mathlib.Omega.{arith}
 use lib.ListN.{length}
 use lib.Dec.{eqb}
 use Rattle.octets.proofs.Bools.{split}
-use Rattle.matching.specs.declared.Event.{Event}
-use Rattle.matching.specs.Matching.{Book, at, partner, outcome, happens, bookAfter, workAfter, Ran, run, play}
+use Rattle.matching.specs.Matching.{Book, at, partner, outcome, happens, workAfter, Ran, run, play}
 use Rattle.matching.proofs.Events.{Terms, play-terms, length-play}
-use Rattle.matching.proofs.Steps.{happens-fits, first-in, next-in}
+use Rattle.matching.proofs.Steps.{happens-fits, first-in}
 use Rattle.matching.proofs.Ends.{idle}
 use Rattle.matching.proofs.Best.{run-on}
 

@@ -1,20 +1,19 @@
 -- What Submit does to the book keeps what a market asks of it: an acceptance and a replacement put their order in work, a
 -- withdrawal and a report about no order leave nothing in work, and an opened market has an empty book.
 use mathlib.Core.Path.{_≡_, refl, sym, ap, _∙_}
-use mathlib.Core.Bool.{Bool, true, false, _||_}
-use mathlib.Core.List.{List, [], _∷_}
-use mathlib.Core.Logic.{_≢_, _⊎_, inl, inr}
-use Prim.Native.Nat.{ℕ, zero, suc, _+_, _-_, _*_, _≤_, _<_}
+use mathlib.Core.Bool.{Bool, true, _||_}
+use mathlib.Core.List.{[], _∷_}
+use mathlib.Core.Logic.{_≢_}
+use Prim.Native.Nat.{ℕ, zero, suc, _+_, _≤_, _<_}
 use native.Mathlib.Omega.{arith}
 use lib.ListN.{length}
 use lib.Dec.{ltb, eqb}
 use borrow.Author.Tests.{ltb-true, ltb-false, eqb-true, eqb-false}
 use Rattle.octets.proofs.Bools.{split}
 use Rattle.matching.specs.declared.Order.{Order}
-use Rattle.matching.specs.declared.Event.{Event}
 use Rattle.matching.specs.declared.Event.the-variants.{Accepted, Replaced, Withdrawn}
-use Rattle.matching.specs.Matching.{Book, at, openOf, isBuy, opposedTo, countOf, who, placeAfter, change, after, play}
-use Rattle.matching.specs.Held.{Covered, Sound, In, Uncrossed, Held, Enters, Renews}
+use Rattle.matching.specs.Matching.{Book, at, openOf, opposedTo, change, after, play}
+use Rattle.matching.specs.Held.{Sound, In, Uncrossed, Held, Enters, Renews}
 use Rattle.matching.specs.Happens.{Fit, Fits, Fresh, Renewed}
 use Rattle.matching.proofs.Books.{length-put, length-put-new, count-most, open-low, at-nothing}
 use Rattle.matching.proofs.Events.{after-here, after-there, play-open}
@@ -166,7 +165,7 @@ module _ (listed : ℕ → Bool) (next : ℕ) (b : Book) (n l q p : ℕ) (h : He
   renews-renewed = record { inside = a .inside; live = a .live; uncanceled = uncanceled; above = a .above }
 
   replaced-sound : Sound (change (Replaced n l q p) (at b n))
-  unfolding change placeAfter openOf
+  unfolding change openOf
   replaced-sound =
       record {
         sides = s .sides;
@@ -187,7 +186,7 @@ module _ (listed : ℕ → Bool) (next : ℕ) (b : Book) (n l q p : ℕ) (h : He
   length-same = length-put b n _ (a .inside .high)
 
   pub replaced-held : Held listed (next + 1) (after b (Replaced n l q p)) n
-  unfolding change placeAfter
+  unfolding change
   replaced-held =
       renewed-held listed next b (after b (Replaced n l q p)) n (change (Replaced n l q p) (at b n)) h
       (after-here b (Replaced n l q p) (a .inside .low) (omega (arith, a .inside .high)))

@@ -1,4 +1,7 @@
 // Reports: rows of fields, their bytes, and reading them back.
+pub mod rows;
+pub mod parse;
+pub mod values;
 pub mod write;
 
 // The value of a field. A text is a part of one of two slices that are lent with a row: the message that was sent (or the
@@ -18,4 +21,80 @@ pub enum Value {
 pub struct Field {
     pub tag: u64,
     pub value: Value,
+}
+
+// Where a text stands: in the message that caused the report, or else in the table where it is stored; its first byte and how
+// many there are.
+pub struct Place {
+    pub sent: bool,
+    pub start: usize,
+    pub length: usize,
+}
+
+// What the value of a field may be: one of five characters; a number in a range; one of eight numbers; four characters; an
+// order's record, or NONE; a text of at most so many characters from one on to 7E hex; 1 to 9 digits; a time; a yield; AvgPx.
+pub enum Shape {
+    Nothing,
+    OneOf {
+        a: u8,
+        b: u8,
+        c: u8,
+        d: u8,
+        e: u8,
+    },
+    Range {
+        least: u64,
+        most: u64,
+    },
+    Listed {
+        a: u8,
+        b: u8,
+        c: u8,
+        d: u8,
+        e: u8,
+        f: u8,
+        g: u8,
+        h: u8,
+    },
+    Exact {
+        w: u8,
+        x: u8,
+        y: u8,
+        z: u8,
+    },
+    Record,
+    Text {
+        most: usize,
+        low: u8,
+    },
+    Digits,
+    Time,
+    Yield,
+    Average,
+}
+
+// A place for a field in a kind of report.
+pub struct Slot {
+    pub tag: u64,
+    pub optional: bool,
+    pub shape: Shape,
+}
+
+// A value that was read, or none.
+pub enum Pick {
+    Is(Value),
+    No,
+}
+
+// A field that was read, and the place behind it.
+pub enum Got {
+    Value { value: Value, next: usize },
+    Wrong,
+}
+
+// The fields of a row that was read and the place behind them, or not ok.
+pub struct Row {
+    pub ok: bool,
+    pub next: usize,
+    pub fields: [Field; 36],
 }

@@ -7,4 +7,11 @@ pub mod Books
 pub mod Lookups
 pub mod Facts
 pub mod Listed
+pub mod Frames
+pub mod Applied
+pub mod Texts
+pub mod Working
+pub mod Naming
+pub mod Entering
+pub mod Kept
 pub mod Computed

@@ -1,4 +1,4 @@
--- The laws that the lookups want: the first record of a kind, a turn on and at the end; the best order and the number of
+-- The laws that the lookups want: the record with a ClOrdID, once the search has stopped; the best order and the number of
 -- opposed ones, a record on and at the end.
 use mathlib.Core.Path.{_≡_, refl, sym, ap, _∙_}
 use mathlib.Core.Bool.{Bool, true, false, cond, _&&_, _||_}
@@ -13,39 +13,15 @@ use borrow.Author.Tests.{eq-eqb, ne-eqb, lt-ltb, le-ltb, ltb-true, ltb-false}
 use Rattle.octets.specs.Octets.{sameBytes}
 use Rattle.octets.specs.Tests.{firstFrom}
 use Rattle.octets.proofs.Bools.{split}
-use Rattle.octets.proofs.Ranges.{first-more, first-here, first-none}
+use Rattle.octets.proofs.Ranges.{Sought, sought-here, sought-end}
 use Rattle.matching.specs.declared.Order.{Order}
 use Rattle.matching.specs.Matching.{Book, at, faces, better, choose, best, opposed, sumOver, countOf}
 use Rattle.matching.specs.Held.{Sound, In, Held, Covered}
 use Rattle.table.specs.Places.{tableBytes, recordAt}
-use Rattle.table.specs.Heading.{mpidAt, modeAt, entries, entryOf, isListed, modeOf}
 use Rattle.table.specs.Orders.{clOrdIdAt, orderAt, isFree, filled, bookOf, idIndex, recordWith}
 use Rattle.table.specs.Facts.{Market}
-use Rattle.table.proofs.Searches.{first-high, first-low, first-before, first-holds}
 use Rattle.table.proofs.Same.{filled-few}
 use Rattle.table.proofs.Books.{length-book, at-book}
-
--- ---- a search that has come to k: from there on it gives the whole search's answer
-
-pub record Sought (f : ℕ → Bool) (n k : ℕ) : Type 0 where
-  pub within : k ≤ n
-  pub rest : firstFrom f k (n - k) ≡ firstFrom f 0 n
-
--- it starts so, goes on so, and ends with what is here, or with none
-pub sought-start : (f : ℕ → Bool) (n : ℕ) → Sought f n 0
-sought-start f n = record { within = omega arith; rest = ap (λ (m : ℕ). firstFrom f 0 m) (omega arith) }
-
-pub sought-more : {f : ℕ → Bool} {n k : ℕ} → Sought f n k → k < n → f k ≡ false → Sought f n (k + 1)
-sought-more {f} {n} {k} s l h = record { within = omega arith; rest = sym (first-more f n k l h) ∙ s .rest }
-
-pub sought-here : {f : ℕ → Bool} {n k : ℕ} → Sought f n k → k < n → f k ≡ true → k ≡ firstFrom f 0 n
-sought-here {f} {n} {k} s l h = sym (first-here f n k l h) ∙ s .rest
-
-pub sought-none : {f : ℕ → Bool} {n k : ℕ} → Sought f n k → n ≤ k → n ≡ firstFrom f 0 n
-sought-none {f} {n} {k} s l =
-    let q : k ≡ n = omega (arith, s .within) in
-    let r : firstFrom f n (n - n) ≡ firstFrom f 0 n = rw q at (s .rest) in
-    sym (first-none f n) ∙ r
 
 -- ---- the record with a ClOrdID
 
@@ -60,30 +36,8 @@ module _ (t : List ℕ) (n : ℕ) (xs : List ℕ) where
   pub id-none : (k : ℕ) → Sought (λ j. sameBytes (clOrdIdAt t (j + 1)) xs) n k → n ≤ k → 0 ≡ recordWith t n xs
   unfolding recordWith idIndex
   id-none k s l =
-      let e : n ≡ firstFrom (λ j. sameBytes (clOrdIdAt t (j + 1)) xs) 0 n = sought-none s l in
-      rw (← e, le-ltb n n (omega arith))
-
--- ---- the mode of an MPID
-
-pub entry-here : (t : List ℕ) (m n k : ℕ) → n ≡ entries t → Sought (λ j. eqb (mpidAt t j) m) n k → k < n → eqb (mpidAt t k) m ≡ true → k ≡ entryOf t m
-unfolding entryOf
-entry-here t m n k e s l h = rw (← e) (sought-here s l h)
-
-pub entry-none : (t : List ℕ) (m n k : ℕ) → n ≡ entries t → Sought (λ j. eqb (mpidAt t j) m) n k → n ≤ k → n ≡ entryOf t m
-unfolding entryOf
-entry-none t m n k e s l = rw (← e) (sought-none s l)
-
-pub mode-here : (t : List ℕ) (m n k : ℕ) → n ≡ entries t → k ≡ entryOf t m → k < n → getD t (88 + k) 0 ≡ modeOf t m
-unfolding modeOf isListed
-mode-here t m n k a b l = rw (← b, ← a, lt-ltb k n l)
-
-pub mode-none : (t : List ℕ) (m n k : ℕ) → n ≡ entries t → k ≡ entryOf t m → n ≤ k → 0 ≡ modeOf t m
-unfolding modeOf isListed
-mode-none t m n k a b l = rw (← b, ← a, le-ltb k n l)
-
-pub listed-is : (t : List ℕ) (m n k : ℕ) → n ≡ entries t → k ≡ entryOf t m → ltb k n ≡ isListed t m
-unfolding isListed
-listed-is t m n k a b = rw (a, b)
+      let e : k ≡ firstFrom (λ j. sameBytes (clOrdIdAt t (j + 1)) xs) 0 n = sought-end s l in
+      rw (← e, le-ltb k n l)
 
 -- ---- what a market's records promise, and the ways in which `choose` goes over them
 

@@ -21,7 +21,7 @@ pub fn filled(t: &[u8]) -> usize
         }
         k += 1;
     }
-    255
+    k
 }
 
 // The record among the first n whose ClOrdID is m; 0 if none has it.

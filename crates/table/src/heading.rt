@@ -4,7 +4,7 @@ ghost use Prim.Native.Nat.{_≤_, _<_};
 ghost use mathlib.Core.List.{[]};
 ghost use lib.ListN.{length};
 ghost use Rattle.table.specs.Places.{tableBytes};
-ghost use Rattle.table.specs.Heading.{venueOf, portOf, codeOf, nextOf, workOf, stampOf, putNext, putWork, endWork, entries, entryOf, isListed, modeOf};
+ghost use Rattle.table.specs.Heading.{venueOf, portOf, codeOf, nextOf, workOf, stampOf, putNext, putWork, endWork};
 
 // The venue id.
 pub fn venue(t: &[u8]) -> &[u8]
@@ -73,55 +73,4 @@ pub fn end_work(t: &mut [u8])
     ensures { λ _. ⌜ now (t .exit) ≡ endWork (now (t .entry)) ⌝ }
 {
     octets::put_zeros(t, 32, 23);
-}
-
-// How many MPIDs are listed.
-pub fn entries(t: &[u8]) -> usize
-    requires { ⌜ length (now t) ≡ tableBytes ⌝ }
-    ensures { λ r. ⌜ (r ≡ entries (now (t .entry))) × (r ≤ 8) ⌝ }
-{
-    let mut k = 0;
-    while k < 8 {
-        if octets::le_at(t, 56 + 4 * k, 4) == 0 {
-            return k;
-        }
-        k += 1;
-    }
-    8
-}
-
-// Of the n entries the one that has MPID m; n if none has.
-pub fn entry_of(t: &[u8], n: usize, m: u64) -> usize
-    requires { ⌜ (length (now t) ≡ tableBytes) × (n ≡ entries (now t)) ⌝ }
-    ensures { λ r. ⌜ (r ≡ entryOf (now (t .entry)) m) × (r ≤ n) ⌝ }
-{
-    let mut k = 0;
-    while k < n {
-        if octets::le_at(t, 56 + 4 * k, 4) == m {
-            return k;
-        }
-        k += 1;
-    }
-    n
-}
-
-// Whether MPID m is listed, n being the number of entries.
-pub fn is_listed(t: &[u8], n: usize, m: u64) -> bool
-    requires { ⌜ (length (now t) ≡ tableBytes) × (n ≡ entries (now t)) ⌝ }
-    ensures { λ r. ⌜ r ≡ isListed (now (t .entry)) m ⌝ }
-{
-    entry_of(t, n, m) < n
-}
-
-// The mode of MPID m, 0 if it is not listed.
-pub fn mode_of(t: &[u8], m: u64) -> u64
-    requires { ⌜ length (now t) ≡ tableBytes ⌝ }
-    ensures { λ r. ⌜ r ≡ modeOf (now (t .entry)) m ⌝ }
-{
-    let n = entries(t);
-    let k = entry_of(t, n, m);
-    if k < n {
-        return octets::wide(t[88 + k]);
-    }
-    0
 }

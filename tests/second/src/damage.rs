@@ -30,13 +30,14 @@ fn damaged_draft(random: &mut Random, draft: Draft) -> Draft {
         odd_body_value, odd_body_value, odd_body_value, odd_body_value, odd_header_value, odd_header_value,
         empty_value, missing_field, missing_field, missing_fields, repeated_tag, foreign_tag, foreign_tag,
         unlisted_tag, unlisted_tag, odd_tag, swapped_fields, swapped_header, moved_field, odd_byte, odd_check_sum,
-        odd_length, odd_begin, long_message, other_msg_type,
+        odd_length, odd_begin, long_message, other_msg_type, odd_comp_ids,
     ];
     random.pick(KINDS)(random, draft)
 }
 
-/// The number of header fields in a draft, 35 to 56.
+/// The number of header fields in a draft, 35 to 56: of a message, and of a report, which has 50 besides.
 const HEADER: usize = 5;
+const REPORT_HEADER: usize = 6;
 
 fn any_field(random: &mut Random, draft: &Draft) -> Option<usize> {
     (!draft.fields.is_empty()).then(|| random.below(draft.fields.len()))
@@ -102,11 +103,16 @@ fn repeated_tag(random: &mut Random, mut draft: Draft) -> Draft {
 
 /// A tag of the three lists, whether or not it belongs to this type or is there already.
 fn foreign_tag(random: &mut Random, draft: Draft) -> Draft {
-    let tag = random.pick(&["1", "11", "21", "38", "40", "41", "44", "47", "54", "55", "59", "60", "109", "8060"]);
+    let tag =
+        random.pick(&["1", "1", "1", "11", "21", "38", "40", "41", "44", "47", "54", "55", "59", "60", "109", "8060"]);
     if draft.position(tag).is_some() && random.percent(80) {
         return draft;
     }
-    let value = if random.percent(70) { plain_value(tag).to_vec() } else { odd_value(random, tag.as_bytes()) };
+    let value = match random.below(4) {
+        0 => Vec::new(),
+        1 => odd_value(random, tag.as_bytes()),
+        _ => plain_value(tag).to_vec(),
+    };
     with_field(random, draft, tag.as_bytes(), &value)
 }
 
@@ -132,7 +138,7 @@ fn odd_tag(random: &mut Random, mut draft: Draft) -> Draft {
         let tag = String::from_utf8_lossy(&draft.fields[at].0).into_owned();
         let odd = match random.below(8) {
             0 => format!("0{tag}"),
-            1 => format!("{tag}0000"),
+            1 => format!("{tag:0<5}"),
             2 => String::new(),
             3 => format!("{tag}x"),
             4 => format!("-{tag}"),
@@ -239,6 +245,17 @@ fn other_msg_type(random: &mut Random, draft: Draft) -> Draft {
     draft.with("35", random.pick(&["D", "F", "G", "8", "9", "A", "0", "DD", "d", " ", "AB", "DFG"]))
 }
 
+/// Another 49, another 56, or both.
+fn odd_comp_ids(random: &mut Random, mut draft: Draft) -> Draft {
+    let which = random.below(3);
+    for (tag, is_odd) in [("49", which != 0), ("56", which != 1)] {
+        if let Some(at) = draft.position(tag).filter(|_| is_odd) {
+            draft.fields[at].1 = odd_value(random, tag.as_bytes());
+        }
+    }
+    draft
+}
+
 /// A value of the right shape for a tag of the three lists.
 fn plain_value(tag: &str) -> &'static [u8] {
     match tag {
@@ -265,7 +282,7 @@ fn odd_value(random: &mut Random, tag: &[u8]) -> Vec<u8> {
         " ", "=", "a b", "0123456789abcdef0123456789abcdef", "0123456789abcdef0123456789abcdef0", "|", ";", "\\", "~",
     ];
     let choices: &[&str] = match tag {
-        b"1" => &["0123456789", "0123456789a", " ", "a=b", ";"],
+        b"1" => &["0123456789", "0123456789a", "0123456789 ", "an account", " ", ";"],
         b"11" | b"41" => IDS,
         b"21" => &["2", "3", "11", " ", "x", "0"],
         b"38" => &[
@@ -275,7 +292,7 @@ fn odd_value(random: &mut Random, tag: &[u8]) -> Vec<u8> {
         b"40" => &["1", "3", "22", "P", " 2"],
         b"44" => &[
             "0", "-0", "-0.0", "-0.001", "000000", "000001.5", "999999.999", "-999999.999", "1000000", "0000001", "1.",
-            ".5", "-.5", "+1", "1.2345", "1.2.3", "-", ".", "--1", "1,5", " 1", "1e3", "0.100 ",
+            ".5", "-.5", "+1", "1.2345", "0.1000", "-0.0001", "1.2.3", "-", ".", "--1", "1,5", " 1", "1e3", "0.100 ",
         ],
         b"47" => &["A", "P", "a", "p", "I", "AP", " "],
         b"54" => &["0", "3", "5", "12", "B", " "],
@@ -286,7 +303,7 @@ fn odd_value(random: &mut Random, tag: &[u8]) -> Vec<u8> {
         b"8060" => &["0", "2", "7", "3", "6", "11", "H"],
         b"34" => &["0", "000000000", "000000007", "0000000007", "999999999", "1000000000", "-1", "1.0", "x", " 1"],
         b"35" => &["DD", "d", "8", " ", "D ", "DDD", "A", "~~"],
-        b"49" | b"56" => &["v", "VV", " ", "V ", "venue-with-a-long-name", "=", "0"],
+        b"49" | b"56" => &["v", "VV", " ", "V ", "venue-with-a-long-name", "=", "0", ""],
         _ => &["x", "0", "1", " "],
     };
     random.pick(choices).as_bytes().to_vec()
@@ -325,49 +342,52 @@ pub fn damaged_report(random: &mut Random, report: &[u8]) -> Vec<u8> {
     let Some(draft) = Draft::from_bytes(report) else {
         return damaged_bytes(random, report);
     };
-    match random.below(10) {
-        0 | 1 => damaged_bytes(random, report),
-        2 => changed_and_summed(random, report.to_vec()),
-        3 => reordered_report(random, draft).bytes(),
+    match random.below(12) {
+        0 => damaged_bytes(random, report),
+        1 => changed_and_summed(random, report.to_vec()),
+        2 => reordered_report(random, draft).bytes(),
+        3 => with_field_ascending(random, draft).bytes(),
+        4 if draft.position("41").or(draft.position("378")).is_some() => draft.without("41").without("378").bytes(),
         4 => odd_check_sum(random, draft).bytes(),
         5 => odd_length(random, draft).bytes(),
         _ => odd_report_field(random, draft).bytes(),
     }
 }
 
-/// Two fields in each other's place, neighbours mostly; one doubled, left out or put in.
+/// Two fields in each other's place, neighbours mostly; one doubled or left out.
 fn reordered_report(random: &mut Random, mut draft: Draft) -> Draft {
     let at = random.below(draft.fields.len());
-    match random.below(4) {
+    match random.below(3) {
         0 => {
             let other =
                 if random.percent(60) { (at + 1) % draft.fields.len() } else { random.below(draft.fields.len()) };
             draft.fields.swap(at, other);
         }
         1 => draft.fields.insert(at, draft.fields[at].clone()),
-        2 => drop(draft.fields.remove(at)),
-        _ => insert_ascending(random, &mut draft),
+        _ => drop(draft.fields.remove(at)),
     }
     draft
 }
 
-/// Puts in a field that the report may or may not have, where its tag belongs.
-fn insert_ascending(random: &mut Random, draft: &mut Draft) {
+/// A field more that such a report may or may not have, where its tag belongs.
+fn with_field_ascending(random: &mut Random, mut draft: Draft) -> Draft {
     let (tag, value) = random.pick(&[
-        (1, "acct"),
-        (41, "old"),
-        (58, "x"),
-        (109, "10"),
-        (110, "5"),
-        (378, "100"),
-        (378, "99"),
-        (797, "Y"),
-        (31, "0.100"),
+        ("1", "acct"),
+        ("31", "0.100"),
+        ("41", "old"),
+        ("41", "old"),
+        ("58", "x"),
+        ("109", "10"),
+        ("110", "5"),
+        ("378", "100"),
+        ("378", "99"),
+        ("797", "Y"),
     ]);
     let number = |text: &[u8]| String::from_utf8_lossy(text).parse::<u32>().unwrap_or(0);
-    let body = draft.fields.iter().skip(6);
-    let at = 6 + body.take_while(|field| number(&field.0) < tag).count();
-    draft.fields.insert(at.min(draft.fields.len()), (tag.to_string().into_bytes(), value.as_bytes().to_vec()));
+    let body = draft.fields.iter().skip(REPORT_HEADER);
+    let at = REPORT_HEADER + body.take_while(|field| number(&field.0) < number(tag.as_bytes())).count();
+    draft.fields.insert(at.min(draft.fields.len()), (tag.as_bytes().to_vec(), value.as_bytes().to_vec()));
+    draft
 }
 
 /// A field with a value at the limits of what a report may say, or empty.

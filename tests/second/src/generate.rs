@@ -7,7 +7,7 @@ use std::collections::VecDeque;
 
 use crate::compose::Draft;
 use crate::damage::{damaged, damaged_report};
-use crate::market::{Market, Participant};
+use crate::market::{Market, Participant, LAST_SUBMIT_NUMBER};
 use crate::order::{Order, Side};
 use crate::random::Random;
 use crate::report::split_reports;
@@ -39,7 +39,8 @@ struct Profile {
     damage: u64,
     /// Of a hundred messages before any damage, those that are a D.
     new_orders: u64,
-    /// Of a hundred D, those that are IOC, and those that carry an MPID.
+    /// Of a hundred D, those that sell, those that are IOC, and those that carry an MPID.
+    sells: u64,
     ioc: u64,
     with_mpid: u64,
     /// The least first number, and by how much it may be more.
@@ -51,6 +52,7 @@ const AROUND_ZERO: &[&str] = &["-0.002", "-0.001", "0", "-0", "0.001", "0.002", 
 const WIDE: &[&str] =
     &["-999999.999", "999999.999", "-1", "1", "0", "12.5", "-12.5", "100000", "-0.001", "0.001", "3.14", "-2.718"];
 const APART: &[&str] = &["0.5", "0.6", "0.7", "0.8", "0.50", "0.75"];
+const DEEP: &[&str] = &["0.100", "0.1", "0.100", "0.101"];
 const SMALL: &[&str] = &["1", "2", "3", "5", "7", "10", "10", "20", "0005"];
 const ROUND: &[&str] = &["100", "200", "500", "1200", "200", "100", "50", "000000100"];
 const LARGE: &[&str] = &["999999999", "999999999", "999999998", "500000000", "1", "2", "499999999"];
@@ -63,6 +65,7 @@ const PROFILES: &[Profile] = &[
         messages: 120,
         damage: 42,
         new_orders: 66,
+        sells: 50,
         ioc: 20,
         with_mpid: 75,
         first_number: (1, 0),
@@ -74,6 +77,7 @@ const PROFILES: &[Profile] = &[
         messages: 120,
         damage: 42,
         new_orders: 66,
+        sells: 50,
         ioc: 25,
         with_mpid: 60,
         first_number: (9_990, 20),
@@ -85,17 +89,19 @@ const PROFILES: &[Profile] = &[
         messages: 100,
         damage: 42,
         new_orders: 66,
+        sells: 50,
         ioc: 15,
         with_mpid: 50,
         first_number: (99_999_900, 200),
     },
     Profile {
         name: "deep levels",
-        yields: TIGHT,
+        yields: DEEP,
         quantities: LARGE,
         messages: 90,
         damage: 30,
         new_orders: 66,
+        sells: 85,
         ioc: 10,
         with_mpid: 50,
         first_number: (1, 1_000_000),
@@ -107,6 +113,7 @@ const PROFILES: &[Profile] = &[
         messages: 40,
         damage: 35,
         new_orders: 66,
+        sells: 50,
         ioc: 25,
         with_mpid: 70,
         first_number: (999_998_930, 50),
@@ -118,6 +125,7 @@ const PROFILES: &[Profile] = &[
         messages: 6,
         damage: 40,
         new_orders: 66,
+        sells: 50,
         ioc: 25,
         with_mpid: 70,
         first_number: (999_999_990, 9),
@@ -132,13 +140,14 @@ const FULL: Profile = Profile {
     messages: 460,
     damage: 12,
     new_orders: 88,
+    sells: 50,
     ioc: 8,
     with_mpid: 80,
     first_number: (1, 0),
 };
 
-/// How many messages must be left to be made before a table is filled.
-const LONG: u64 = 2_000;
+/// How many messages must be left to be made for a table to be filled.
+const LONG: u64 = 1_000;
 
 /// Reports that are kept for reading.
 const KEPT: usize = 16;
@@ -205,7 +214,7 @@ impl Generator {
     /// Opens the next market; before that, sometimes one with a wrong setting.
     fn open_market(&mut self, left: u64) {
         self.markets += 1;
-        self.profile = if left >= LONG && self.random.percent(25) {
+        self.profile = if self.markets % 13 == 7 && left >= LONG {
             FULL
         } else {
             PROFILES[(self.markets as usize - 1) % PROFILES.len()].clone()
@@ -285,6 +294,7 @@ impl Generator {
         let draw = self.random.below(100);
         if self.is_in_work() {
             match draw {
+                0..=39 if self.market().next_number() > LAST_SUBMIT_NUMBER => self.submit(),
                 0..=71 => self.run(),
                 72..=81 => self.submit(),
                 82..=88 => self.depth(),
@@ -293,10 +303,10 @@ impl Generator {
             }
         } else {
             match draw {
-                0..=77 => self.submit(),
-                78..=87 => self.depth(),
-                88..=90 => self.idle_run(),
-                91 => {
+                0..=73 => self.submit(),
+                74..=83 => self.depth(),
+                84..=86 => self.idle_run(),
+                87 => {
                     let wrong = self.wrong_open();
                     self.say(&wrong);
                 }
@@ -339,7 +349,7 @@ impl Generator {
             self.good_message().bytes()
         } else {
             let report = self.reports[self.random.below(kept)].clone();
-            if draw < 40 {
+            if draw < 30 {
                 report
             } else {
                 damaged_report(&mut self.random, &report)
@@ -398,7 +408,7 @@ impl Generator {
     fn new_order(&mut self) -> Draft {
         let mut draft = self.header("D");
         let id = self.new_id();
-        let side = self.random.pick(&["1", "2"]);
+        let side = if self.random.percent(self.profile.sells) { "2" } else { "1" };
         let (quantity, at) = (self.random.pick(self.profile.quantities), self.yield_for(side));
         if self.random.percent(20) {
             Self::add(&mut draft, "1", self.random.pick(&["A", "acct", "0123456789", "a b"]).as_bytes());

@@ -1,9 +1,7 @@
-//! The format of command files and transcripts, and limits that no command file can show.
+//! The format of command files and transcripts.
 
 use second::compose::Draft;
 use second::escape::{escaped, unescaped};
-use second::market::{Market, Participant, Refusal};
-use second::read::read;
 use second::transcript::{transcript, Command};
 
 #[test]
@@ -68,53 +66,4 @@ fn what_was_read_is_said_field_by_field() {
     );
     assert!(answer.contains(";41=\\x3b\\x7c\\x5c;102=1;434=1;10="));
     assert!(answer.ends_with(";\n"));
-}
-
-#[test]
-fn open_needs_1_to_8_entries() {
-    let list: Vec<Participant> = (1..=9).map(|mpid| Participant { mpid, mode: 1 }).collect();
-    for count in 0..=9 {
-        let opened = Market::open(b"V", b"P", b"350", 1, &list[..count]);
-        assert_eq!(opened.is_ok(), (1..=8).contains(&count));
-        assert!(opened.is_ok() || opened == Err(Refusal::SettingWrong));
-    }
-}
-
-#[test]
-fn refusals_have_the_papers_numbers() {
-    let in_order = [
-        Refusal::AreaTooSmall,
-        Refusal::NotAMarket,
-        Refusal::OrderInWork,
-        Refusal::NumbersSpent,
-        Refusal::Garbled,
-        Refusal::SessionRejected,
-        Refusal::OrderRejected,
-        Refusal::ChangeRejected,
-        Refusal::SettingWrong,
-        Refusal::SideWrong,
-        Refusal::NotAReport,
-    ];
-    assert_eq!(in_order.map(Refusal::number), [1, 2, 3, 4, 5, 6, 7, 8, 9, 10, 11]);
-}
-
-#[test]
-fn e15_the_longest_reports_are_394_bytes() {
-    let id = "x".repeat(32);
-    let head = "35=8|34=999999999|49=12345678|50=DJGB|52=20261116-09:00:00|56=12345678|1=0123456789|6=-999999.999999|";
-    let tail = "47=A|54=1|55=123456789|59=0|60=20261116-09:00:00|109=999999|";
-    let trade = format!(
-        "{head}11={id}|14=999999999|17=999999999|20=0|31=-999999.999|32=999999999|37=255|38=999999999|39=1|40=2|\
-         44=-999999.999|{tail}150=1|151=999999999|375=999999|382=1|423=9|851=1|880=999999999|8060=1|"
-    );
-    let replaced = format!(
-        "{head}11={id}|14=999999999|17=999999999|20=0|37=255|38=999999999|39=1|40=2|41={id}|44=-999999.999|{tail}\
-         150=5|151=999999999|378=100|423=9|8060=1|"
-    );
-    let lengths = [trade, replaced].map(|text| {
-        let bytes = Draft::of_text(&text).bytes();
-        assert!(read(&bytes).is_some());
-        bytes.len()
-    });
-    assert_eq!(lengths.into_iter().max(), Some(394));
 }

@@ -149,6 +149,7 @@ points! {
         p4_39_is_2_when_nothing_is_open
         p5_39_on_replaced_is_1_or_5
         p6_account_and_mpid_only_where_the_order_has_them
+        p7_11_and_44_always_stand_on_replaced
         p8_average_is_cut_toward_zero
         p9_replace_keeps_average_and_executed
         p10_own_yield_and_resting_yield

@@ -127,6 +127,16 @@ pub fn p6_account_and_mpid_only_where_the_order_has_them(script: &mut Script) {
     script.submit(&order_of("10", "a2", "2", "9", "0.1").adding("1", "x y"), 7, &["no 1", "no 109", "103=6"]);
 }
 
+pub fn p7_11_and_44_always_stand_on_replaced(script: &mut Script) {
+    script.say("P7: 11 and 44 stand on Replaced, requested or by a decrement");
+    script.open(3);
+    script.rests(&order_of("10", "a", "2", "9", "-0.5"));
+    script.taken(&replace("a", "b", "2", "9", "-0.25"), &["150=5", "11=b", "44=-0.250"]);
+    script.run(1, &[]);
+    script.taken(&order_of("10", "c", "1", "4", "-1"), &[]);
+    script.run(2, &[&["11=c", "44=-1.000", "39=4"], &["150=5", "11=b", "44=-0.250", "151=5"]]);
+}
+
 pub fn p8_average_is_cut_toward_zero(script: &mut Script) {
     script.say("P8: AvgPx is cut toward zero after dividing the whole sum: -0.002 over 3 is -0.000666");
     script.open(1);

@@ -3,7 +3,7 @@ use Prim.Native.Nat.{ℕ, _+_, _-_}
 use native.Mathlib.Omega.{arith}
 use borrow.Author.Tests.{eq-eqb, ne-eqb}
 use Rattle.table.specs.Orders.{isFree, filled}
-use Rattle.table.proofs.Lookups.{Sought, sought-start, sought-more, sought-here, sought-none}
+use Rattle.octets.proofs.Ranges.{Sought, sought-none, sought-more, sought-here, sought-end}
 use Rattle.table.proofs.book.filled.Statement.{statement}
 use Rattle.table.proofs.book.filled.Tie as tie
 
@@ -14,7 +14,7 @@ abbrev μ-loop : tie.MeasureT-loop
 μ-loop t k₀ k = 255 - k
 
 loop-holds : tie.Need-loop-holds Inv-loop μ-loop
-loop-holds c = sought-start _ 255
+loop-holds c = sought-none
 
 add-if1 : tie.Need-add-if1 Inv-loop μ-loop
 add-if1 c = omega arith
@@ -40,7 +40,7 @@ loop-again c = sought-more (c .before .before .before .loop .inv) (omega arith) 
 
 returns-2 : tie.Need-returns-2 Inv-loop μ-loop
 unfolding filled
-returns-2 c = (sought-none (c .before .loop .inv) (omega arith), omega arith)
+returns-2 c = (sought-end (c .before .loop .inv) (omega arith), c .before .loop .inv .within)
 
 pub filled-spec : {M : Type 1} → statement M
 filled-spec =

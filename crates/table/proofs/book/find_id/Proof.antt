@@ -4,7 +4,8 @@ use Prim.Native.Nat.{ℕ, _+_, _-_, _≤_, _<_}
 use native.Mathlib.Omega.{arith}
 use Rattle.octets.specs.Octets.{sameBytes}
 use Rattle.table.specs.Orders.{clOrdIdAt}
-use Rattle.table.proofs.Lookups.{Sought, sought-start, sought-more, id-here, id-none}
+use Rattle.octets.proofs.Ranges.{Sought, sought-none, sought-more}
+use Rattle.table.proofs.Lookups.{id-here, id-none}
 use Rattle.table.proofs.book.find_id.Statement.{statement}
 use Rattle.table.proofs.book.find_id.Tie as tie
 
@@ -15,7 +16,7 @@ abbrev μ-loop : tie.MeasureT-loop
 μ-loop t n m k₀ k = n - k
 
 loop-holds : tie.Need-loop-holds Inv-loop μ-loop
-loop-holds c = sought-start _ _
+loop-holds c = sought-none
 
 add-text-is : tie.Need-add-text-is Inv-loop μ-loop
 add-text-is c = omega arith
