@@ -1,6 +1,7 @@
 // Reports: rows of fields, their bytes, and reading them back.
 pub mod parse;
 pub mod read;
+pub mod rows;
 pub mod slots;
 pub mod values;
 pub mod write;
