@@ -1,5 +1,4 @@
 // Reports: rows of fields, their bytes, and reading them back.
-pub mod rows;
 pub mod parse;
 pub mod read;
 pub mod slots;
@@ -23,14 +22,6 @@ pub enum Value {
 pub struct Field {
     pub tag: u64,
     pub value: Value,
-}
-
-// Where a text stands: in the message that caused the report, or else in the table where it is stored; its first byte and how
-// many there are.
-pub struct Place {
-    pub sent: bool,
-    pub start: usize,
-    pub length: usize,
 }
 
 // What the value of a field may be: one of five characters; a number in a range; one of eight numbers; four characters; an
