@@ -9,12 +9,13 @@ use lib.ListN.{length}
 use Rattle.matching.specs.declared.Order.{Order}
 use Rattle.matching.specs.declared.Event.{Event}
 use Rattle.matching.specs.declared.Event.the-variants.{Accepted, Replaced, Withdrawn}
-use Rattle.matching.specs.Matching.{Book, at, openOf, buys, ahead, better, faces, partner, metBy, opposedTo, happens, bookAfter, workAfter, after, play, run}
+use Rattle.matching.specs.Matching.{Book, at, openOf, isBuy, buys, ahead, better, faces, partner, metBy, opposedTo, happens, bookAfter, workAfter, after, play, run}
 use Rattle.matching.specs.Accounts.{tally, trades, decrements, cancels, accepted, bought, sold, SelfTradeFree}
 use Rattle.matching.specs.Runs.{Ended, GoesOn}
 use Rattle.matching.specs.Held.{Covered, Sound, In, Uncrossed, Held, Enters, Renews}
 use Rattle.matching.specs.Happens.{Follow}
 use Rattle.matching.specs.Depth.{stands, levelAt, totalOf, ordersOf, overLevels, openOn, ordersOn}
+use Rattle.matching.proofs.Books.{open-low}
 use Rattle.matching.proofs.Steps.{step-is, run-plays, run-fits, run-keeps, happens-fits}
 use Rattle.matching.proofs.Conserved.{accounts, conserved-from, fits-follow, fits-accepted}
 use Rattle.matching.proofs.Fair.{run-fair, fair-balanced, fair-owners}
@@ -50,10 +51,18 @@ module _ (modes : ℕ → ℕ) (n : ℕ) (b : Book) (w : ℕ) (in-book : w ≤ l
   pub no-self-trade : SelfTradeFree b (run modes n b w .events)
   no-self-trade = fair-owners b (run-fair modes n b w in-book)
 
-  -- uncrossed: apart from the order in work; and wholly once the work has ended, the order in work being then 0, which is none
+  -- uncrossed: apart from the order in work
   pub uncrossed : Uncrossed b w → Uncrossed (run modes n b w .book) (run modes n b w .work)
   uncrossed =
       run-keeps Uncrossed modes (λ c v i x. step-uncrossed c v _ (happens-fits modes c v i) x (step-is modes c v)) n b w in-book
+
+  -- and wholly once the work has ended
+  pub uncrossed-wholly : Uncrossed b w → run modes n b w .work ≡ 0
+      → let c = run modes n b w .book in
+      (i j : ℕ) → isBuy (at c i) ≡ true → isBuy (at c j) ≡ false → 0 < openOf (at c i) → 0 < openOf (at c j) → at c j .level < at c i .level
+  uncrossed-wholly x z i j bi bj oi oj =
+      let c = run modes n b w .book in
+      uncrossed x i j (λ e. omega (arith, open-low c i oi)) (λ e. omega (arith, open-low c j oj)) bi bj oi oj
 
   -- in range: every order keeps its ranges; executed ≤ sum ≤ executed × 1,999,999,999, and canceled above 0 means nothing open
   pub in-range : ((k : ℕ) → In b k → Sound (at b k)) → (k : ℕ) → In (run modes n b w .book) k → Sound (at (run modes n b w .book) k)
