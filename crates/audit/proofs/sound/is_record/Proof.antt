@@ -1,5 +1,5 @@
 -- `audit::is_record` meets its contract.
-use Rattle.table.specs.Market.{isRecord}
+use Rattle.table.specs.Market.{isRecord, isCapacity, isClass}
 use borrow.Author.Needs.{needs}
 use Rattle.audit.proofs.sound.is_record.Statement.{statement}
 use Rattle.audit.proofs.sound.is_record.Tie as tie
@@ -32,7 +32,7 @@ all-zero-requires : tie.Need-all-zero-requires
 all-zero-requires c κs = search needs
 
 returns : tie.Need-returns
-unfolding isRecord
+unfolding isRecord isCapacity isClass
 returns c = cc
 
 pub is-record-spec : {M : Type 1} → statement M
