@@ -5,3 +5,4 @@ pub mod Walks
 pub mod Parses
 pub mod Frames
 pub mod Readings
+pub mod Taken
