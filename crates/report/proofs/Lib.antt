@@ -6,3 +6,4 @@ pub mod Parses
 pub mod Frames
 pub mod Readings
 pub mod Taken
+pub mod Only
