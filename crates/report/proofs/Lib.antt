@@ -7,3 +7,4 @@ pub mod Frames
 pub mod Readings
 pub mod Taken
 pub mod Only
+pub mod Back
