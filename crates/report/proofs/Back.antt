@@ -14,6 +14,7 @@ use Rattle.octets.specs.Octets.{partAt, sameBytes}
 use Rattle.octets.proofs.Bools.{split}
 use Rattle.decimal.specs.Writing.{decimal}
 use Rattle.decimal.specs.Canonical.{bareOf, within}
+use Rattle.decimal.specs.declared.Said.the-variants.{Value as Says, Wrong as Says-not}
 use Rattle.decimal.proofs.RoundTrip.{bare-back}
 use Rattle.report.specs.declared.Value.{Value}
 use Rattle.report.specs.declared.Value.the-variants.{Absent, Number, Char, Word, Sent, Stored, Level, Mean}
@@ -182,3 +183,66 @@ fits-short sent stored post slots fs (fits-some {slot} {f} {slots = ss} {fs = gs
       fit-taken sent stored slot f 0 p .few,
       fits-short sent stored post ss gs r,
     )
+
+-- ---- a whole report
+
+-- where the body begins
+abbrev pub start : List ℕ → ℕ
+start body = length (written 8 version ++ written 9 (decimal (length body)))
+
+ten : length (written 8 version) ≡ 10
+unfolding written label version decimal
+ten = refl
+
+length-back : (body : List ℕ) → 1 ≤ length body → length body ≤ 489 → fieldAt (reportBytes body) 10 lengthSlot ≡ Found (Number (length body)) (start body)
+unfolding reportBytes front
+length-back body l h =
+    let n = length body in
+    let tail = trailer (checkSum (written 8 version ++ written 9 (decimal n) ++ body)) in
+    let s-is : written 8 version ++ written 9 (decimal n) ++ body ++ tail ≡ written 8 version ++ (written 9 (decimal n) ++ (body ++ tail)) = simp append-assoc in
+    let says : within 1 999 (bareOf 9 (decimal n)) ≡ Says n = rw (bare-back 8 n (omega arith) (omega arith)) (simp (le-leb 1 n l, le-leb n 999 (omega arith))) in
+    let picked : (place : ℕ) → valueIn (lengthSlot .shape) place (decimal n) ≡ Is (Number n) = λ place. ap numberIn says in
+    let clean = taken (lengthSlot .shape) 0 (decimal n) (Number n) tt (picked 0) .clean in
+    ap (λ (s : List ℕ). fieldAt s 10 lengthSlot) s-is
+    ∙ ap (λ (k : ℕ). fieldAt (written 8 version ++ (written 9 (decimal n) ++ (body ++ tail))) k lengthSlot) (sym ten)
+    ∙ field-back (written 8 version) (decimal n) (body ++ tail) lengthSlot (Number n) clean (picked (length (written 8 version) + length (label 9)))
+    ∙ ap (λ (k : ℕ). Found (Number n) k) (sym (length-append (written 8 version) (written 9 (decimal n))))
+
+body-back : (body : List ℕ) → 1 ≤ length body → length body ≤ 489 → bodyAt (reportBytes body) ≡ Body (start body) (length body)
+unfolding bodyAt reportBytes front
+body-back body l h =
+    let n = length body in
+    let tail = trailer (checkSum (written 8 version ++ written 9 (decimal n) ++ body)) in
+    let s = written 8 version ++ written 9 (decimal n) ++ body ++ tail in
+    let s-is : s ≡ written 8 version ++ (written 9 (decimal n) ++ (body ++ tail)) = simp append-assoc in
+    let st : starts (written 8 version) s ≡ true = ap (starts (written 8 version)) s-is ∙ starts-back (written 8 version) (written 9 (decimal n) ++ (body ++ tail)) in
+    let len : start body + n ≤ length s =
+    omega (arith, length-append (written 8 version ++ written 9 (decimal n) ++ body) tail, length-append (written 8 version ++ written 9 (decimal n)) body) in
+    rw (st, length-back body l h) (simp (le-leb (start body + n) (length s) len))
+
+framed-in : (s : List ℕ) (slots : List Slot) (from len : ℕ) → bodyAt s ≡ Body from len → readFramed s slots ≡ checked s (from + len) (readRow s from slots)
+unfolding readFramed
+framed-in s slots from len e = rw e
+
+-- a written report is read back: its fields, each text where it stands in the report
+pub framed-back : (sent stored : List ℕ) (slots : List Slot) (fs : List Field) → 1 ≤ length (rowBytes sent stored fs) → length (rowBytes sent stored fs) ≤ 489
+    → Fits sent stored (trailer (checkSum (front (rowBytes sent stored fs)))) slots fs
+    → readFramed (reportBytes (rowBytes sent stored fs)) slots
+    ≡ row (backs sent stored (start (rowBytes sent stored fs)) fs) (start (rowBytes sent stored fs) + length (rowBytes sent stored fs))
+unfolding reportBytes front trailerAt
+framed-back sent stored slots fs l h f =
+    let body = rowBytes sent stored fs in
+    let n = length body in
+    let pre = written 8 version ++ written 9 (decimal n) in
+    let tail = trailer (checkSum (pre ++ body)) in
+    let s = pre ++ body ++ tail in
+    let s-is : s ≡ pre ++ (body ++ tail) = append-assoc pre body tail in
+    let read : readRow s (start body) slots ≡ row (backs sent stored (start body) fs) (start body + n) =
+    ap (λ (w : List ℕ). readRow w (start body) slots) s-is ∙ rows-back pre sent stored tail slots fs f in
+    let end : length (pre ++ body) ≡ start body + n = length-append pre body in
+    let before : take (start body + n) s ≡ pre ++ body = take-at (pre ++ body) tail (start body + n) end in
+    let after : drop (start body + n) s ≡ tail = drop-at (pre ++ body) tail (start body + n) end in
+    let sum : sameBytes (drop (start body + n) s) (trailer (checkSum (take (start body + n) s))) ≡ true = rw (before, after) (same-back tail) in
+    framed-in s slots (start body) n (body-back body l h)
+    ∙ ap (checked s (start body + n)) read
+    ∙ simp (eq-eqb (start body + n) (start body + n) refl, sum)

@@ -8,3 +8,4 @@ pub mod Readings
 pub mod Taken
 pub mod Only
 pub mod Back
+pub mod Tables
