@@ -1,6 +1,6 @@
 // Reports: rows of fields, their bytes, and reading them back.
-pub mod rows;
 pub mod parse;
+pub mod rows;
 pub mod values;
 pub mod write;
 

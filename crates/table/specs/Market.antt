@@ -23,12 +23,16 @@ unfoldable pub every : (ℕ → Bool) → List ℕ → Bool
 every f [] = true
 every f (x ∷ xs) = f x && every f xs
 
+-- a byte from low to high
+abbrev pub isBetween : ℕ → ℕ → ℕ → Bool
+isBetween low high x = leb low x && leb x high
+
 -- a character of a venue or port id, 21 to 7E hex, and one of a ClOrdID or an account, 20 to 7E hex
 abbrev pub isGraphic : ℕ → Bool
-isGraphic x = leb 33 x && leb x 126
+isGraphic x = isBetween 33 126 x
 
 abbrev pub isPrintable : ℕ → Bool
-isPrintable x = leb 32 x && leb x 126
+isPrintable x = isBetween 32 126 x
 
 -- zeros stand behind the text at place p, up to its room for n characters
 unfoldable pub isPadded : ℕ → List ℕ → ℕ → Bool
