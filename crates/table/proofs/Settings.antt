@@ -7,18 +7,20 @@ use Prim.Native.Nat.{ℕ, zero, suc, _+_, _*_, _-_, _≤_, _<_}
 use native.Mathlib.Nat.{add-zero}
 use native.Mathlib.Numerals.{add-one}
 use native.Mathlib.Omega.{arith}
-use lib.ListN.{length, getD, set, drop, length-set, drop-of-length-le}
+use mathlib.Core.Logic.{⊎-elim}
+use lib.ListN.{length, getD, set, drop, length-set, drop-of-length-le, replicate, List·getD-eq-default}
 use lib.Seq.{drop-cons}
 use lib.Dec.{eqb, leb}
-use borrow.Author.Tests.{eqb-true}
-use Rattle.octets.specs.Octets.{bytesOf, put}
+use borrow.Author.Tests.{eqb-true, leb-true, eq-eqb, ne-eqb}
+use Rattle.octets.specs.Octets.{bytesOf, put, putText}
 use Rattle.octets.specs.Tests.{allUpTo}
-use Rattle.octets.proofs.Bools.{both-r}
+use Rattle.octets.proofs.Bools.{both-l, both-r, both-not-r}
+use Rattle.octets.proofs.Ranges.{all-at}
 use Rattle.decimal.specs.Reading.{isDigit}
-use Rattle.octets.proofs.Places.{put-put, length-put, length-bytesOf}
-use Rattle.table.specs.Heading.{mpidBytes}
+use Rattle.octets.proofs.Places.{put-put, length-put, length-bytesOf, below-or}
+use Rattle.table.specs.Heading.{mpidBytes, putNext, putMpids, putModes}
 use Rattle.table.specs.Market.{every, isBetween}
-use Rattle.table.specs.Opened.{isName, isNew, isGiven, areGiven, areNames}
+use Rattle.table.specs.Opened.{isName, isNew, isGiven, areGiven, areNames, areSettings, namedTable, freshTable, isOpening, opened, openNumber}
 
 -- ---- a test of every byte that has come to byte i: from there on it gives the whole test's answer
 pub record Tested (f : ℕ → Bool) (s : List ℕ) (i : ℕ) : Type 0 where
@@ -137,3 +139,137 @@ module _ {t₀ ds t : List ℕ} {k : ℕ} (s : ModesPut t₀ ds t k) where
       let e : drop k ds ≡ [] = drop-of-length-le ds {i = k} l in
       let r : put t (88 + k) [] ≡ put t₀ 88 ds = rw e at (s .rest) in
       r
+
+-- ---- what good settings promise
+
+module _ (venue port code : List ℕ) (h : areNames venue port code ≡ true) where
+  pub venue-short : length venue ≤ 8
+  unfolding areNames isName
+  venue-short = leb-true _ _ (search (both-l, both-r))
+
+  pub port-short : length port ≤ 8
+  unfolding areNames isName
+  port-short = leb-true _ _ (search (both-l, both-r))
+
+  pub code-short : length code ≤ 9
+  unfolding areNames isName
+  code-short = leb-true _ _ (search (both-l, both-r))
+
+module _ (venue port code : List ℕ) (first : ℕ) (mpids modes : List ℕ) (h : areSettings venue port code first mpids modes ≡ true) where
+  pub settings-names : areNames venue port code ≡ true
+  unfolding areSettings
+  settings-names = search both-l
+
+  pub settings-low : 1 ≤ first
+  unfolding areSettings
+  settings-low = leb-true _ _ (search (both-l, both-r))
+
+  pub settings-high : first ≤ 999999999
+  unfolding areSettings
+  settings-high = leb-true _ _ (search (both-l, both-r))
+
+  pub settings-given : areGiven mpids modes ≡ true
+  unfolding areSettings
+  settings-given = search both-r
+
+module _ (mpids modes : List ℕ) (h : areGiven mpids modes ≡ true) where
+  pub given-some : 1 ≤ length mpids
+  unfolding areGiven
+  given-some = leb-true _ _ (search both-l)
+
+  pub given-few : length mpids ≤ 8
+  unfolding areGiven
+  given-few = leb-true _ _ (search (both-l, both-r))
+
+  pub given-same : length modes ≡ length mpids
+  unfolding areGiven
+  given-same = eqb-true _ _ (search (both-l, both-r))
+
+  pub given-each : (k : ℕ) → k < length mpids → isGiven mpids modes k ≡ true
+  unfolding areGiven
+  given-each k l = all-at (isGiven mpids modes) (length mpids) (search both-r) k l
+
+module _ (mpids modes : List ℕ) (k : ℕ) (h : isGiven mpids modes k ≡ true) where
+  pub given-low : 1 ≤ getD mpids k 0
+  unfolding isGiven
+  given-low = leb-true _ _ (search both-l)
+
+  pub given-high : getD mpids k 0 ≤ 999999
+  unfolding isGiven
+  given-high = leb-true _ _ (search (both-l, both-r))
+
+  pub mode-low : 1 ≤ getD modes k 0
+  unfolding isGiven
+  mode-low = leb-true _ _ (search (both-l, both-r))
+
+  pub mode-high : getD modes k 0 ≤ 3
+  unfolding isGiven
+  mode-high = leb-true _ _ (search (both-l, both-r))
+
+  pub given-new : isNew mpids k ≡ true
+  unfolding isGiven
+  given-new = search both-r
+
+-- a mode of good lists is a byte
+pub modes-small : (mpids modes : List ℕ) → areGiven mpids modes ≡ true → (k : ℕ) → getD modes k 0 < 256
+modes-small mpids modes h k =
+    ⊎-elim
+    (λ (l : k < length mpids). omega (arith, mode-high mpids modes k (given-each mpids modes h k l)))
+    (λ (l : length mpids ≤ k).
+    let z : length modes ≤ k = omega (arith, given-same mpids modes h) in
+    omega (arith, List·getD-eq-default modes 0 {n = k} z))
+    (below-or k (length mpids))
+
+pub modes-few : (mpids modes : List ℕ) → areGiven mpids modes ≡ true → length modes ≤ 8
+modes-few mpids modes h = omega (arith, given-few mpids modes h, given-same mpids modes h)
+
+-- ---- the answer and the table afterwards
+
+module _ (t venue port code : List ℕ) (first : ℕ) (mpids modes : List ℕ) where
+  pub answer-short : (length t ≡ 32768 → ⊥) → 9 ≡ openNumber t venue port code first mpids modes
+  unfolding openNumber isOpening
+  answer-short n = rw (ne-eqb (length t) 32768 n)
+
+  pub table-short : (length t ≡ 32768 → ⊥) → t ≡ opened t venue port code first mpids modes
+  unfolding opened isOpening
+  table-short n = rw (ne-eqb (length t) 32768 n)
+
+  pub answer-wrong : (a : Bool) → a ≡ areSettings venue port code first mpids modes → a ≡ false → 9 ≡ openNumber t venue port code first mpids modes
+  unfolding openNumber isOpening
+  answer-wrong a x z = rw (both-not-r (eqb (length t) 32768) (areSettings venue port code first mpids modes) (sym x ∙ z))
+
+  pub table-wrong : (a : Bool) → a ≡ areSettings venue port code first mpids modes → a ≡ false → t ≡ opened t venue port code first mpids modes
+  unfolding opened isOpening
+  table-wrong a x z = rw (both-not-r (eqb (length t) 32768) (areSettings venue port code first mpids modes) (sym x ∙ z))
+
+  pub answer-right : length t ≡ 32768 → areSettings venue port code first mpids modes ≡ true → 0 ≡ openNumber t venue port code first mpids modes
+  unfolding openNumber isOpening
+  answer-right l z = rw (eq-eqb (length t) 32768 l, z)
+
+  pub table-right : (u : List ℕ) → length t ≡ 32768 → areSettings venue port code first mpids modes ≡ true
+      → u ≡ freshTable venue port code first mpids modes → u ≡ opened t venue port code first mpids modes
+  unfolding opened isOpening
+  table-right u l z e = rw (eq-eqb (length t) 32768 l, z) e
+
+-- ---- the writes in turn
+
+pub settings-are : (venue port code : List ℕ) (first : ℕ) (mpids modes : List ℕ) (a g : Bool) → a ≡ areNames venue port code → g ≡ areGiven mpids modes
+    → (a && leb 1 first && leb first 999999999 && g) ≡ areSettings venue port code first mpids modes
+unfolding areSettings
+settings-are venue port code first mpids modes a g x y = rw (x, y)
+
+pub eight-small : (n : ℕ) → n ≤ 8 → n < 256
+eight-small n h = omega arith
+
+pub nine-small : (n : ℕ) → n ≤ 9 → n < 256
+nine-small n h = omega arith
+
+pub names-written : (t t1 t2 t3 t4 venue port code : List ℕ) → length t ≡ 32768 → t1 ≡ replicate (length t) 0 → t2 ≡ putText 8 t1 0 venue
+    → t3 ≡ putText 8 t2 9 port → t4 ≡ putText 9 t3 18 code → t4 ≡ namedTable venue port code
+unfolding namedTable
+names-written t t1 t2 t3 t4 venue port code l a b c d = rw (d, c, b, a, l)
+
+pub fresh-written : (t1 t2 t3 t4 venue port code : List ℕ) (first : ℕ) (mpids modes : List ℕ) → t1 ≡ namedTable venue port code → t2 ≡ putNext t1 first
+    → t3 ≡ putMpids t2 mpids → t4 ≡ putModes t3 modes → t4 ≡ freshTable venue port code first mpids modes
+unfolding freshTable
+fresh-written t1 t2 t3 t4 venue port code first mpids modes a b c d = rw (d, c, b, a)

@@ -41,10 +41,13 @@ unfoldable pub areSettings : List ℕ → List ℕ → List ℕ → ℕ → List
 areSettings venue port code first mpids modes =
     areNames venue port code && leb 1 first && leb first 999999999 && areGiven mpids modes
 
+-- a table of zeros with venue, port and code
+unfoldable pub namedTable : List ℕ → List ℕ → List ℕ → List ℕ
+namedTable venue port code = putCode (putPort (putVenue (replicate tableBytes 0) venue) port) code
+
 -- the whole table as it is opened: the settings and the first number, all else zero
 unfoldable pub freshTable : List ℕ → List ℕ → List ℕ → ℕ → List ℕ → List ℕ → List ℕ
-freshTable venue port code first mpids modes =
-    putModes (putMpids (putNext (putCode (putPort (putVenue (replicate tableBytes 0) venue) port) code) first) mpids) modes
+freshTable venue port code first mpids modes = putModes (putMpids (putNext (namedTable venue port code) first) mpids) modes
 
 module _ (t venue port code : List ℕ) (first : ℕ) (mpids modes : List ℕ) where
   -- opening is taken exactly if the table's length and every setting are right

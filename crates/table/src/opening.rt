@@ -8,7 +8,8 @@ ghost use Rattle.decimal.specs.Reading.{isDigit};
 ghost use Rattle.table.specs.Places.{tableBytes};
 ghost use Rattle.table.specs.Heading.{putMpids, putModes};
 ghost use Rattle.table.specs.Market.{every, isBetween, isGraphic};
-ghost use Rattle.table.specs.Opened.{isName, isNew, isGiven, areGiven, areNames, areSettings, freshTable, isOpening, opened, openNumber};
+ghost use Rattle.table.specs.Opened.{isName, isNew, isGiven, areGiven, areNames, areSettings, namedTable, freshTable, opened, openNumber};
+use crate::heading::put_next;
 
 // Whether every byte is from low to high.
 pub fn all_between(s: &[u8], low: u8, high: u8) -> bool
@@ -105,4 +106,70 @@ fn put_modes(t: &mut [u8], modes: &[u64])
         t[88 + k] = modes[k] as u8;
         k += 1;
     }
+}
+
+// Whether every setting is good.
+fn are_settings(
+    venue: &[u8],
+    port: &[u8],
+    code: &[u8],
+    first: u64,
+    mpids: &[u64],
+    modes: &[u64],
+) -> bool
+    ensures { λ r. ⌜ r ≡ areSettings (now (venue .entry)) (now (port .entry)) (now (code .entry)) first (now (mpids .entry)) (now (modes .entry)) ⌝ }
+{
+    are_names(venue, port, code) & (1 <= first) & (first <= 999999999) & are_given(mpids, modes)
+}
+
+// Makes the table zero, but for venue, port and code.
+fn write_names(t: &mut [u8], venue: &[u8], port: &[u8], code: &[u8])
+    requires { ⌜ (length (now t) ≡ tableBytes) × areNames (now venue) (now port) (now code) ≡ true ⌝ }
+    ensures { λ _. ⌜ now (t .exit) ≡ namedTable (now (venue .entry)) (now (port .entry)) (now (code .entry)) ⌝ }
+{
+    octets::clear(t);
+    octets::put_text(t, 0, 8, venue);
+    octets::put_text(t, 9, 8, port);
+    octets::put_text(t, 18, 9, code);
+}
+
+// Writes the whole table.
+fn write_fresh(
+    t: &mut [u8],
+    venue: &[u8],
+    port: &[u8],
+    code: &[u8],
+    first: u64,
+    mpids: &[u64],
+    modes: &[u64],
+)
+    requires { ⌜ (length (now t) ≡ tableBytes) × areSettings (now venue) (now port) (now code) first (now mpids) (now modes) ≡ true ⌝ }
+    ensures { λ _. ⌜ now (t .exit) ≡ freshTable (now (venue .entry)) (now (port .entry)) (now (code .entry)) first (now (mpids .entry)) (now (modes .entry)) ⌝ }
+{
+    write_names(t, venue, port, code);
+    put_next(t, first);
+    put_mpids(t, mpids);
+    put_modes(t, modes);
+}
+
+// Opens a market in the table: 0, or refusal 9 with nothing changed.
+pub fn open_table(
+    t: &mut [u8],
+    venue: &[u8],
+    port: &[u8],
+    code: &[u8],
+    first: u64,
+    mpids: &[u64],
+    modes: &[u64],
+) -> u64
+    ensures { λ r. ⌜ (r ≡ openNumber (now (t .entry)) (now (venue .entry)) (now (port .entry)) (now (code .entry)) first (now (mpids .entry)) (now (modes .entry))) × (now (t .exit) ≡ opened (now (t .entry)) (now (venue .entry)) (now (port .entry)) (now (code .entry)) first (now (mpids .entry)) (now (modes .entry))) ⌝ }
+{
+    if t.len() != 32768 {
+        return 9;
+    }
+    if !are_settings(venue, port, code, first, mpids, modes) {
+        return 9;
+    }
+    write_fresh(t, venue, port, code, first, mpids, modes);
+    0
 }
