@@ -1,9 +1,9 @@
 -- Book R's table is a market; tables with one clause broken are not. By computing.
 use mathlib.Core.Path.{_≡_, refl}
-use mathlib.Core.Bool.{Bool, true, false, cond}
+use mathlib.Core.Bool.{true, false}
 use mathlib.Core.List.{List, [], _∷_}
-use Prim.Native.Nat.{ℕ, _+_}
-use lib.ListN.{length, getD, set, replicate}
+use Prim.Native.Nat.{ℕ}
+use lib.ListN.{set}
 use Rattle.octets.specs.Octets.{leAt, bytesOf, put, partAt, textAt, textBytes, sameBytes, allZero}
 use Rattle.octets.specs.Tests.{allUpTo, firstFrom}
 use Rattle.decimal.specs.Reading.{isDigit, digitOf, isTime, isTimeLength, timeShaped, timeRanged, twoAt}
@@ -12,11 +12,11 @@ use Rattle.matching.specs.Matching.{openOf, meets, opposed, opposedTo, countOf,
 use Rattle.table.specs.Heading.{entries, entryOf, isListed, modeOf, mpidBytes, putWork, putNext}
 use Rattle.table.specs.Orders.{orderAt, filled, ordersFrom, bookOf, termBytes, amountBytes, fieldBytes, recordOf, accepted}
 use Rattle.table.specs.Market.{every, isPadded, isText, hasLength, hasNames, isEntry, hasList, hasSettings, hasNext, hasWork, hasSpare, restZero, isCapacity, isClass, isRecord, isRanged, isKnown, isWithin, isShut, isPriced, isOrder, hasOrders, isFreshId, hasIds, isFreshPlace, hasPlaces, isDone, noIoc, isClear, noCross, hasNumbers, isBook, isMarket}
-use Rattle.table.specs.Opened.{freshTable}
+use Rattle.table.specs.Opened.{namedTable, freshTable}
 
 -- opens all definitions
 computes : ℕ
-unfolding leAt bytesOf put partAt textAt textBytes sameBytes allZero allUpTo firstFrom isDigit digitOf isTime isTimeLength timeShaped timeRanged twoAt openOf meets opposed opposedTo countOf sumOver entries entryOf isListed modeOf mpidBytes orderAt filled ordersFrom bookOf termBytes amountBytes fieldBytes recordOf accepted every isPadded isText hasLength hasNames isEntry hasList hasSettings hasNext hasWork hasSpare restZero isCapacity isClass isRecord isRanged isKnown isWithin isShut isPriced isOrder hasOrders isFreshId hasIds isFreshPlace hasPlaces isDone noIoc isClear noCross hasNumbers isBook isMarket freshTable
+unfolding leAt bytesOf put partAt textAt textBytes sameBytes allZero allUpTo firstFrom isDigit digitOf isTime isTimeLength timeShaped timeRanged twoAt openOf meets opposed opposedTo countOf sumOver entries entryOf isListed modeOf mpidBytes orderAt filled ordersFrom bookOf termBytes amountBytes fieldBytes recordOf accepted every isPadded isText hasLength hasNames isEntry hasList hasSettings hasNext hasWork hasSpare restZero isCapacity isClass isRecord isRanged isKnown isWithin isShut isPriced isOrder hasOrders isFreshId hasIds isFreshPlace hasPlaces isDone noIoc isClear noCross hasNumbers isBook isMarket namedTable freshTable
 computes = 0
 
 abbrev order : ℕ → ℕ → ℕ → ℕ → ℕ → Order
