@@ -3,3 +3,9 @@ pub mod Scans
 pub mod Numbers
 pub mod Yields
 pub mod Rehearsed
+pub mod Digits
+pub mod Means
+pub mod Cases
+pub mod Afters
+pub mod RoundTrip
+pub mod Canon

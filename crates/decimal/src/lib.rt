@@ -1,5 +1,7 @@
-// Text against number: digits, yields, and times.
+// Text against number: digits, yields, averages, and times.
+pub mod canonical;
 pub mod read;
+pub mod write;
 
 // What a text says: a number, or none because it is not written as one.
 pub enum Said {

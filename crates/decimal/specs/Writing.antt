@@ -1,0 +1,55 @@
+-- How numbers are written: document 01, "The reports". A number has no needless zero; a yield has three decimals and AvgPx
+-- six; both have one whole digit or more, and zero has no minus. A yield is given as its level, which is 1,000,000,000 more
+-- than the thousandths, and AvgPx as its mean, which is 1,000,000,000,000 more than the millionths, so nothing here is below
+-- zero. Assumes nothing.
+use Prim.Native.Nat.{ℕ, zero, suc, _+_, _-_, _*_, _/_, _%_, _^_, _≤_, _<_}
+use mathlib.Core.Path.{_≡_}
+use mathlib.Core.Bool.{cond}
+use mathlib.Core.List.{List, [], _∷_, _++_}
+use lib.Dec.{ltb, eqb}
+
+-- n in at most so many digits, the most significant first, with no needless zero
+abbrev pub decimalIn : ℕ → ℕ → List ℕ
+decimalIn zero n = []
+decimalIn (suc k) n = cond (ltb n 10) ((48 + n) ∷ []) (decimalIn k (n / 10) ++ ((48 + n % 10) ∷ []))
+
+-- the digits of a number below 2 ^ 64, which has at most twenty
+unfoldable pub decimal : ℕ → List ℕ
+decimal n = decimalIn 20 n
+
+-- the last k digits of n, the most significant first, its zeros with them
+unfoldable pub places : ℕ → ℕ → List ℕ
+places zero n = []
+places (suc k) n = places k (n / 10) ++ ((48 + n % 10) ∷ [])
+
+-- the unit of a number with k decimals, k at most six
+pub record Scale (k unit : ℕ) : Type 0 where
+  pub unit-is : unit ≡ 10 ^ k
+  pub some : 0 < unit
+  pub most : unit ≤ 1000000
+
+-- an amount with k decimals, given in its smallest unit: the whole part, a point, the decimals
+unfoldable pub plain : ℕ → ℕ → List ℕ
+plain k m = decimal (m / 10 ^ k) ++ (46 ∷ []) ++ places k m
+
+-- what stands for zero where a number has k decimals: a number of at most six whole digits is above or below it by less
+abbrev pub zeroOf : ℕ → ℕ
+zeroOf k = 10 ^ k * 1000000
+
+-- the number with k decimals that v stands for: fixed 3 is a yield from its level, fixed 6 is AvgPx from its mean
+unfoldable pub fixed : ℕ → ℕ → List ℕ
+fixed k v = cond (ltb v (zeroOf k)) ((45 ∷ []) ++ plain k (zeroOf k - v)) (plain k (v - zeroOf k))
+
+-- ---- AvgPx
+
+-- d thousandths shared by e, in millionths, cut
+unfoldable pub shareOf : ℕ → ℕ → ℕ
+shareOf d e = d * 1000 / e
+
+-- the mean of what has executed, from the sum of quantity times level: cut toward zero; before any execution it is zero
+unfoldable pub meanOf : ℕ → ℕ → ℕ
+meanOf sum executed =
+    cond (eqb executed 0) 1000000000000
+    (cond (ltb sum (executed * 1000000000))
+    (1000000000000 - shareOf (executed * 1000000000 - sum) executed)
+    (1000000000000 + shareOf (sum - executed * 1000000000) executed))

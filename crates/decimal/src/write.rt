@@ -1,0 +1,124 @@
+// Numbers, yields and averages written as text into an area, from a place on. Each function answers the place behind the text.
+ghost use mathlib.Core.Path.{_≡_};
+ghost use mathlib.Core.List.{_∷_, []};
+ghost use Prim.Native.Nat.{_*_, _≤_, _<_};
+ghost use lib.ListN.{length};
+ghost use Rattle.octets.specs.Written.{Room, Wrote};
+ghost use Rattle.decimal.specs.Writing.{decimal, places, Scale, plain, fixed, shareOf, meanOf};
+
+// One byte.
+pub fn put_byte(out: &mut [u8], at: usize, b: u8) -> usize
+    requires { ⌜ Room (now out) at (b ∷ []) ⌝ }
+    ensures { λ r. ⌜ Wrote (now (out .entry)) at (b ∷ []) r (now (out .exit)) ⌝ }
+{
+    out[at] = b;
+    at + 1
+}
+
+// The last k digits of n, its zeros with them.
+pub fn put_places(out: &mut [u8], at: usize, k: usize, n: u64) -> usize
+    requires { ⌜ Room (now out) at (places k n) ⌝ }
+    ensures { λ r. ⌜ Wrote (now (out .entry)) at (places k n) r (now (out .exit)) ⌝ }
+{
+    let mut i = k;
+    let mut m = n;
+    while i > 0 {
+        i -= 1;
+        out[at + i] = 48 + (m % 10) as u8;
+        m = m / 10;
+    }
+    at + k
+}
+
+// How many digits n has.
+pub fn digits(n: u64) -> usize
+    ensures { λ r. ⌜ r ≡ length (decimal n) ⌝ }
+{
+    let mut k = 0;
+    let mut m = n;
+    while m >= 10000 {
+        m = m / 10000;
+        k += 4;
+    }
+    if m < 10 {
+        return k + 1;
+    }
+    if m < 100 {
+        return k + 2;
+    }
+    if m < 1000 {
+        return k + 3;
+    }
+    k + 4
+}
+
+// The digits of n, with no needless zero.
+pub fn put_decimal(out: &mut [u8], at: usize, n: u64) -> usize
+    requires { ⌜ Room (now out) at (decimal n) ⌝ }
+    ensures { λ r. ⌜ Wrote (now (out .entry)) at (decimal n) r (now (out .exit)) ⌝ }
+{
+    let k = digits(n);
+    put_places(out, at, k, n)
+}
+
+// The amount m with k decimals: its whole part, a point, and the rest.
+pub fn put_plain(out: &mut [u8], at: usize, k: usize, unit: u64, m: u64) -> usize
+    requires { ⌜ Scale k unit × Room (now out) at (plain k m) ⌝ }
+    ensures { λ r. ⌜ Wrote (now (out .entry)) at (plain k m) r (now (out .exit)) ⌝ }
+{
+    let a = put_decimal(out, at, m / unit);
+    let b = put_byte(out, a, b'.');
+    put_places(out, b, k, m)
+}
+
+// The number with k decimals that v stands for: a yield from its level, AvgPx from the mean.
+pub fn put_fixed(out: &mut [u8], at: usize, k: usize, unit: u64, v: u64) -> usize
+    requires { ⌜ Scale k unit × Room (now out) at (fixed k v) ⌝ }
+    ensures { λ r. ⌜ Wrote (now (out .entry)) at (fixed k v) r (now (out .exit)) ⌝ }
+{
+    let zero = unit * 1_000_000;
+    if v < zero {
+        let a = put_byte(out, at, b'-');
+        return put_plain(out, a, k, unit, zero - v);
+    }
+    put_plain(out, at, k, unit, v - zero)
+}
+
+// A yield, from its level.
+pub fn put_level(out: &mut [u8], at: usize, level: u64) -> usize
+    requires { ⌜ Room (now out) at (fixed 3 level) ⌝ }
+    ensures { λ r. ⌜ Wrote (now (out .entry)) at (fixed 3 level) r (now (out .exit)) ⌝ }
+{
+    put_fixed(out, at, 3, 1000, level)
+}
+
+// AvgPx, from the mean.
+pub fn put_mean(out: &mut [u8], at: usize, mean: u64) -> usize
+    requires { ⌜ Room (now out) at (fixed 6 mean) ⌝ }
+    ensures { λ r. ⌜ Wrote (now (out .entry)) at (fixed 6 mean) r (now (out .exit)) ⌝ }
+{
+    put_fixed(out, at, 6, 1_000_000, mean)
+}
+
+// The millionths of d thousandths over e: the whole part first, then the rest.
+fn share(d: u64, e: u64) -> u64
+    requires { ⌜ (0 < e) × (e < 1000000000) × (d ≤ e * 1000000000) ⌝ }
+    ensures { λ r. ⌜ (r ≡ shareOf d e) × (r ≤ 1000000000000) ⌝ }
+{
+    d / e * 1000 + d % e * 1000 / e
+}
+
+// The mean of what has executed, from the sum of quantity times level.
+pub fn mean_of(sum: u64, executed: u64) -> u64
+    requires { ⌜ (executed < 1000000000) × (sum ≤ executed * 2000000000) ⌝ }
+    ensures { λ r. ⌜ r ≡ meanOf sum executed ⌝ }
+{
+    if executed == 0 {
+        return 1_000_000_000_000;
+    }
+    let zero = executed * 1_000_000_000;
+    if sum < zero {
+        return 1_000_000_000_000 - share(zero - sum, executed);
+    }
+    1_000_000_000_000 + share(sum - zero, executed)
+}
