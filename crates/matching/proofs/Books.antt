@@ -75,6 +75,16 @@ open-high b (suc k) h =
 pub open-in : (b : Book) (k : ℕ) → 0 < openOf (at b k) → In b k
 open-in b k h = record { low = open-low b k h; high = open-high b k h }
 
+-- the number behind the last one is no order's yet
+pub at-new : (b : Book) → at b (suc (length b)) ≡ none
+at-new b = List·getD-eq-default b none (omega arith)
+
+-- an empty book has nothing open
+pub at-nothing : (k : ℕ) → openOf (at [] k) ≡ 0
+unfolding openOf
+at-nothing zero = refl
+at-nothing (suc k) = refl
+
 -- ---- sums over the first orders
 
 -- term by term the same, or at most

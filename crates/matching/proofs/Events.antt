@@ -1,5 +1,4 @@
 -- Events of the book: what an event changes and what it leaves, one event and then any list of them.
--- `Fit b e` says that e moves an amount of an order of the book that has it open; `Fits b es` that each of es does in turn.
 use mathlib.Core.Path.{_≡_, refl, sym, ap, _∙_}
 use mathlib.Core.Bool.{Bool, true, false, cond}
 use mathlib.Core.List.{List, [], _∷_, _++_}
@@ -17,30 +16,10 @@ use Rattle.matching.specs.declared.Event.the-variants.{Accepted, Replace
 use Rattle.matching.specs.Matching.{Book, at, openOf, who, amounts, change, after, play}
 use Rattle.matching.specs.Held.{Covered, In, amount, levelOf}
 use Rattle.matching.specs.Accounts.{tally, trades, decrements, cancels}
+use Rattle.matching.specs.Happens.{moves, Fit, Fits}
 use Rattle.matching.proofs.Books.{at-put-same, at-put-other, length-put}
 
 -- ---- one event
-
--- it moves an amount of an order that is there: all but an acceptance and a replacement do
-abbrev pub moves : Event → Bool
-moves (Accepted n o) = false
-moves (Replaced n l q p) = false
-moves (Withdrawn n q) = true
-moves (Canceled n q) = true
-moves (Decremented n q) = true
-moves (Traded n m q l) = true
-moves (Expired n q) = true
-
--- the event's order is in the book, has the amount open, and all that is canceled of it is all that is open
-pub record Fit (b : Book) (e : Event) : Type 0 where
-  pub moving : moves e ≡ true
-  pub inside : In b (who e)
-  pub enough : amount e ≤ openOf (at b (who e))
-  pub whole : 0 < cancels e → cancels e ≡ openOf (at b (who e))
-
-abbrev pub Fits : Book → List Event → Type 0
-Fits b [] = Unit {0}
-Fits b (e ∷ es) = Fit b e × Fits (after b e) es
 
 -- a moving event adds to the four amounts of its order what it executes, decrements, cancels, and what that is worth
 pub change-is : (e : Event) (o : Order) → moves e ≡ true
@@ -101,14 +80,21 @@ module _ (e : Event) (o : Order) (m : moves e ≡ true) where
   change-covered h s = rw (change-is e o m) (omega (arith, amount-is e))
 
 -- ---- the book after one event
+module _ (b : Book) (e : Event) (l : 0 < who e) (h : who e ≤ suc (length b)) where
+  pub after-here : at (after b e) (who e) ≡ change e (at b (who e))
+  unfolding after
+  after-here = at-put-same b (who e) _ l h
+
+  pub after-there : (k : ℕ) → k ≢ who e → at (after b e) k ≡ at b k
+  unfolding after
+  after-there k n = at-put-other b (who e) k _ h n
+
 module _ (b : Book) (e : Event) (f : Fit b e) where
   pub after-same : at (after b e) (who e) ≡ change e (at b (who e))
-  unfolding after
-  after-same = at-put-same b (who e) _ (f .inside .low) (omega (arith, f .inside .high))
+  after-same = after-here b e (f .inside .low) (omega (arith, f .inside .high))
 
   pub after-other : (k : ℕ) → k ≢ who e → at (after b e) k ≡ at b k
-  unfolding after
-  after-other k n = at-put-other b (who e) k _ (omega (arith, f .inside .high)) n
+  after-other = after-there b e (f .inside .low) (omega (arith, f .inside .high))
 
   pub length-after : length (after b e) ≡ length b
   unfolding after

@@ -2,3 +2,13 @@
 pub mod Values
 pub mod Books
 pub mod Events
+pub mod Steps
+pub mod Conserved
+pub mod Fair
+pub mod Crossing
+pub mod Ends
+pub mod Sounds
+pub mod Holding
+pub mod Requests
+pub mod Best
+pub mod Levels

@@ -1,6 +1,7 @@
 -- What a list of events says of each order: the quantity accepted, what was executed, decremented and canceled; and what was
 -- bought and sold in all. The amounts are the events' own, so nothing here looks at a book but for the sides.
 -- Assumes nothing.
+use mathlib.Core.Path.{_≡_}
 use Prim.Native.Nat.{ℕ, _+_}
 use mathlib.Core.Bool.{Bool, cond}
 use mathlib.Core.List.{List, [], _∷_}
@@ -68,3 +69,10 @@ bought b (e ∷ es) = cond (isBuy (at b (who e))) (trades e) 0 + bought b es
 unfoldable pub sold : Book → List Event → ℕ
 sold b [] = 0
 sold b (e ∷ es) = cond (isBuy (at b (who e))) 0 (trades e) + sold b es
+
+-- no trade is between two orders of one MPID, by the owners of the orders in b: MPIDs that are the same are none (0)
+pub data SelfTradeFree (b : Book) : List Event → Type 0 where
+  selfTradeFree : SelfTradeFree b []
+  quiet : {e : Event} {es : List Event} → trades e ≡ 0 → SelfTradeFree b es → SelfTradeFree b (e ∷ es)
+  apart : {n m q l : ℕ} {es : List Event} → (at b n .mpid ≡ at b m .mpid → at b n .mpid ≡ 0)
+      → SelfTradeFree b es → SelfTradeFree b (Traded n m q l ∷ es)

@@ -55,3 +55,24 @@ unfoldable pub depth : Book → ℕ → ℕ → Depth
 depth b s k =
     let l = levelAt b s k in
     cond (eqb l 0) NoLevel (Level l (total b s l) (orders b s l))
+
+-- what an answer says in numbers; no level counts for nothing
+abbrev pub totalOf : Depth → ℕ
+totalOf (Level l t n) = t
+totalOf NoLevel = 0
+
+abbrev pub ordersOf : Depth → ℕ
+ordersOf (Level l t n) = n
+ordersOf NoLevel = 0
+
+-- f of the answers for k below n, added up
+unfoldable pub overLevels : (Depth → ℕ) → Book → ℕ → ℕ → ℕ
+overLevels f b s zero = 0
+overLevels f b s (suc n) = overLevels f b s n + f (depth b s n)
+
+-- all that is open on side s, and the number of its open orders
+unfoldable pub openOn : Book → ℕ → ℕ
+openOn b s = sumOver (λ o. cond (stands s o) (openOf o) 0) b (length b)
+
+unfoldable pub ordersOn : Book → ℕ → ℕ
+ordersOn b s = countOf (stands s) b (length b)

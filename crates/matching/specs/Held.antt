@@ -2,14 +2,15 @@
 -- clauses from the ranges of the fields on). `Held` is what every step needs and leaves. Assumes nothing.
 use mathlib.Core.Path.{_≡_}
 use mathlib.Core.Bool.{Bool, true, false, _||_}
+use mathlib.Core.List.{List, [], _∷_}
 use mathlib.Core.Logic.{_≢_}
-use Prim.Native.Nat.{ℕ, _+_, _*_, _≤_, _<_}
+use Prim.Native.Nat.{ℕ, suc, _+_, _*_, _≤_, _<_}
 use lib.ListN.{length}
 use lib.Dec.{eqb}
 use Rattle.matching.specs.declared.Order.{Order}
 use Rattle.matching.specs.declared.Event.{Event}
 use Rattle.matching.specs.declared.Event.the-variants.{Accepted, Replaced, Withdrawn, Canceled, Decremented, Traded, Expired}
-use Rattle.matching.specs.Matching.{Book, at, openOf, isBuy, opposedTo}
+use Rattle.matching.specs.Matching.{Book, at, openOf, isBuy, opposedTo, who, after}
 
 -- executed, decremented and canceled are at most the quantity
 abbrev pub Covered : Order → Type 0
@@ -50,6 +51,7 @@ pub record Held (listed : ℕ → Bool) (next : ℕ) (b : Book) (w : ℕ) : Type
   pub places-below : (k : ℕ) → In b k → at b k .place < next
   pub no-ioc : (k : ℕ) → k ≢ w → at b k .tif ≡ 3 → openOf (at b k) ≡ 0
   pub uncrossed : Uncrossed b w
+  pub next-low : 0 < next
   pub next-high : next ≤ 1_000_000_000
   pub numbers : 0 < openOf (at b w) → next + 2 * opposedTo b w + 1 ≤ 1_000_000_000
 
@@ -72,7 +74,43 @@ levelOf (Decremented n q) = 0
 levelOf (Traded n m q l) = l
 levelOf (Expired n q) = 0
 
--- what it takes is open, and the level is one
+-- what it takes is open, and the level is in range
 pub record May (e : Event) (o : Order) : Type 0 where
   pub enough : amount e ≤ openOf o
   pub priced : levelOf e ≤ 1_999_999_999
+
+-- an event is ready to happen: its order is there, in its ranges, and may be changed so; and the same of events in turn
+pub record Ready (b : Book) (e : Event) : Type 0 where
+  pub inside : In b (who e)
+  pub sound : Sound (at b (who e))
+  pub may : May e (at b (who e))
+
+abbrev pub Readies : Book → List Event → Type 0
+Readies b [] = Unit {0}
+Readies b (e ∷ es) = Ready b e × Readies (after b e) es
+
+-- what Submit asks of a new order: the next number of the book and the next report number for its place, all fields in range,
+-- nothing executed, decremented or canceled, room in the table and numbers left
+pub record Enters (listed : ℕ → Bool) (next : ℕ) (b : Book) (n : ℕ) (o : Order) : Type 0 where
+  pub number : n ≡ suc (length b)
+  pub sound : Sound o
+  pub unexecuted : o .executed ≡ 0
+  pub undecremented : o .decremented ≡ 0
+  pub uncanceled : o .canceled ≡ 0
+  pub unsummed : o .sum ≡ 0
+  pub owned : (eqb (o .mpid) 0 || listed (o .mpid)) ≡ true
+  pub newest : o .place ≡ next
+  pub free : length b ≤ 254
+  pub numbered : next ≤ 999_998_976
+
+-- what it asks of a replacement: an order with something open, a quantity above what is executed and decremented
+pub record Renews (next : ℕ) (b : Book) (n l q p : ℕ) : Type 0 where
+  pub inside : In b n
+  pub live : 0 < openOf (at b n)
+  pub above : at b n .executed + at b n .decremented < q
+  pub qty-high : q ≤ 999_999_999
+  pub level-low : 0 < l
+  pub level-high : l ≤ 1_999_999_999
+  pub newest : p ≡ next
+  pub filled : length b ≤ 255
+  pub numbered : next ≤ 999_998_976

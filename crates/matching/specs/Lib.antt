@@ -4,3 +4,4 @@ pub mod Matching
 pub mod Depth
 pub mod Accounts
 pub mod Held
+pub mod Happens

@@ -245,18 +245,22 @@ run modes (suc n) b (suc k) =
     let rest = run modes n (bookAfter modes b w) (workAfter b w) in
     record { book = rest .book; work = rest .work; events = happens modes b w ++ rest .events; steps = suc (rest .steps) }
 
--- ---- how many orders a message can still meet, and how many numbers it can still use
+-- ---- how many orders a message can still meet, and how many reports it can still cause
 
 -- open opposite orders that w meets
 unfoldable pub metBy : Book → ℕ → ℕ
 metBy b w = countOf (faces (at b w)) b (length b)
 
--- open opposite orders, met or not
+-- r is open and opposite to o, met or not; and the number of those
 unfoldable pub opposed : Order → Order → Bool
 opposed o r = isOpen r && opposite o r
 
 unfoldable pub opposedTo : Book → ℕ → ℕ
 opposedTo b w = countOf (opposed (at b w)) b (length b)
+
+-- the reports that the work on w can still cause, at most: two for each open opposite order, and one at the end
+unfoldable pub mostReports : Book → ℕ → ℕ
+mostReports b w = cond (isOpen (at b w)) (2 * opposedTo b w + 1) 0
 
 -- the number of reports of a prevention, and of any outcome
 abbrev pub preventedReports : Prevention → ℕ

@@ -6,11 +6,9 @@ use Prim.Native.Nat.{ℕ, zero, suc, _+_, _*_, _-_, _≤_, _<_}
 use native.Mathlib.Nat.{not-suc-le-zero, add-zero}
 use native.Mathlib.Numerals.{add-one}
 use native.Mathlib.Omega.{arith}
-use mathlib.Core.Logic.{⊎-elim}
-use lib.ListN.{length, getD, List·getD-eq-default}
-use Rattle.octets.proofs.Places.{below-or}
+use lib.ListN.{length, getD}
 use Rattle.matching.specs.declared.Order.{Order}
-use Rattle.matching.specs.Matching.{Book, none, at, openOf}
+use Rattle.matching.specs.Matching.{Book, none, at}
 use Rattle.table.specs.Orders.{orderAt, filled, ordersFrom, bookOf}
 
 pub length-orders : (t : List ℕ) (i n : ℕ) → length (ordersFrom t i n) ≡ n
@@ -33,20 +31,3 @@ pub at-book : (t : List ℕ) (k : ℕ) → 1 ≤ k → k ≤ filled t → at (bo
 unfolding bookOf
 at-book t zero l h = absurd (omega arith)
 at-book t (suc k) l h = orders-at t 1 (filled t) k none (omega arith) ∙ ap (λ (j : ℕ). orderAt t j) (omega arith)
-
--- an order with something open is in the book
-pub open-low : (b : Book) (k : ℕ) → 0 < openOf (at b k) → 1 ≤ k
-unfolding openOf
-open-low b zero h = absurd (omega arith)
-open-low b (suc k) h = omega arith
-
-pub open-high : (b : Book) (k : ℕ) → 0 < openOf (at b k) → k ≤ length b
-unfolding openOf
-open-high b zero h = omega arith
-open-high b (suc k) h =
-    ⊎-elim (λ (l : k < length b). l)
-    (λ (l : length b ≤ k).
-    let e : getD b k none ≡ none = List·getD-eq-default b none l in
-    let z : 0 < openOf none = rw e at h in
-    absurd (omega arith))
-    (below-or k (length b))

@@ -2,30 +2,29 @@
 use mathlib.Core.Path.{_≡_, refl, sym, ap, _∙_}
 use mathlib.Core.Bool.{Bool, true, false, not, cond, _&&_, _||_}
 use mathlib.Core.List.{List}
-use mathlib.Core.Logic.{_⊎_, inl, inr}
+use mathlib.Core.Logic.{⊎-elim}
 use Prim.Native.Nat.{ℕ, zero, suc, _+_, _*_, _-_, _≤_, _<_}
 use native.Mathlib.Numerals.{add-one}
 use native.Mathlib.Omega.{arith}
 use lib.Dec.{eqb, leb, ltb}
-use lib.ListN.{length}
+use lib.ListN.{length, getD, List·getD-eq-default}
+use Rattle.octets.proofs.Places.{below-or}
 use borrow.Author.Tests.{ltb-true, ltb-false, leb-true, leb-false, eqb-true, eqb-false, lt-ltb, le-ltb, le-leb, lt-leb, eq-eqb, ne-eqb, not-true}
 use Rattle.octets.specs.Octets.{sameBytes}
 use Rattle.octets.specs.Tests.{allUpTo}
 use Rattle.octets.proofs.Bools.{split, both-i, both-l, both-r, or-l, or-r}
 use Rattle.octets.proofs.Ranges.{all-at, all-from}
 use Rattle.matching.specs.declared.Order.{Order}
-use Rattle.matching.specs.Matching.{Book, at, openOf, isBuy, isOpen, crosses, opposedTo}
-use Rattle.table.specs.Heading.{nextOf, workOf}
+use Rattle.matching.specs.Matching.{Book, none, at, openOf, isBuy, isOpen, crosses, opposedTo}
+use Rattle.matching.specs.Held.{Sound, In, Held}
+use Rattle.matching.proofs.Books.{open-low, open-high}
+use Rattle.table.specs.Heading.{nextOf, workOf, isListed}
 use Rattle.table.specs.Orders.{clOrdIdAt, orderAt, filled, bookOf}
 use Rattle.table.specs.Market.{hasLength, hasSettings, hasNext, hasWork, hasSpare, restZero, isRecord, isRanged, isKnown, isWithin, isShut, isPriced, isOrder, hasOrders, isFreshId, hasIds, isFreshPlace, hasPlaces, isDone, noIoc, isClear, noCross, hasNumbers, isBook, isMarket}
-use Rattle.table.specs.Facts.{Held, Standing, Market}
-use Rattle.table.proofs.Books.{length-book, at-book, open-low, open-high}
+use Rattle.table.specs.Facts.{Market}
+use Rattle.table.proofs.Books.{length-book, at-book}
 
 -- ---- tests taken apart
-
-or-either : (a b : Bool) → (a || b) ≡ true → (a ≡ true) ⊎ (b ≡ true)
-or-either true b h = inl refl
-or-either false b h = inr h
 
 or-second : (a b : Bool) → b ≡ true → (a || b) ≡ true
 or-second true b h = refl
@@ -36,53 +35,44 @@ not-i h = rw h
 
 -- ---- one order
 
-pub held-facts : (o : Order) → isRanged o ≡ true → isWithin o ≡ true → isShut o ≡ true → isPriced o ≡ true → Held o
+pub sound-facts : (o : Order) → isRanged o ≡ true → isWithin o ≡ true → isShut o ≡ true → isPriced o ≡ true → Sound o
 unfolding isRanged isWithin isShut isPriced
-held-facts o r w s p =
+sound-facts o r w s p =
     record {
-      side-low = leb-true _ _ (search (both-l, both-r) depth 9);
-      side-high = leb-true _ _ (search (both-l, both-r) depth 9);
-      day-or-ioc = which (or-either (eqb (o .tif) 0) (eqb (o .tif) 3) (search (both-l, both-r) depth 9));
-      level-low = leb-true _ _ (search (both-l, both-r));
-      level-high = leb-true _ _ (search (both-l, both-r));
+      sides = search (both-l, both-r) depth 9;
+      tifs = search (both-l, both-r) depth 9;
+      level-low = leb-true _ _ (search (both-l, both-r) depth 9);
+      level-high = leb-true _ _ (search (both-l, both-r) depth 9);
       qty-low = leb-true _ _ (search (both-l, both-r));
       qty-high = leb-true _ _ (search (both-l, both-r));
-      place-low = leb-true _ _ (search (both-l, both-r));
-      within = leb-true _ _ w;
-      shut = λ c. eqb-true _ _ (or-r _ _ s (ne-eqb (o .canceled) 0 (λ e. omega arith)));
-      sum-low = leb-true _ _ (search (both-l, both-r));
-      sum-high = leb-true _ _ (search (both-l, both-r));
+      covered = leb-true _ _ w;
+      dead = λ c. eqb-true _ _ (or-r _ _ s (ne-eqb (o .canceled) 0 (λ e. omega arith)));
+      sum-low = leb-true _ _ (search both-l);
+      sum-high = leb-true _ _ (search both-r);
+      place-low = leb-true _ _ (search both-r);
     }
-  where
-    which : (eqb (o .tif) 0 ≡ true) ⊎ (eqb (o .tif) 3 ≡ true) → (o .tif ≡ 0) ⊎ (o .tif ≡ 3)
-    which (inl h) = inl (eqb-true _ _ h)
-    which (inr h) = inr (eqb-true _ _ h)
 
-pub held-ranged : (o : Order) → Held o → isRanged o ≡ true
+pub sound-ranged : (o : Order) → Sound o → isRanged o ≡ true
 unfolding isRanged
-held-ranged o h =
-    both-i (both-i (both-i (both-i (both-i (both-i (both-i
-    (le-leb _ _ (h .side-low)) (le-leb _ _ (h .side-high))) (which (h .day-or-ioc)))
+sound-ranged o h =
+    both-i (both-i (both-i (both-i (both-i (both-i
+    (h .sides) (h .tifs))
     (le-leb _ _ (h .level-low))) (le-leb _ _ (h .level-high)))
     (le-leb _ _ (h .qty-low))) (le-leb _ _ (h .qty-high))) (le-leb _ _ (h .place-low))
-  where
-    which : (o .tif ≡ 0) ⊎ (o .tif ≡ 3) → (eqb (o .tif) 0 || eqb (o .tif) 3) ≡ true
-    which (inl e) = or-l _ (eqb (o .tif) 3) (eq-eqb _ _ e)
-    which (inr e) = or-second (eqb (o .tif) 0) _ (eq-eqb _ _ e)
 
-pub held-within : (o : Order) → Held o → isWithin o ≡ true
+pub sound-within : (o : Order) → Sound o → isWithin o ≡ true
 unfolding isWithin
-held-within o h = le-leb _ _ (h .within)
+sound-within o h = le-leb _ _ (h .covered)
 
-pub held-shut : (o : Order) → Held o → isShut o ≡ true
+pub sound-shut : (o : Order) → Sound o → isShut o ≡ true
 unfolding isShut
-held-shut o h =
+sound-shut o h =
     split (eqb (o .canceled) 0) (λ e. or-l _ (eqb (openOf o) 0) e)
-    (λ e. or-second (eqb (o .canceled) 0) _ (eq-eqb _ _ (h .shut (omega (arith, eqb-false)))))
+    (λ e. or-second (eqb (o .canceled) 0) _ (eq-eqb _ _ (h .dead (omega (arith, eqb-false)))))
 
-pub held-priced : (o : Order) → Held o → isPriced o ≡ true
+pub sound-priced : (o : Order) → Sound o → isPriced o ≡ true
 unfolding isPriced
-held-priced o h = both-i (le-leb _ _ (h .sum-low)) (le-leb _ _ (h .sum-high))
+sound-priced o h = both-i (le-leb _ _ (h .sum-low)) (le-leb _ _ (h .sum-high))
 
 -- an IOC that is done has nothing open
 done-order : (o : Order) → isDone o ≡ true → o .tif ≡ 3 → openOf o ≡ 0
@@ -149,6 +139,14 @@ module _ (b : Book) (w next : ℕ) where
         λ j i g e. eqb-false _ _ (not-true _ (upto-at (λ (i : ℕ). not (eqb (at b i .place) (at b (suc k) .place))) k (both-r (ltb (at b (suc k) .place) next) _ f) j i (omega arith))) e,
       )
 
+  apart : hasPlaces b next ≡ true → (j k : ℕ) → In b j → In b k → at b j .place ≡ at b k .place → j ≡ k
+  apart h j k jl kl e =
+      ⊎-elim (λ (l : j < k). absurd (place-facts h k (kl .low) (kl .high) .1 j (jl .low) l e))
+      (λ (l : k ≤ j).
+      ⊎-elim (λ (m : k < j). absurd (place-facts h j (jl .low) (jl .high) .1 k (kl .low) m (sym e)))
+      (λ (m : j ≤ k). omega arith) (below-or k j))
+      (below-or j k)
+
   facts-place : ((k : ℕ) → 1 ≤ k → k ≤ length b → at b k .place < next)
       → ((j k : ℕ) → 1 ≤ j → j < k → k ≤ length b → at b j .place ≡ at b k .place → ⊥) → hasPlaces b next ≡ true
   unfolding hasPlaces isFreshPlace
@@ -204,29 +202,18 @@ module _ (b : Book) (w next : ℕ) where
       (λ e. or-second (not (isOpen (at b w))) _ (le-leb _ _ (h (ltb-true 0 (openOf (at b w)) e))))
       (λ e. or-l (not (isOpen (at b w))) (leb (next + 2 * opposedTo b w + 1) 1000000000) (not-i e))
 
-  -- all of it
-  pub standing-facts : isBook b w next ≡ true → Standing b w next
-  unfolding isBook
-  standing-facts h =
-      let p : hasPlaces b next ≡ true = search (both-l, both-r) in
-      let i : noIoc b w ≡ true = search (both-l, both-r) in
-      let x : noCross b w ≡ true = search (both-l, both-r) in
-      let n : hasNumbers b w next ≡ true = search (both-l, both-r) in
-      record {
-        below = λ k l m. place-facts p k l m .0;
-        places = λ j k i l m. place-facts p k (omega arith) m .1 j i l;
-        done = done-facts i;
-        uncrossed = λ j k nj nk bj bk oj ok.
-            clear-order (at b j) (at b k) (cross-facts x j k (open-low b j oj) (open-high b j oj) (open-low b k ok) (open-high b k ok) nj nk) bj bk oj ok;
-        numbers = number-facts n;
-      }
-
-  pub facts-standing : Standing b w next → isBook b w next ≡ true
-  unfolding isBook
-  facts-standing s =
-      both-i (both-i (both-i (facts-place (s .below) (s .places)) (facts-done (s .done)))
-      (facts-cross (λ j k nj nk. order-clear (at b j) (at b k) (s .uncrossed j k nj nk))))
-      (facts-number (s .numbers))
+-- an order out of the book is no IOC
+ioc-in : (b : Book) (k : ℕ) → at b k .tif ≡ 3 → (1 ≤ k) × (k ≤ length b)
+ioc-in b zero e = absurd (omega arith)
+ioc-in b (suc k) e = (
+  omega arith,
+  ⊎-elim (λ (l : k < length b). l)
+      (λ (l : length b ≤ k).
+      let d : getD b k none ≡ none = List·getD-eq-default b none l in
+      let z : 0 ≡ 3 = rw d at e in
+      absurd (omega arith))
+      (below-or k (length b)),
+)
 
 -- ---- the table
 
@@ -255,9 +242,9 @@ module _ (t : List ℕ) where
       all-from (isFreshId t) (filled t) (λ j l.
       record-from (λ i. not (sameBytes (clOrdIdAt t i) (clOrdIdAt t (j + 1)))) j (λ i m n. not-i (h i (j + 1) m (omega arith) (omega arith))))
 
-  order-facts : (i : ℕ) → isOrder t i ≡ true → Held (orderAt t i)
+  order-sound : (i : ℕ) → isOrder t i ≡ true → Sound (orderAt t i)
   unfolding isOrder
-  order-facts i h = held-facts (orderAt t i) (search (both-l, both-r)) (search (both-l, both-r)) (search (both-l, both-r)) (search (both-l, both-r))
+  order-sound i h = sound-facts (orderAt t i) (search (both-l, both-r)) (search (both-l, both-r)) (search (both-l, both-r)) (search (both-l, both-r))
 
   order-record : (i : ℕ) → isOrder t i ≡ true → isRecord t i ≡ true
   unfolding isOrder
@@ -267,41 +254,92 @@ module _ (t : List ℕ) where
   unfolding isOrder
   order-known i h = search (both-l, both-r)
 
-  facts-order : (i : ℕ) → isRecord t i ≡ true → isKnown t (orderAt t i .mpid) ≡ true → Held (orderAt t i) → isOrder t i ≡ true
+  facts-order : (i : ℕ) → isRecord t i ≡ true → isKnown t (orderAt t i .mpid) ≡ true → Sound (orderAt t i) → isOrder t i ≡ true
   unfolding isOrder
   facts-order i r k h =
-      both-i (both-i (both-i (both-i (both-i r (held-ranged (orderAt t i) h)) k) (held-within (orderAt t i) h)) (held-shut (orderAt t i) h))
-      (held-priced (orderAt t i) h)
+      both-i (both-i (both-i (both-i (both-i r (sound-ranged (orderAt t i) h)) k) (sound-within (orderAt t i) h)) (sound-shut (orderAt t i) h))
+      (sound-priced (orderAt t i) h)
+
+  work-within : hasWork t ≡ true → workOf t ≤ filled t
+  unfolding hasWork
+  work-within h = leb-true _ _ (search both-l)
+
+  -- what matching works with
+  book-facts : hasNext t ≡ true → hasWork t ≡ true → ((i : ℕ) → 1 ≤ i → i ≤ filled t → isOrder t i ≡ true)
+      → isBook (bookOf t) (workOf t) (nextOf t) ≡ true → Held (isListed t) (nextOf t) (bookOf t) (workOf t)
+  unfolding isBook hasNext isKnown
+  book-facts n g is h =
+      let b : Book = bookOf t in
+      let w : ℕ = workOf t in
+      let x : ℕ = nextOf t in
+      let size : length b ≡ filled t = length-book t in
+      let within = work-within g in
+      let p : hasPlaces b x ≡ true = search (both-l, both-r) in
+      let i : noIoc b w ≡ true = search (both-l, both-r) in
+      let c : noCross b w ≡ true = search (both-l, both-r) in
+      let m : hasNumbers b w x ≡ true = search (both-l, both-r) in
+      record {
+        work = omega arith;
+        sound = λ k l. rw (at-book t k (l .low) (omega (arith, l .high))) (order-sound k (is k (l .low) (omega (arith, l .high))));
+        owned = λ k l. rw (at-book t k (l .low) (omega (arith, l .high))) (order-known k (is k (l .low) (omega (arith, l .high))));
+        places-apart = λ j k jl kl e. apart b w x p j k jl kl e;
+        places-below = λ k l. place-facts b w x p k (l .low) (l .high) .0;
+        no-ioc = λ k nk e. let l = ioc-in b k e in done-facts b w x i k (l .0) (l .1) nk e;
+        uncrossed = λ j k nj nk bj bk oj ok.
+            clear-order (at b j) (at b k) (cross-facts b w x c j k (open-low b j oj) (open-high b j oj) (open-low b k ok) (open-high b k ok) nj nk) bj bk oj ok;
+        next-high = leb-true _ _ (both-r (leb 1 (nextOf t)) _ n);
+        numbers = number-facts b w x m;
+      }
+
+  facts-book : Held (isListed t) (nextOf t) (bookOf t) (workOf t) → isBook (bookOf t) (workOf t) (nextOf t) ≡ true
+  unfolding isBook
+  facts-book h =
+      let b : Book = bookOf t in
+      let w : ℕ = workOf t in
+      let x : ℕ = nextOf t in
+      both-i (both-i (both-i
+      (facts-place b w x (λ k l m. h .places-below k (record { low = l; high = m }))
+      (λ j k l m n e.
+      let q : j ≡ k = h .places-apart j k (record { low = l; high = omega arith }) (record { low = omega arith; high = n }) e in
+      omega arith))
+      (facts-done b w x (λ k l m. h .no-ioc k)))
+      (facts-cross b w x (λ j k nj nk. order-clear (at b j) (at b k) (h .uncrossed j k nj nk))))
+      (facts-number b w x (h .numbers))
 
   -- what the test says of a market
   pub market-facts : isMarket t ≡ true → Market t
   unfolding isMarket hasLength hasNext hasOrders
   market-facts h =
       let n : hasNext t ≡ true = search (both-l, both-r) depth 9 in
+      let w : hasWork t ≡ true = search (both-l, both-r) depth 9 in
       let o : hasOrders t ≡ true = search (both-l, both-r) depth 9 in
+      let b : isBook (bookOf t) (workOf t) (nextOf t) ≡ true = search both-r in
       let is : (i : ℕ) → 1 ≤ i → i ≤ filled t → isOrder t i ≡ true = record-at (isOrder t) (filled t) o in
       record {
-        long = eqb-true _ _ (search (both-l, both-r) depth 10);
+        long = eqb-true _ _ (search both-l depth 10);
         settings = search (both-l, both-r) depth 9;
-        next-low = leb-true _ _ (search (both-l, both-r));
-        next-high = leb-true _ _ (search (both-l, both-r));
-        work = search (both-l, both-r) depth 9;
+        next-low = leb-true _ _ (both-l _ (leb (nextOf t) 1000000000) n);
+        work = w;
         spare = search (both-l, both-r) depth 9;
         rest = search (both-l, both-r) depth 9;
         records = λ i l m. order-record i (is i l m);
-        orders = λ i l m. order-facts i (is i l m);
-        known = λ i l m. order-known i (is i l m);
         ids = id-facts (search (both-l, both-r) depth 9);
-        standing = standing-facts (bookOf t) (workOf t) (nextOf t) (search (both-l, both-r) depth 9);
+        held = book-facts n w is b;
       }
 
   -- and back
   pub facts-market : Market t → isMarket t ≡ true
-  unfolding isMarket hasLength hasNext hasOrders
+  unfolding isMarket hasLength hasNext hasOrders isKnown
   facts-market m =
+      let h = m .held in
+      let size : length (bookOf t) ≡ filled t = length-book t in
+      let in-book : (i : ℕ) → 1 ≤ i → i ≤ filled t → In (bookOf t) i = λ i l n. record { low = l; high = omega arith } in
       both-i (both-i (both-i (both-i (both-i (both-i (both-i (both-i
       (eq-eqb _ _ (m .long)) (m .settings))
-      (both-i (le-leb _ _ (m .next-low)) (le-leb _ _ (m .next-high)))) (m .work)) (m .spare)) (m .rest))
-      (record-from (isOrder t) (filled t) (λ i l n. facts-order i (m .records i l n) (m .known i l n) (m .orders i l n))))
+      (both-i (le-leb _ _ (m .next-low)) (le-leb _ _ (h .next-high)))) (m .work)) (m .spare)) (m .rest))
+      (record-from (isOrder t) (filled t) (λ i l n.
+      facts-order i (m .records i l n)
+      (rw (at-book t i l n) at (h .owned i (in-book i l n)))
+      (rw (at-book t i l n) at (h .sound i (in-book i l n))))))
       (facts-id (m .ids)))
-      (facts-standing (bookOf t) (workOf t) (nextOf t) (m .standing))
+      (facts-book h)

@@ -1,6 +1,9 @@
 -- The laws of `table`, for the proofs of this crate and of those above it. Nothing here need be believed.
 pub mod Searches
 pub mod Same
+pub mod Stores
+pub mod Writes
 pub mod Books
 pub mod Facts
+pub mod Listed
 pub mod Computed

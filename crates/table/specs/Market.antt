@@ -98,7 +98,7 @@ isRecord t i =
 -- 999,999,999, a place
 unfoldable pub isRanged : Order → Bool
 isRanged o =
-    leb 1 (o .side) && leb (o .side) 2 && (eqb (o .tif) 0 || eqb (o .tif) 3)
+    (eqb (o .side) 1 || eqb (o .side) 2) && (eqb (o .tif) 0 || eqb (o .tif) 3)
     && leb 1 (o .level) && leb (o .level) 1999999999
     && leb 1 (o .qty) && leb (o .qty) 999999999 && leb 1 (o .place)
 

@@ -1,10 +1,10 @@
 -- The orders of a table by name: reading a record, the book that matching works on, and the writes that change a record
 -- (document 01, "The table and its calls"). Records count from 1. Writing changes the named bytes alone. Assumes nothing:
 -- whether what is read makes sense is said in Market.
-use mathlib.Core.Bool.{Bool}
+use mathlib.Core.Bool.{Bool, cond}
 use mathlib.Core.List.{List, [], _∷_, _++_}
 use Prim.Native.Nat.{ℕ, zero, suc, _+_, _*_}
-use lib.Dec.{eqb}
+use lib.Dec.{eqb, ltb}
 use lib.ListN.{getD}
 use Rattle.octets.specs.Octets.{leAt, bytesOf, put, textAt, textBytes, putText, sameBytes}
 use Rattle.octets.specs.Tests.{firstFrom}
@@ -66,6 +66,10 @@ bookOf t = ordersFrom t 1 (filled t)
 unfoldable pub idIndex : List ℕ → ℕ → List ℕ → ℕ
 idIndex t n xs = firstFrom (λ k. sameBytes (clOrdIdAt t (k + 1)) xs) 0 n
 
+-- the record among the first n that has this ClOrdID; 0 if none has
+unfoldable pub recordWith : List ℕ → ℕ → List ℕ → ℕ
+recordWith t n xs = cond (ltb (idIndex t n xs) n) (idIndex t n xs + 1) 0
+
 -- ---- writing
 
 -- the ClOrdID of record i
@@ -86,11 +90,15 @@ amountBytes o = bytesOf 8 (o .sum) ++ (bytesOf 4 (o .executed) ++ (bytesOf 4 (o 
 abbrev pub putAmounts : List ℕ → ℕ → Order → List ℕ
 putAmounts t i o = put t (recordAt i + sumByte) (amountBytes o)
 
+-- a record's bytes behind its texts: side, time in force, capacity, classification; the terms; the MPID; the amounts
+unfoldable pub fieldBytes : ℕ → ℕ → Order → List ℕ
+fieldBytes capacity class o =
+    (o .side ∷ o .tif ∷ capacity ∷ class ∷ []) ++ (termBytes o ++ (bytesOf 4 (o .mpid) ++ amountBytes o))
+
 -- all of a record that is used
 unfoldable pub recordOf : List ℕ → List ℕ → ℕ → ℕ → Order → List ℕ
 recordOf clOrdId account capacity class o =
-    textBytes clOrdIdRoom clOrdId ++ (textBytes accountRoom account ++ ((o .side ∷ o .tif ∷ capacity ∷ class ∷ [])
-    ++ (termBytes o ++ (bytesOf 4 (o .mpid) ++ amountBytes o))))
+    textBytes clOrdIdRoom clOrdId ++ (textBytes accountRoom account ++ fieldBytes capacity class o)
 
 -- ---- the table after an event
 

@@ -1,1 +1,4 @@
-// The table of a market: places, heading, orders, opening.
+// The table of a market: its heading, its list of MPIDs, its orders, lookups in it, and opening.
+pub mod entries;
+pub mod heading;
+pub mod record;

@@ -1,0 +1,4 @@
+-- The laws of `fix`, for the proofs of this crate and of those above it. Nothing here need be believed.
+pub mod Spelling
+pub mod Walk
+pub mod Loops

@@ -1,0 +1,3 @@
+-- What the contracts of `fix` cite. A reader believes Fields, what the fields of a message are, and Garbled, when a message
+-- is garbled.
+pub mod Fields

@@ -1,0 +1,3 @@
+// The fields of a FIX message, and whether a message is garbled.
+pub mod fields;
+pub mod tags;

@@ -1,0 +1,100 @@
+-- An order stays in its ranges: through any event that fits and trades at a level in range, and through any list of them.
+use mathlib.Core.Path.{_≡_, refl, sym, ap, _∙_}
+use mathlib.Core.Bool.{Bool, true, false}
+use mathlib.Core.List.{List, [], _∷_}
+use Prim.Native.Nat.{ℕ, zero, suc, _+_, _-_, _*_, _≤_, _<_, min}
+use native.Mathlib.Nat.{mul-le-mul-left}
+use native.Mathlib.Omega.{arith}
+use lib.Dec.{ltb}
+use borrow.Author.Tests.{ltb-true, ltb-false}
+use Rattle.octets.proofs.Bools.{split}
+use Rattle.matching.specs.declared.Order.{Order}
+use Rattle.matching.specs.declared.Event.{Event}
+use Rattle.matching.specs.declared.Event.the-variants.{Traded}
+use Rattle.matching.specs.Matching.{Book, at, openOf, who, change, after, play}
+use Rattle.matching.specs.Held.{Covered, Sound, In, amount, levelOf, May, Ready, Readies}
+use Rattle.matching.specs.Accounts.{trades, decrements, cancels}
+use Rattle.matching.specs.Happens.{moves, Fit, Fits}
+use Rattle.matching.proofs.Events.{Terms, amount-is, change-terms, change-executed, change-canceled, change-sum, change-open, change-covered, after-every, length-after}
+use Rattle.matching.proofs.Steps.{Pair, Meeting, trade, newest, oldest, equal, less, more, Stepped, rests, expires, matched}
+
+-- what an event trades is worth between 1 and 1,999,999,999 each, and its level is at most that
+pub record Worth (e : Event) : Type 0 where
+  pub least : trades e ≤ trades e * levelOf e
+  pub most : trades e * levelOf e ≤ trades e * 1_999_999_999
+  pub priced : levelOf e ≤ 1_999_999_999
+
+abbrev pub Worths : List Event → Type 0
+Worths [] = Unit {0}
+Worths (e ∷ es) = Worth e × Worths es
+
+trade-worth : (n m q l : ℕ) → 0 < l → l ≤ 1_999_999_999 → Worth (Traded n m q l)
+trade-worth n m q l p h = record { least = omega (arith, mul-le-mul-left q p); most = mul-le-mul-left q h; priced = h }
+
+-- one that trades nothing
+pub quiet : (e : Event) → trades e ≡ 0 → levelOf e ≡ 0 → Worth e
+quiet e z y = record { least = rw z (omega arith); most = rw z (omega arith); priced = omega arith }
+
+pub meeting-worth : (b : Book) (w r : ℕ) {es : List Event} → Sound (at b r) → Meeting b w r es → Worths es
+meeting-worth b w r s (trade o) =
+    let t : (n m q : ℕ) → Worth (Traded n m q (at b r .level)) = λ n m q. trade-worth n m q _ (s .level-low) (s .level-high) in
+    (t _ _ _, (t _ _ _, tt))
+meeting-worth b w r s newest = (quiet _ refl refl, tt)
+meeting-worth b w r s oldest = (quiet _ refl refl, tt)
+meeting-worth b w r s (equal h) = (quiet _ refl refl, (quiet _ refl refl, tt))
+meeting-worth b w r s (less h) = (quiet _ refl refl, (quiet _ refl refl, tt))
+meeting-worth b w r s (more h) = (quiet _ refl refl, (quiet _ refl refl, tt))
+
+pub step-worth : (b : Book) (w v : ℕ) {es : List Event} → ((k : ℕ) → In b k → Sound (at b k)) → Stepped b w es v → Worths es
+step-worth b w v s (rests z t) = tt
+step-worth b w v s (expires z t h) = (quiet _ refl refl, tt)
+step-worth b w v s (matched {r = r} p m) = meeting-worth b w r (s r (p .inside)) m
+
+-- ---- one event
+module _ (e : Event) (o : Order) (m : moves e ≡ true) (enough : amount e ≤ openOf o) (whole : 0 < cancels e → cancels e ≡ openOf o) (v : Worth e) where
+  dead-after : (0 < o .canceled → openOf o ≡ 0) → 0 < change e o .canceled → openOf (change e o) ≡ 0
+  dead-after d h =
+      split (ltb 0 (cancels e))
+      (λ t. omega (arith, whole (ltb-true _ _ t), amount-is e, change-open e o m))
+      (λ t. omega (arith, d (omega (arith, change-canceled e o m, ltb-false 0 (cancels e) t)), change-open e o m))
+
+  pub change-sound : Sound o → Sound (change e o)
+  change-sound s =
+      let t = change-terms e o m in
+      let side : change e o .side ≡ o .side = ap (λ (t : Terms). t .side) t in
+      let tif : change e o .tif ≡ o .tif = ap (λ (t : Terms). t .tif) t in
+      let level : change e o .level ≡ o .level = ap (λ (t : Terms). t .level) t in
+      let qty : change e o .qty ≡ o .qty = ap (λ (t : Terms). t .qty) t in
+      let place : change e o .place ≡ o .place = ap (λ (t : Terms). t .place) t in
+      record {
+        sides = rw side (s .sides);
+        tifs = rw tif (s .tifs);
+        level-low = rw level (s .level-low);
+        level-high = rw level (s .level-high);
+        qty-low = rw qty (s .qty-low);
+        qty-high = rw qty (s .qty-high);
+        covered = change-covered e o m enough (s .covered);
+        dead = dead-after (s .dead);
+        sum-low = omega (arith, change-executed e o m, change-sum e o m, v .least, s .sum-low);
+        sum-high = omega (arith, change-executed e o m, change-sum e o m, v .most, s .sum-high);
+        place-low = rw place (s .place-low);
+      }
+
+-- ---- events one after another
+pub play-sound : (k : ℕ) (es : List Event) (b : Book) → Fits b es → Worths es → Sound (at b k) → Sound (at (play b es) k)
+unfolding play
+play-sound k [] b f v s = s
+play-sound k (e ∷ es) b f v s =
+    play-sound k es (after b e) (f .1) (v .1)
+    (after-every b e (f .0) Sound k s (change-sound e _ (f .0 .moving) (f .0 .enough) (f .0 .whole) (v .0)))
+
+-- so each of them is ready to happen when its turn comes
+pub play-ready : (es : List Event) (b : Book) → Fits b es → Worths es → ((k : ℕ) → In b k → Sound (at b k)) → Readies b es
+play-ready [] b f v s = tt
+play-ready (e ∷ es) b f v s =
+    let i = f .0 .inside in (
+      record { inside = i; sound = s (who e) i; may = record { enough = f .0 .enough; priced = v .0 .priced } },
+      play-ready es (after b e) (f .1) (v .1)
+          (λ k j. after-every b e (f .0) Sound k (s k (record { low = j .low; high = rw (length-after b e (f .0)) at (j .high) }))
+          (change-sound e _ (f .0 .moving) (f .0 .enough) (f .0 .whole) (v .0))),
+    )

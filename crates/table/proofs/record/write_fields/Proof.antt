@@ -1,0 +1,54 @@
+-- `table::record::write_fields` meets its contract: four bytes, the terms, the MPID and the amounts one after the other are the fields.
+use Rattle.table.proofs.Writes.{fields-written}
+use borrow.Author.Needs.{needs}
+use Rattle.table.proofs.record.write_fields.Statement.{statement}
+use Rattle.table.proofs.record.write_fields.Tie as tie
+
+cast-write-four : tie.Need-cast-write-four
+cast-write-four c = search needs
+
+cast-write-four-2 : tie.Need-cast-write-four-2
+cast-write-four-2 c = search needs
+
+write-four-requires : tie.Need-write-four-requires
+write-four-requires c κs = search needs
+
+add-write-terms : tie.Need-add-write-terms
+add-write-terms c = search needs
+
+write-terms-requires : tie.Need-write-terms-requires
+write-terms-requires c κs = search needs
+
+add-put-le : tie.Need-add-put-le
+add-put-le c = search needs
+
+put-le-requires : tie.Need-put-le-requires
+put-le-requires c κs = search needs
+
+add-write-amounts : tie.Need-add-write-amounts
+add-write-amounts c = search needs
+
+write-amounts-requires : tie.Need-write-amounts-requires
+write-amounts-requires c κs = search needs
+
+same-length : tie.Need-same-length
+same-length c = search needs
+
+returns : tie.Need-returns
+returns c = search (needs, fields-written)
+
+pub write-fields-spec : {M : Type 1} → statement M
+write-fields-spec =
+    tie.close
+    (tie.spec
+    cast-write-four
+    cast-write-four-2
+    write-four-requires
+    add-write-terms
+    write-terms-requires
+    add-put-le
+    put-le-requires
+    add-write-amounts
+    write-amounts-requires
+    same-length
+    returns)
