@@ -2,3 +2,7 @@
 pub mod Spelling
 pub mod Walk
 pub mod Loops
+pub mod Sums
+pub mod Tails
+pub mod Opening
+pub mod Verdict

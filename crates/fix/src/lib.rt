@@ -1,3 +1,4 @@
 // The fields of a FIX message, and whether a message is garbled.
 pub mod fields;
+pub mod frame;
 pub mod tags;

@@ -1,16 +1,19 @@
 -- Nothing that an order meets is better than the best; and a run goes on where another stopped.
 use mathlib.Core.Path.{_≡_, refl, sym, ap, _∙_}
 use mathlib.Core.Bool.{Bool, true, false, cond, not, _&&_, _||_}
-use mathlib.Core.List.{List, [], _∷_, _++_, append-assoc}
+use mathlib.Core.List.{List, _++_, append-assoc}
 use Prim.Native.Nat.{ℕ, zero, suc, _+_, _≤_, _<_}
 use native.Mathlib.Nat.{suc-add, zero-add}
 use native.Mathlib.Omega.{arith}
+use lib.ListN.{length}
 use lib.Dec.{ltb, eqb}
-use borrow.Author.Tests.{ltb-true, ltb-false, eqb-true, eqb-false, lt-ltb, eq-eqb, ne-eqb}
-use Rattle.octets.proofs.Bools.{split, not-both, both-i, both-l, both-r, or-l, or-r}
+use borrow.Author.Tests.{ltb-true, ltb-false, eqb-true, eqb-false, lt-ltb, eq-eqb}
+use Rattle.octets.proofs.Bools.{split, not-both, both-i, both-l, both-r, or-r}
 use Rattle.matching.specs.declared.Order.{Order}
 use Rattle.matching.specs.declared.Event.{Event}
-use Rattle.matching.specs.Matching.{Book, at, isBuy, ahead, opposite, better, faces, choose, best, happens, bookAfter, workAfter, Ran, run}
+use Rattle.matching.specs.Held.{In}
+use Rattle.matching.specs.Matching.{Book, at, isBuy, isOpen, partner, ahead, better, faces, choose, best, happens, bookAfter, workAfter, run}
+use Rattle.matching.specs.Runs.{GoesOn}
 use Rattle.matching.proofs.Steps.{faces-opposite, best-none}
 use Rattle.matching.proofs.Ends.{idle}
 
@@ -103,13 +106,19 @@ best-is-best b o (suc n) k l h f e =
     last true y h = refl
     last false y h = h
 
--- ---- a run of m and then of n steps is a run of m + n
-pub record GoesOn (first then both : Ran) : Type 0 where
-  pub book : both .book ≡ then .book
-  pub work : both .work ≡ then .work
-  pub events : both .events ≡ first .events ++ then .events
-  pub steps : both .steps ≡ first .steps + then .steps
+-- so the order that w is matched with is the best of those it meets
+pub partner-best : (b : Book) (w r k : ℕ) → partner b w ≡ r → 0 < r → In b k → faces (at b w) (at b k) ≡ true → better (at b k) (at b r) ≡ false
+unfolding partner
+partner-best b w r k e p i f =
+    split (isOpen (at b w))
+    (λ t.
+    let q : best b (at b w) (length b) ≡ r = rw t at e in
+    split (better (at b k) (at b r))
+    (λ u. absurd (best-is-best b (at b w) (length b) k (i .low) (i .high) f (rw q u)))
+    (λ u. u))
+    (λ t. absurd (let q : 0 ≡ r = rw t at e in omega arith))
 
+-- ---- a run of m and then of n steps is a run of m + n
 pub run-on : (modes : ℕ → ℕ) (m n : ℕ) (b : Book) (w : ℕ)
     → let first = run modes m b w in
     GoesOn first (run modes n (first .book) (first .work)) (run modes (m + n) b w)

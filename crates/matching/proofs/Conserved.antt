@@ -1,10 +1,10 @@
 -- Each order's accounts: over events that can happen, the quantity accepted is what the events execute, decrement and cancel
 -- and what is open.
 use mathlib.Core.Path.{_≡_, refl, sym, ap, _∙_}
-use mathlib.Core.Bool.{Bool, true, false, cond}
+use mathlib.Core.Bool.{true}
 use mathlib.Core.List.{List, [], _∷_}
-use mathlib.Core.Logic.{_≢_, _⊎_, inl, inr}
-use Prim.Native.Nat.{ℕ, zero, suc, _+_, _-_, _*_, _≤_, _<_}
+use mathlib.Core.Logic.{_⊎_, inl, inr}
+use Prim.Native.Nat.{ℕ, zero, suc, _+_, _≤_, _<_}
 use native.Mathlib.Omega.{arith}
 use lib.ListN.{length}
 use lib.Dec.{eqb}
@@ -13,12 +13,12 @@ use Rattle.octets.proofs.Bools.{split, not-both}
 use Rattle.matching.specs.declared.Order.{Order}
 use Rattle.matching.specs.declared.Event.{Event}
 use Rattle.matching.specs.declared.Event.the-variants.{Accepted, Replaced, Withdrawn, Canceled, Decremented, Traded, Expired}
-use Rattle.matching.specs.Matching.{Book, none, at, openOf, who, placeAfter, change, after, play}
-use Rattle.matching.specs.Held.{Covered, In, amount}
+use Rattle.matching.specs.Matching.{Book, none, at, openOf, who, change, after, play}
+use Rattle.matching.specs.Held.{Covered}
 use Rattle.matching.specs.Accounts.{tally, trades, decrements, cancels, inForce, accepted}
-use Rattle.matching.specs.Happens.{moves, Fit, Fits, Fresh, Renewed, Asked, Follow}
+use Rattle.matching.specs.Happens.{moves, Fit, Fits, Asked, Follow}
 use Rattle.matching.proofs.Books.{at-new}
-use Rattle.matching.proofs.Events.{after-here, after-there, change-is, Terms, termsOf, change-terms, change-executed, change-decremented, change-canceled, change-covered}
+use Rattle.matching.proofs.Events.{after-here, after-there, Terms, change-terms, change-executed, change-decremented, change-canceled, change-covered}
 
 -- what an event does to the accounts of an order
 pub record Booked (e : Event) (o p : Order) : Type 0 where
@@ -51,7 +51,7 @@ fit-booked b e f =
     }
 
 asked-booked : (b : Book) (e : Event) → Asked b e → Booked e (at b (who e)) (change e (at b (who e)))
-unfolding change placeAfter
+unfolding change
 asked-booked b (Accepted n o) a =
     let z : at b n ≡ none = rw (a .number) (at-new b) in
     rw z

@@ -1,23 +1,26 @@
 -- A message comes to its end: each match closes one of the two orders, so there are at most m + 1 steps, and at most two
 -- reports for each open opposite order and one more.
-use mathlib.Core.Path.{_≡_, refl, sym, ap, _∙_}
-use mathlib.Core.Bool.{Bool, true, false, cond, not, _&&_}
-use mathlib.Core.List.{List, [], _∷_, _++_}
+use mathlib.Core.Path.{_≡_, refl, sym, ap}
+use mathlib.Core.Bool.{true, false, cond}
+use mathlib.Core.List.{List, []}
 use mathlib.Core.Logic.{_≢_}
 use Prim.Native.Nat.{ℕ, zero, suc, _+_, _-_, _*_, _≤_, _<_, min}
 use native.Mathlib.Omega.{arith}
 use lib.ListN.{length, length-append}
 use lib.Dec.{ltb, eqb}
-use borrow.Author.Tests.{ltb-true, ltb-false, lt-ltb, eq-eqb, ne-eqb}
+use borrow.Author.Tests.{ltb-true, lt-ltb, eq-eqb, ne-eqb}
 use Rattle.octets.proofs.Bools.{split, not-both, both-i, both-l, both-r}
-use Rattle.matching.specs.declared.Order.{Order}
 use Rattle.matching.specs.declared.Event.{Event}
-use Rattle.matching.specs.Matching.{Book, none, at, openOf, isOpen, isBuy, opposite, meets, faces, opposed, countOf, metBy, opposedTo, mostReports, play, happens, workAfter, run}
-use Rattle.matching.specs.Held.{In, amount}
+use Rattle.matching.specs.declared.Prevention.the-variants.{CancelNewest, CancelOldest, Decrement}
+use Rattle.matching.specs.declared.Outcome.{Outcome}
+use Rattle.matching.specs.declared.Outcome.the-variants.{Trade, Prevented, Expires, Rests}
+use Rattle.matching.specs.Matching.{causes, preventing, reports, Book, at, openOf, isOpen, isBuy, meets, faces, opposed, countOf, metBy, opposedTo, mostReports, play, happens, workAfter, run}
+use Rattle.matching.specs.Held.{amount}
 use Rattle.matching.specs.Accounts.{tally}
+use Rattle.matching.specs.Runs.{Ended}
 use Rattle.matching.specs.Happens.{Fits}
-use Rattle.matching.proofs.Books.{count-lt, sum-le, count-le}
-use Rattle.matching.proofs.Events.{Terms, termsOf, play-terms, play-open, length-play}
+use Rattle.matching.proofs.Books.{count-lt}
+use Rattle.matching.proofs.Events.{Terms, play-terms, play-open, length-play}
 use Rattle.matching.proofs.Steps.{Pair, Meeting, trade, newest, oldest, equal, less, more, Stepped, rests, expires, matched, step-is, happens-fits, first-in, next-in}
 
 -- ---- one of the two is closed
@@ -116,11 +119,7 @@ unfolding run
 idle modes zero b = refl
 idle modes (suc n) b = refl
 
--- the work has ended, within m + 1 steps
-pub record Ended (modes : ℕ → ℕ) (n : ℕ) (b : Book) (w m : ℕ) : Type 0 where
-  pub ended : run modes n b w .work ≡ 0
-  pub within : run modes n b w .steps ≤ m + 1
-
+-- the work ends within m + 1 steps
 pub run-ends : (modes : ℕ → ℕ) (n : ℕ) (b : Book) (w : ℕ) → w ≤ length b → left b w < n → Ended modes n b w (left b w)
 unfolding run
 run-ends modes zero b w h l = absurd (omega arith)
@@ -154,6 +153,17 @@ step-two b w v (rests z t) = omega arith
 step-two b w v (expires z t h) = omega arith
 step-two b w v (matched p m) = meeting-two m
 
+-- as many as the outcome says
+pub causes-length : (w r : ℕ) (o : Outcome) → length (causes w r o) ≡ reports o
+unfolding causes preventing
+causes-length w r (Trade q l) = refl
+causes-length w r (Prevented (CancelNewest q)) = refl
+causes-length w r (Prevented (CancelOldest q)) = refl
+causes-length w r (Prevented (Decrement x y)) =
+    split (eqb x y) (λ t. rw t) (λ t. rw t (split (ltb x y) (λ u. rw u) (λ u. rw u)))
+causes-length w r (Expires q) = refl
+causes-length w r Rests = refl
+
 -- nothing is in work, so nothing is to be written
 pub none-most : (b : Book) → mostReports b 0 ≡ 0
 unfolding mostReports openOf
@@ -167,6 +177,10 @@ shut-most b w h = rw h
 pub some-most : (b : Book) (w : ℕ) → 0 < openOf (at b w) → mostReports b w ≡ 2 * opposedTo b w + 1
 unfolding mostReports
 some-most b w h = rw (lt-ltb 0 (openOf (at b w)) h)
+
+pub most-reports : (b : Book) (w : ℕ) → mostReports b w ≤ 2 * opposedTo b w + 1
+unfolding mostReports
+most-reports b w = split (isOpen (at b w)) (λ t. rw t (omega arith)) (λ t. rw t (omega arith))
 
 pub step-reports : (b : Book) (w v : ℕ) {es : List Event} → Fits b es → Stepped b w es v → length es + mostReports (play b es) v ≤ mostReports b w
 step-reports b w v f (rests z t) = rw (none-most (play b [])) (omega arith)

@@ -1,9 +1,9 @@
 -- Events of the book: what an event changes and what it leaves, one event and then any list of them.
-use mathlib.Core.Path.{_≡_, refl, sym, ap, _∙_}
-use mathlib.Core.Bool.{Bool, true, false, cond}
+use mathlib.Core.Path.{_≡_, refl, ap, _∙_}
+use mathlib.Core.Bool.{true}
 use mathlib.Core.List.{List, [], _∷_, _++_}
 use mathlib.Core.Logic.{_≢_}
-use Prim.Native.Nat.{ℕ, zero, suc, _+_, _-_, _*_, _≤_, _<_}
+use Prim.Native.Nat.{ℕ, suc, _+_, _-_, _*_, _≤_, _<_}
 use native.Mathlib.Nat.{add-zero, zero-mul}
 use native.Mathlib.Omega.{arith}
 use lib.ListN.{length}
@@ -14,7 +14,7 @@ use Rattle.matching.specs.declared.Order.{Order}
 use Rattle.matching.specs.declared.Event.{Event}
 use Rattle.matching.specs.declared.Event.the-variants.{Accepted, Replaced, Withdrawn, Canceled, Decremented, Traded, Expired}
 use Rattle.matching.specs.Matching.{Book, at, openOf, who, amounts, change, after, play}
-use Rattle.matching.specs.Held.{Covered, In, amount, levelOf}
+use Rattle.matching.specs.Held.{Covered, amount, levelOf}
 use Rattle.matching.specs.Accounts.{tally, trades, decrements, cancels}
 use Rattle.matching.specs.Happens.{moves, Fit, Fits}
 use Rattle.matching.proofs.Books.{at-put-same, at-put-other, length-put}

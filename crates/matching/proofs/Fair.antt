@@ -1,12 +1,12 @@
 -- Trades come in twos, a buy with a sell, for one quantity, of different owners: so what is bought is sold, and no MPID
 -- trades with itself.
 use mathlib.Core.Path.{_≡_, refl, sym, ap, _∙_}
-use mathlib.Core.Bool.{Bool, true, false, cond, not, _&&_}
+use mathlib.Core.Bool.{Bool, true, false, cond, not}
 use mathlib.Core.List.{List, [], _∷_, _++_}
-use Prim.Native.Nat.{ℕ, zero, suc, _+_, _≤_, _<_}
+use Prim.Native.Nat.{ℕ, zero, suc, _+_, _≤_}
 use native.Mathlib.Omega.{arith}
 use lib.ListN.{length}
-use lib.Dec.{ltb, eqb}
+use lib.Dec.{ltb}
 use borrow.Author.Tests.{ltb-false, eq-eqb}
 use Rattle.octets.proofs.Bools.{split, not-both}
 use Rattle.matching.specs.declared.Order.{Order}
@@ -15,7 +15,7 @@ use Rattle.matching.specs.declared.Event.the-variants.{Traded}
 use Rattle.matching.specs.Matching.{Book, at, isBuy, opposite, sameOwner, who, play, happens, workAfter, run}
 use Rattle.matching.specs.Accounts.{trades, bought, sold, SelfTradeFree, selfTradeFree, apart, quiet}
 use Rattle.matching.proofs.Events.{Terms, termsOf, play-terms}
-use Rattle.matching.proofs.Steps.{Pair, Meeting, trade, newest, oldest, equal, less, more, Stepped, rests, expires, matched, step-is, not-opposite, happens-fits, first-in, next-in}
+use Rattle.matching.proofs.Steps.{trade, newest, oldest, equal, less, more, Stepped, rests, expires, matched, step-is, not-opposite, happens-fits, first-in, next-in}
 
 -- by the sides and owners in b
 pub data Fair (b : Book) : List Event → Type 0 where

@@ -1,25 +1,25 @@
 -- A step keeps what a market asks of its book, with the next number raised by the reports written; so does a run of steps,
 -- an acceptance, a replacement and a withdrawal as Submit makes them, and a report about no order.
 use mathlib.Core.Path.{_≡_, refl, sym, ap, _∙_}
-use mathlib.Core.Bool.{Bool, true, false, _&&_, _||_}
+use mathlib.Core.Bool.{Bool, true, false, _&&_}
 use mathlib.Core.List.{List, [], _∷_, _++_}
 use mathlib.Core.Logic.{_≢_}
-use Prim.Native.Nat.{ℕ, zero, suc, _+_, _-_, _*_, _≤_, _<_}
-use native.Mathlib.Nat.{add-zero, add-assoc}
+use Prim.Native.Nat.{ℕ, zero, suc, _+_, _*_, _≤_, _<_}
+use native.Mathlib.Nat.{add-zero}
 use native.Mathlib.Omega.{arith}
 use lib.ListN.{length, length-append}
-use lib.Dec.{ltb, eqb}
-use borrow.Author.Tests.{ltb-true, ltb-false, eqb-true, eqb-false, lt-ltb, eq-eqb}
-use Rattle.octets.proofs.Bools.{split, both-not-r}
+use lib.Dec.{eqb}
+use borrow.Author.Tests.{ltb-true, ltb-false, eqb-true, eqb-false, eq-eqb}
+use Rattle.octets.proofs.Bools.{split}
 use Rattle.matching.specs.declared.Order.{Order}
 use Rattle.matching.specs.declared.Event.{Event}
-use Rattle.matching.specs.declared.Event.the-variants.{Accepted, Replaced, Withdrawn, Expired}
-use Rattle.matching.specs.Matching.{Book, at, openOf, isOpen, isBuy, opposedTo, mostReports, who, placeAfter, change, after, play, happens, bookAfter, workAfter, run}
-use Rattle.matching.specs.Held.{Covered, Sound, In, Uncrossed, Held, amount, Readies}
+use Rattle.matching.specs.declared.Event.the-variants.{Expired}
+use Rattle.matching.specs.Matching.{Book, at, openOf, isOpen, opposedTo, mostReports, play, happens, bookAfter, workAfter, run}
+use Rattle.matching.specs.Held.{In, Uncrossed, Held, Readies}
 use Rattle.matching.specs.Accounts.{tally}
-use Rattle.matching.specs.Happens.{Fit, Fits, Fresh, Renewed}
+use Rattle.matching.specs.Happens.{Fits}
 use Rattle.matching.proofs.Events.{Terms, play-terms, play-open, length-play}
-use Rattle.matching.proofs.Steps.{Stepped, rests, expires, matched, step-is, step-fits, happens-fits, work-in, first-in, next-in}
+use Rattle.matching.proofs.Steps.{Stepped, rests, expires, matched, step-is, step-fits, first-in}
 use Rattle.matching.proofs.Crossing.{step-uncrossed}
 use Rattle.matching.proofs.Ends.{some-most, shut-most, step-reports}
 use Rattle.matching.proofs.Sounds.{Worths, step-worth, play-sound, play-ready}
@@ -76,7 +76,6 @@ module _ (listed : ℕ → Bool) (next : ℕ) (b : Book) (w v : ℕ) (es : List 
         places-below = λ k j. omega (arith, place-same k, h .places-below k (back k j));
         no-ioc = λ k n e. ioc k n (sym (ap (λ (t : Terms). t .tif) (play-terms k es b f)) ∙ e);
         uncrossed = x;
-        next-low = omega (arith, h .next-low);
         next-high = omega arith;
         numbers = most-numbers (next + length es) (play b es) v m;
       }

@@ -1,15 +1,14 @@
 -- The levels of a side: each is behind the one before it, together they hold every open order of the side once, and there are
 -- at most as many as orders. Levels in use are above 0, which is what "no level" is written as.
-use mathlib.Core.Path.{_≡_, refl, sym, ap, _∙_}
-use mathlib.Core.Bool.{Bool, true, false, cond, not, _&&_, _||_}
-use Prim.Native.Nat.{ℕ, zero, suc, _+_, _-_, _*_, _≤_, _<_}
+use mathlib.Core.Path.{_≡_, refl, _∙_}
+use mathlib.Core.Bool.{Bool, true, false, cond, _&&_, _||_}
+use Prim.Native.Nat.{ℕ, zero, suc, _+_, _*_, _≤_, _<_}
 use native.Mathlib.Omega.{arith}
 use lib.ListN.{length}
-use lib.Dec.{ltb, eqb}
-use borrow.Author.Tests.{ltb-true, ltb-false, eqb-true, eqb-false, lt-ltb, eq-eqb, ne-eqb}
-use Rattle.octets.proofs.Bools.{split, not-both, both-i, both-l, both-r, or-l, or-r, neither-l, neither-r}
+use lib.Dec.{eqb}
+use borrow.Author.Tests.{ltb-true, eqb-true, eqb-false, eq-eqb, ne-eqb}
+use Rattle.octets.proofs.Bools.{split, not-both, both-l, both-r, or-r, neither-l, neither-r}
 use Rattle.matching.specs.declared.Order.{Order}
-use Rattle.matching.specs.declared.Depth.{Depth}
 use Rattle.matching.specs.Matching.{Book, at, openOf, buys, ahead, sumOver, countOf}
 use Rattle.matching.specs.Held.{In, Sound}
 use Rattle.matching.specs.Depth.{stands, behind, nearer, next, levelAt, onLevel, share, total, orders, depth, totalOf, ordersOf, overLevels, openOn, ordersOn}

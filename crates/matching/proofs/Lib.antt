@@ -12,3 +12,6 @@ pub mod Holding
 pub mod Requests
 pub mod Best
 pub mod Levels
+pub mod Modes
+pub mod Cases
+pub mod Theorems

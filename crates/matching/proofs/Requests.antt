@@ -1,20 +1,19 @@
 -- What Submit does to the book keeps what a market asks of it: an acceptance and a replacement put their order in work, a
 -- withdrawal and a report about no order leave nothing in work, and an opened market has an empty book.
 use mathlib.Core.Path.{_≡_, refl, sym, ap, _∙_}
-use mathlib.Core.Bool.{Bool, true, false, _||_}
-use mathlib.Core.List.{List, [], _∷_}
-use mathlib.Core.Logic.{_≢_, _⊎_, inl, inr}
-use Prim.Native.Nat.{ℕ, zero, suc, _+_, _-_, _*_, _≤_, _<_}
+use mathlib.Core.Bool.{Bool, true, _||_}
+use mathlib.Core.List.{[], _∷_}
+use mathlib.Core.Logic.{_≢_}
+use Prim.Native.Nat.{ℕ, zero, suc, _+_, _≤_, _<_}
 use native.Mathlib.Omega.{arith}
 use lib.ListN.{length}
 use lib.Dec.{ltb, eqb}
 use borrow.Author.Tests.{ltb-true, ltb-false, eqb-true, eqb-false}
 use Rattle.octets.proofs.Bools.{split}
 use Rattle.matching.specs.declared.Order.{Order}
-use Rattle.matching.specs.declared.Event.{Event}
 use Rattle.matching.specs.declared.Event.the-variants.{Accepted, Replaced, Withdrawn}
-use Rattle.matching.specs.Matching.{Book, at, openOf, isBuy, opposedTo, countOf, who, placeAfter, change, after, play}
-use Rattle.matching.specs.Held.{Covered, Sound, In, Uncrossed, Held, Enters, Renews}
+use Rattle.matching.specs.Matching.{Book, at, openOf, opposedTo, change, after, play}
+use Rattle.matching.specs.Held.{Sound, In, Uncrossed, Held, Enters, Renews}
 use Rattle.matching.specs.Happens.{Fit, Fits, Fresh, Renewed}
 use Rattle.matching.proofs.Books.{length-put, length-put-new, count-most, open-low, at-nothing}
 use Rattle.matching.proofs.Events.{after-here, after-there, play-open}
@@ -24,9 +23,9 @@ use Rattle.matching.proofs.Sounds.{quiet}
 use Rattle.matching.proofs.Holding.{moved-held}
 
 -- ---- a market just opened
-pub opened-held : (listed : ℕ → Bool) (next : ℕ) → 0 < next → next ≤ 1_000_000_000 → Held listed next [] 0
+pub opened-held : (listed : ℕ → Bool) (next : ℕ) → next ≤ 1_000_000_000 → Held listed next [] 0
 unfolding openOf
-opened-held listed next l h =
+opened-held listed next h =
     record {
       work = omega arith;
       sound = λ k j. absurd (omega (arith, j .low, j .high));
@@ -35,7 +34,6 @@ opened-held listed next l h =
       places-below = λ k j. absurd (omega (arith, j .low, j .high));
       no-ioc = λ k n e. at-nothing k;
       uncrossed = λ i j hi hj bi bj oi oj. absurd (omega (arith, at-nothing i));
-      next-low = l;
       next-high = h;
       numbers = λ o. absurd (omega arith);
     }
@@ -52,7 +50,6 @@ later-held listed next more b h l m =
       places-below = λ k j. omega (arith, h .places-below k j);
       no-ioc = h .no-ioc;
       uncrossed = h .uncrossed;
-      next-low = omega (arith, h .next-low);
       next-high = m;
       numbers = λ o. absurd (omega arith);
     }
@@ -118,7 +115,6 @@ module _ (listed : ℕ → Bool) (next : ℕ) (b c : Book) (n : ℕ) (o : Order)
         places-below = λ k j. each (λ p. p .place < next + 1) k (omega (arith, newest)) (λ d. omega (arith, h .places-below k (back k d j)));
         no-ioc = λ k d e. rw (there k d) (closed k (rw (there k d) at e));
         uncrossed = uncrossed;
-        next-low = omega arith;
         next-high = omega (arith, numbered);
         numbers = λ x. omega (arith, numbered, filled, opposed-few);
       }
@@ -169,7 +165,7 @@ module _ (listed : ℕ → Bool) (next : ℕ) (b : Book) (n l q p : ℕ) (h : He
   renews-renewed = record { inside = a .inside; live = a .live; uncanceled = uncanceled; above = a .above }
 
   replaced-sound : Sound (change (Replaced n l q p) (at b n))
-  unfolding change placeAfter openOf
+  unfolding change openOf
   replaced-sound =
       record {
         sides = s .sides;
@@ -182,7 +178,7 @@ module _ (listed : ℕ → Bool) (next : ℕ) (b : Book) (n l q p : ℕ) (h : He
         dead = λ z. omega (arith, uncanceled);
         sum-low = s .sum-low;
         sum-high = s .sum-high;
-        place-low = omega (arith, a .newest, h .next-low);
+        place-low = a .place-low;
       }
 
   length-same : length (after b (Replaced n l q p)) ≡ length b
@@ -190,7 +186,7 @@ module _ (listed : ℕ → Bool) (next : ℕ) (b : Book) (n l q p : ℕ) (h : He
   length-same = length-put b n _ (a .inside .high)
 
   pub replaced-held : Held listed (next + 1) (after b (Replaced n l q p)) n
-  unfolding change placeAfter
+  unfolding change
   replaced-held =
       renewed-held listed next b (after b (Replaced n l q p)) n (change (Replaced n l q p) (at b n)) h
       (after-here b (Replaced n l q p) (a .inside .low) (omega (arith, a .inside .high)))

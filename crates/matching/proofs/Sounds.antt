@@ -1,22 +1,23 @@
 -- An order stays in its ranges: through any event that fits and trades at a level in range, and through any list of them.
-use mathlib.Core.Path.{_≡_, refl, sym, ap, _∙_}
-use mathlib.Core.Bool.{Bool, true, false}
+use mathlib.Core.Path.{_≡_, refl, ap}
+use mathlib.Core.Bool.{true}
 use mathlib.Core.List.{List, [], _∷_}
-use Prim.Native.Nat.{ℕ, zero, suc, _+_, _-_, _*_, _≤_, _<_, min}
+use Prim.Native.Nat.{ℕ, _*_, _≤_, _<_}
 use native.Mathlib.Nat.{mul-le-mul-left}
 use native.Mathlib.Omega.{arith}
+use lib.ListN.{length}
 use lib.Dec.{ltb}
 use borrow.Author.Tests.{ltb-true, ltb-false}
 use Rattle.octets.proofs.Bools.{split}
 use Rattle.matching.specs.declared.Order.{Order}
 use Rattle.matching.specs.declared.Event.{Event}
 use Rattle.matching.specs.declared.Event.the-variants.{Traded}
-use Rattle.matching.specs.Matching.{Book, at, openOf, who, change, after, play}
-use Rattle.matching.specs.Held.{Covered, Sound, In, amount, levelOf, May, Ready, Readies}
-use Rattle.matching.specs.Accounts.{trades, decrements, cancels}
-use Rattle.matching.specs.Happens.{moves, Fit, Fits}
-use Rattle.matching.proofs.Events.{Terms, amount-is, change-terms, change-executed, change-canceled, change-sum, change-open, change-covered, after-every, length-after}
-use Rattle.matching.proofs.Steps.{Pair, Meeting, trade, newest, oldest, equal, less, more, Stepped, rests, expires, matched}
+use Rattle.matching.specs.Matching.{Book, at, openOf, who, change, after, play, happens, run}
+use Rattle.matching.specs.Held.{Sound, In, amount, levelOf, Readies}
+use Rattle.matching.specs.Accounts.{trades, cancels}
+use Rattle.matching.specs.Happens.{moves, Fits}
+use Rattle.matching.proofs.Events.{Terms, amount-is, change-terms, change-executed, change-canceled, change-sum, change-open, change-covered, after-every, length-after, length-play}
+use Rattle.matching.proofs.Steps.{Meeting, trade, newest, oldest, equal, less, more, Stepped, rests, expires, matched, step-is, happens-fits, run-keeps}
 
 -- what an event trades is worth between 1 and 1,999,999,999 each, and its level is at most that
 pub record Worth (e : Event) : Type 0 where
@@ -98,3 +99,14 @@ play-ready (e ∷ es) b f v s =
           (λ k j. after-every b e (f .0) Sound k (s k (record { low = j .low; high = rw (length-after b e (f .0)) at (j .high) }))
           (change-sound e _ (f .0 .moving) (f .0 .enough) (f .0 .whole) (v .0))),
     )
+
+-- ---- over any number of steps
+pub run-sound : (modes : ℕ → ℕ) (n : ℕ) (b : Book) (w : ℕ) → w ≤ length b → ((k : ℕ) → In b k → Sound (at b k))
+    → (k : ℕ) → In (run modes n b w .book) k → Sound (at (run modes n b w .book) k)
+run-sound modes n b w h s = run-keeps (λ c v. (k : ℕ) → In c k → Sound (at c k)) modes keeps n b w h s
+  where
+    keeps : (b : Book) (w : ℕ) → In b w → ((k : ℕ) → In b k → Sound (at b k)) → (k : ℕ) → In (play b (happens modes b w)) k → Sound (at (play b (happens modes b w)) k)
+    keeps b w i s k j =
+        let f = happens-fits modes b w i in
+        play-sound k (happens modes b w) b f (step-worth b w _ s (step-is modes b w))
+        (s k (record { low = j .low; high = rw (length-play _ b f) at (j .high) }))

@@ -1,10 +1,10 @@
 -- The shape of a step: it ends the work, by an expiry or with nothing, or matches the order in work, w, with another, r, in
 -- one of six ways. What a step does fits the book, and a run of steps plays its events.
-use mathlib.Core.Path.{_≡_, refl, sym, ap, _∙_}
+use mathlib.Core.Path.{_≡_, refl, sym, _∙_}
 use mathlib.Core.Bool.{Bool, true, false, cond, not, _&&_, _||_}
-use mathlib.Core.List.{List, [], _∷_, _++_}
+use mathlib.Core.List.{List, [], _∷_}
 use mathlib.Core.Logic.{_≢_}
-use Prim.Native.Nat.{ℕ, zero, suc, _+_, _-_, _≤_, _<_, min}
+use Prim.Native.Nat.{ℕ, zero, suc, _≤_, _<_, min}
 use native.Mathlib.Omega.{arith}
 use lib.ListN.{length}
 use lib.Dec.{ltb, eqb}
@@ -13,7 +13,7 @@ use Rattle.octets.proofs.Bools.{split, not-both, both-l, both-r}
 use Rattle.matching.specs.declared.Order.{Order}
 use Rattle.matching.specs.declared.Event.{Event}
 use Rattle.matching.specs.declared.Event.the-variants.{Canceled, Decremented, Traded, Expired}
-use Rattle.matching.specs.Matching.{Book, at, openOf, isOpen, isBuy, opposite, meets, better, faces, choose, best, sameOwner, prevention, meeting, ending, preventing, causes, who, after, play, partner, outcome, happens, workAfter, run}
+use Rattle.matching.specs.Matching.{Book, at, openOf, isOpen, isBuy, opposite, meets, better, faces, choose, best, sameOwner, prevention, meeting, ending, preventing, causes, who, play, partner, outcome, happens, workAfter, run}
 use Rattle.matching.specs.Held.{In, amount}
 use Rattle.matching.specs.Accounts.{cancels}
 use Rattle.matching.specs.Happens.{moves, Fit, Fits}

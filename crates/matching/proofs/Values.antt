@@ -1,20 +1,20 @@
 -- What the code's last lines want: each law says a return of one function in plain numbers and tests.
-use mathlib.Core.Path.{_≡_, refl, sym, ap, _∙_}
+use mathlib.Core.Path.{_≡_}
 use mathlib.Core.Bool.{Bool, true, false, cond, not, _&&_, _||_}
 use mathlib.Core.Logic.{_≢_}
-use Prim.Native.Nat.{ℕ, _+_, _-_, _*_, _≤_, _<_}
+use Prim.Native.Nat.{ℕ, _+_, _*_, _≤_}
 use native.Mathlib.Nat.{mul-le-mul-left}
 use native.Mathlib.Omega.{arith}
 use mir.Val.{Fits}
 use mir.Syntax.{w64}
 use lib.Dec.{eqb}
-use borrow.Author.Tests.{eq-eqb, ne-eqb}
+use borrow.Author.Tests.{ne-eqb}
 use Rattle.matching.specs.declared.Order.{Order}
 use Rattle.matching.specs.declared.Event.{Event}
 use Rattle.matching.specs.declared.Event.the-variants.{Traded}
-use Rattle.matching.specs.Matching.{openOf, isBuy, ahead, buys}
+use Rattle.matching.specs.Matching.{openOf, ahead, buys}
 use Rattle.matching.specs.Held.{Sound, May}
-use Rattle.matching.specs.Depth.{onSide, stands, behind, nearer, onLevel, share}
+use Rattle.matching.specs.Depth.{stands, behind, nearer, onLevel, share}
 
 -- the side of an order, where it is not the buys that are asked for
 pub side-not : (s x : ℕ) (b : Bool) → b ≡ eqb x 1 → s ≢ 1 → not b ≡ cond (eqb s 1) (eqb x 1) (not (eqb x 1))

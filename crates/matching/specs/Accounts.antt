@@ -3,10 +3,9 @@
 -- Assumes nothing.
 use mathlib.Core.Path.{_≡_}
 use Prim.Native.Nat.{ℕ, _+_}
-use mathlib.Core.Bool.{Bool, cond}
+use mathlib.Core.Bool.{cond}
 use mathlib.Core.List.{List, [], _∷_}
 use lib.Dec.{eqb}
-use Rattle.matching.specs.declared.Order.{Order}
 use Rattle.matching.specs.declared.Event.{Event}
 use Rattle.matching.specs.declared.Event.the-variants.{Accepted, Replaced, Withdrawn, Canceled, Decremented, Traded, Expired}
 use Rattle.matching.specs.Matching.{Book, at, isBuy, who}

@@ -2,7 +2,7 @@
 -- "The table and its calls", Depth). Totals are sums of naturals, so nothing wraps. Only orders with something open count.
 -- A level of 0 is no level. Assumes nothing.
 use Prim.Native.Nat.{ℕ, zero, suc, _+_}
-use mathlib.Core.Bool.{Bool, true, false, cond, not, _&&_, _||_}
+use mathlib.Core.Bool.{Bool, cond, not, _&&_, _||_}
 use lib.ListN.{length}
 use lib.Dec.{eqb}
 use Rattle.matching.specs.declared.Order.{Order}

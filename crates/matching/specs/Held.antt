@@ -51,7 +51,6 @@ pub record Held (listed : ℕ → Bool) (next : ℕ) (b : Book) (w : ℕ) : Type
   pub places-below : (k : ℕ) → In b k → at b k .place < next
   pub no-ioc : (k : ℕ) → k ≢ w → at b k .tif ≡ 3 → openOf (at b k) ≡ 0
   pub uncrossed : Uncrossed b w
-  pub next-low : 0 < next
   pub next-high : next ≤ 1_000_000_000
   pub numbers : 0 < openOf (at b w) → next + 2 * opposedTo b w + 1 ≤ 1_000_000_000
 
@@ -112,5 +111,6 @@ pub record Renews (next : ℕ) (b : Book) (n l q p : ℕ) : Type 0 where
   pub level-low : 0 < l
   pub level-high : l ≤ 1_999_999_999
   pub newest : p ≡ next
+  pub place-low : 0 < p
   pub filled : length b ≤ 255
   pub numbered : next ≤ 999_998_976

@@ -1,7 +1,10 @@
 -- What the contracts and the theorems of `matching` cite. Matching is the one file that a trader reads; Depth has the levels
--- of a side; Accounts what events say of each order; Held what a market asks of its book.
+-- of a side; Accounts what events say of each order; Runs what is said of runs of steps; Held what a market asks of its book;
+-- Happens which events can happen to it; Rehearsed the books of the rehearsed cases.
 pub mod Matching
 pub mod Depth
 pub mod Accounts
+pub mod Runs
 pub mod Held
 pub mod Happens
+pub mod Rehearsed

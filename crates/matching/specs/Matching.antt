@@ -3,7 +3,7 @@
 -- on self-trade prevention). A book is a list of orders; an order is named by its number, from 1; number 0 is no order.
 -- Assumes nothing: every definition gives something for every book.
 use Prim.Native.Nat.{ℕ, zero, suc, _+_, _-_, _*_, min}
-use mathlib.Core.Bool.{Bool, true, false, cond, not, _&&_, _||_}
+use mathlib.Core.Bool.{Bool, cond, not, _&&_, _||_}
 use mathlib.Core.List.{List, [], _∷_, _++_}
 use lib.ListN.{length, getD, set}
 use lib.Dec.{ltb, leb, eqb}
@@ -163,7 +163,7 @@ who (Expired n q) = n
 
 -- who takes a new place: the place of an order after a requested replacement to a level and quantity, new being the place
 -- that it may take
-unfoldable pub placeAfter : Order → ℕ → ℕ → ℕ → ℕ
+abbrev pub placeAfter : Order → ℕ → ℕ → ℕ → ℕ
 placeAfter o level quantity new = new
 
 -- an order with other amounts

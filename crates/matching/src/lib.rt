@@ -2,7 +2,7 @@
 // an order adds to a level. The book itself is the table's.
 ghost use mathlib.Core.Path.{_≡_};
 ghost use Prim.Native.Nat.{_+_, _*_, _≤_, min};
-ghost use Rattle.matching.specs.Matching.{openOf, isOpen, isBuy, opposite, sameOwner, opposed, meets, better, faces, prevention, meeting, ending, change, preventedReports, reports, buys, ahead};
+ghost use Rattle.matching.specs.Matching.{openOf, isOpen, isBuy, opposite, sameOwner, opposed, meets, better, faces, prevention, meeting, ending, placeAfter, change, preventedReports, reports, buys, ahead};
 ghost use Rattle.matching.specs.Depth.{onSide, stands, behind, nearer, onLevel, share};
 ghost use Rattle.matching.specs.Held.{Covered, Sound, May};
 
@@ -169,6 +169,13 @@ impl Order {
         Outcome::Rests
     }
 
+    // The place after a requested replacement to a level and quantity, new being the place that it may take.
+    pub fn place_after(self, level: u64, quantity: u64, new: u64) -> u64
+        ensures { λ r. ⌜ r ≡ placeAfter self level quantity new ⌝ }
+    {
+        new
+    }
+
     // The order after an event of it.
     pub fn change(self, e: Event) -> Order
         requires { ⌜ Sound self × May e self ⌝ }
@@ -187,7 +194,7 @@ impl Order {
             } => {
                 o.level = level;
                 o.qty = quantity;
-                o.place = place;
+                o.place = self.place_after(level, quantity, place);
             }
             Event::Withdrawn { order: _, quantity } => {
                 o.canceled = o.canceled + quantity;

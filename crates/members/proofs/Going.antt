@@ -7,7 +7,8 @@ use native.Mathlib.Omega.{arith}
 use mathlib.Core.List.{List, [], _∷_}
 use lib.ListN.{length, take, drop, getD, length-take, drop-of-length-le}
 use lib.Seq.{sets, drop-cons, getD-take}
-use Rattle.members.specs.Members.{nobody, mpidsOf, modesOf, empty, added, listedOf}
+use Rattle.members.specs.Members.{mpidsOf, modesOf}
+use Rattle.members.specs.Apart.{nobody, empty, added, listedOf}
 use Rattle.members.specs.declared.Member.{Member}
 use Rattle.members.specs.declared.Listed.{Listed}
 

@@ -1,3 +1,4 @@
 -- The laws of `members`, for the proofs of this crate and of those above it. Nothing here need be believed.
 pub mod Going
 pub mod Calling
+pub mod Lending

@@ -3,7 +3,7 @@
 ghost use mathlib.Core.Path.{_≡_};
 ghost use Prim.Native.Nat.{_<_, min};
 ghost use lib.ListN.{length, getD};
-ghost use Rattle.members.specs.Members.{nobody, empty, added, listedOf};
+ghost use Rattle.members.specs.Apart.{nobody, empty, added, listedOf};
 
 // One member of the market: its MPID, and its mode when its own orders meet.
 pub struct Member {

@@ -1,5 +1,7 @@
--- What the contracts of `report` cite. A reader believes, in this order: Fields (what the bytes of a field and of a row are),
--- Frame (8, 9 and 10 around them), Rows (which fields each kind of report has).
+-- What the contracts of `report` cite. A reader believes Fields: the bytes of a field and of a row; Frame: the bytes of a report;
+-- Rows: which fields each kind of report has, and their values.
 pub mod Fields
 pub mod Frame
 pub mod Rows
+pub mod Shapes
+pub mod Parse

@@ -8,10 +8,10 @@ use lib.Dec.{eqb, ltb}
 use Rattle.decimal.specs.Writing.{meanOf}
 use Rattle.matching.specs.declared.Order.{Order}
 use Rattle.matching.specs.Matching.{openOf}
-use Rattle.report.specs.Fields.{_is_, orText, orNumber}
+use Rattle.report.specs.Fields.{field}
 use Rattle.report.specs.declared.Place.{Place}
 use Rattle.report.specs.declared.Value.{Value}
-use Rattle.report.specs.declared.Value.the-variants.{Absent, Number, Char, Word, Text, Yield, Mean}
+use Rattle.report.specs.declared.Value.the-variants.{Absent, Number, Char, Word, Sent, Stored, Level, Mean}
 use Rattle.report.specs.declared.Field.{Field}
 use Rattle.report.specs.declared.rows.Stamp.{Stamp}
 use Rattle.report.specs.declared.rows.Shown.{Shown}
@@ -20,6 +20,24 @@ use Rattle.report.specs.declared.rows.Fill.{Fill}
 use Rattle.report.specs.declared.rows.Refused.{Refused}
 use Rattle.report.specs.declared.rows.Unchanged.{Unchanged}
 use Rattle.report.specs.declared.rows.Faulty.{Faulty}
+
+-- ---- one field
+
+-- a tag with its value
+infix 80 _is_
+abbrev pub _is_ : ℕ → Value → Field
+tag is v = field tag v
+
+-- the text at a place: of the message that was sent, or of the table where it is stored
+abbrev pub text : Place → Value
+text p = cond (p .sent) (Sent (p .start) (p .length)) (Stored (p .start) (p .length))
+
+-- a text, or no value where it is empty; a number, or no value where it is 0
+abbrev pub orText : Place → Value
+orText p = cond (eqb (p .length) 0) Absent (text p)
+
+abbrev pub orNumber : ℕ → Value
+orNumber n = cond (eqb n 0) Absent (Number n)
 
 -- ---- single values
 
@@ -75,10 +93,10 @@ unfoldable pub header : ℕ → Stamp → List Field
 header type s =
     35 is Char type
     ∷ 34 is Number (s .number)
-    ∷ 49 is Text (s .venue)
+    ∷ 49 is text (s .venue)
     ∷ 50 is djgb
-    ∷ 52 is Text (s .time)
-    ∷ 56 is Text (s .port)
+    ∷ 52 is text (s .time)
+    ∷ 56 is text (s .port)
     ∷ []
 
 -- Accepted
@@ -87,7 +105,7 @@ acceptedRow s o =
     header 56 s
     ++ (1 is orText (o .account)
     ∷ 6 is Mean (avgPx (o .order))
-    ∷ 11 is Text (o .id)
+    ∷ 11 is text (o .id)
     ∷ 14 is Number (o .order .executed)
     ∷ 17 is Number (s .number)
     ∷ 20 is Number 0
@@ -95,12 +113,12 @@ acceptedRow s o =
     ∷ 38 is Number (o .order .qty)
     ∷ 39 is Number 0
     ∷ 40 is Number 2
-    ∷ 44 is Yield (o .order .level)
+    ∷ 44 is Level (o .order .level)
     ∷ 47 is Char (o .capacity)
     ∷ 54 is Number (o .order .side)
-    ∷ 55 is Text (o .code)
+    ∷ 55 is text (o .code)
     ∷ 59 is Number (o .order .tif)
-    ∷ 60 is Text (s .time)
+    ∷ 60 is text (s .time)
     ∷ 109 is orNumber (o .order .mpid)
     ∷ 150 is Number 0
     ∷ 151 is Number (openOf (o .order))
@@ -114,7 +132,7 @@ replacedRow s o g =
     header 56 s
     ++ (1 is orText (o .account)
     ∷ 6 is Mean (avgPx (o .order))
-    ∷ 11 is Text (o .id)
+    ∷ 11 is text (o .id)
     ∷ 14 is Number (o .order .executed)
     ∷ 17 is Number (s .number)
     ∷ 20 is Number 0
@@ -122,13 +140,13 @@ replacedRow s o g =
     ∷ 38 is Number (o .order .qty)
     ∷ 39 is Number (replacedStatus (o .order))
     ∷ 40 is Number 2
-    ∷ 41 is Text (g .orig)
-    ∷ 44 is Yield (o .order .level)
+    ∷ 41 is text (g .orig)
+    ∷ 44 is Level (o .order .level)
     ∷ 47 is Char (o .capacity)
     ∷ 54 is Number (o .order .side)
-    ∷ 55 is Text (o .code)
+    ∷ 55 is text (o .code)
     ∷ 59 is Number (o .order .tif)
-    ∷ 60 is Text (s .time)
+    ∷ 60 is text (s .time)
     ∷ 109 is orNumber (o .order .mpid)
     ∷ 150 is Number 5
     ∷ 151 is Number (openOf (o .order))
@@ -143,7 +161,7 @@ canceledRow s o g =
     header 56 s
     ++ (1 is orText (o .account)
     ∷ 6 is Mean (avgPx (o .order))
-    ∷ 11 is Text (o .id)
+    ∷ 11 is text (o .id)
     ∷ 14 is Number (o .order .executed)
     ∷ 17 is Number (s .number)
     ∷ 20 is Number 0
@@ -152,12 +170,12 @@ canceledRow s o g =
     ∷ 39 is Number 4
     ∷ 40 is Number 2
     ∷ 41 is orText (g .orig)
-    ∷ 44 is Yield (o .order .level)
+    ∷ 44 is Level (o .order .level)
     ∷ 47 is Char (o .capacity)
     ∷ 54 is Number (o .order .side)
-    ∷ 55 is Text (o .code)
+    ∷ 55 is text (o .code)
     ∷ 59 is Number (o .order .tif)
-    ∷ 60 is Text (s .time)
+    ∷ 60 is text (s .time)
     ∷ 109 is orNumber (o .order .mpid)
     ∷ 150 is Number 4
     ∷ 151 is Number (openOf (o .order))
@@ -172,22 +190,22 @@ tradeRow s o f =
     header 56 s
     ++ (1 is orText (o .account)
     ∷ 6 is Mean (avgPx (o .order))
-    ∷ 11 is Text (o .id)
+    ∷ 11 is text (o .id)
     ∷ 14 is Number (o .order .executed)
     ∷ 17 is Number (s .number)
     ∷ 20 is Number 0
-    ∷ 31 is Yield (f .level)
+    ∷ 31 is Level (f .level)
     ∷ 32 is Number (f .quantity)
     ∷ 37 is Number (o .orderid)
     ∷ 38 is Number (o .order .qty)
     ∷ 39 is Number (tradeStatus (o .order))
     ∷ 40 is Number 2
-    ∷ 44 is Yield (o .order .level)
+    ∷ 44 is Level (o .order .level)
     ∷ 47 is Char (o .capacity)
     ∷ 54 is Number (o .order .side)
-    ∷ 55 is Text (o .code)
+    ∷ 55 is text (o .code)
     ∷ 59 is Number (o .order .tif)
-    ∷ 60 is Text (s .time)
+    ∷ 60 is text (s .time)
     ∷ 109 is orNumber (o .order .mpid)
     ∷ 150 is Number (tradeStatus (o .order))
     ∷ 151 is Number (openOf (o .order))
@@ -204,7 +222,7 @@ unfoldable pub rejectedRow : Stamp → Refused → List Field
 rejectedRow s q =
     header 56 s
     ++ (6 is Mean (meanOf 0 0)
-    ∷ 11 is Text (q .id)
+    ∷ 11 is text (q .id)
     ∷ 14 is Number 0
     ∷ 17 is Number (s .number)
     ∷ 20 is Number 0
@@ -212,7 +230,7 @@ rejectedRow s q =
     ∷ 38 is Number (q .quantity)
     ∷ 39 is Number 8
     ∷ 54 is Number (q .side)
-    ∷ 55 is Text (q .code)
+    ∷ 55 is text (q .code)
     ∷ 103 is Number (q .reason)
     ∷ 150 is Number 8
     ∷ 151 is Number 0
@@ -222,10 +240,10 @@ rejectedRow s q =
 unfoldable pub cancelRejectRow : Stamp → Unchanged → List Field
 cancelRejectRow s u =
     header 57 s
-    ++ (11 is Text (u .id)
+    ++ (11 is text (u .id)
     ∷ 37 is orNobody (u .orderid)
     ∷ 39 is Number (u .status)
-    ∷ 41 is Text (u .orig)
+    ∷ 41 is text (u .orig)
     ∷ 102 is Number (u .reason)
     ∷ 434 is Number (u .response)
     ∷ [])
@@ -236,6 +254,6 @@ sessionRejectRow s f =
     header 51 s
     ++ (45 is Number (f .sequence)
     ∷ 371 is Number (f .tag)
-    ∷ 372 is Text (f .kind)
+    ∷ 372 is text (f .kind)
     ∷ 373 is Number (f .reason)
     ∷ [])

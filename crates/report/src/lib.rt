@@ -1,31 +1,100 @@
-// Reports: a row of fields for each kind, and its bytes in a lent area.
+// Reports: rows of fields, their bytes, and reading them back.
 pub mod rows;
+pub mod parse;
+pub mod values;
+pub mod write;
 
-// Where a text stands: in the message that caused the report, or else in what the market keeps, its table; the first byte of
-// it and how many there are.
+// The value of a field. A text is a part of one of two slices that are lent with a row: the message that was sent (or the
+// report that was read), or the table where texts are stored.
+pub enum Value {
+    Absent,
+    Number(u64),
+    Char(u8),
+    Word { w: u8, x: u8, y: u8, z: u8 },
+    Sent { from: usize, len: usize },
+    Stored { from: usize, len: usize },
+    Level(u64),
+    Mean(u64),
+}
+
+// A field: its tag and its value. One whose value is absent is not written.
+pub struct Field {
+    pub tag: u64,
+    pub value: Value,
+}
+
+// Where a text stands: in the message that caused the report, or else in the table where it is stored; its first byte and how
+// many there are.
 pub struct Place {
     pub sent: bool,
     pub start: usize,
     pub length: usize,
 }
 
-// The value of a field: none, so that the field is left out; a number; one character; four characters; a text at its place; a
-// yield by its level; AvgPx by its mean.
-pub enum Value {
-    Absent,
-    Number(u64),
-    Char(u8),
-    Word(u8, u8, u8, u8),
-    Text(Place),
-    Yield(u64),
-    Mean(u64),
+// What the value of a field may be: one of five characters; a number in a range; one of eight numbers; four characters; an
+// order's record, or NONE; a text of at most so many characters from one on to 7E hex; 1 to 9 digits; a time; a yield; AvgPx.
+pub enum Shape {
+    Nothing,
+    OneOf {
+        a: u8,
+        b: u8,
+        c: u8,
+        d: u8,
+        e: u8,
+    },
+    Range {
+        least: u64,
+        most: u64,
+    },
+    Listed {
+        a: u8,
+        b: u8,
+        c: u8,
+        d: u8,
+        e: u8,
+        f: u8,
+        g: u8,
+        h: u8,
+    },
+    Exact {
+        w: u8,
+        x: u8,
+        y: u8,
+        z: u8,
+    },
+    Record,
+    Text {
+        most: usize,
+        low: u8,
+    },
+    Digits,
+    Time,
+    Yield,
+    Average,
 }
 
-// One field.
-pub struct Field {
+// A place for a field in a kind of report.
+pub struct Slot {
     pub tag: u64,
-    pub value: Value,
+    pub optional: bool,
+    pub shape: Shape,
 }
 
-// The fields of a row that is handed on: a Trade has 33 between 9 and 10; fields with no value stand behind the last.
-pub const ROW: usize = 36;
+// A value that was read, or none.
+pub enum Pick {
+    Is(Value),
+    No,
+}
+
+// A field that was read, and the place behind it.
+pub enum Got {
+    Value { value: Value, next: usize },
+    Wrong,
+}
+
+// The fields of a row that was read and the place behind them, or not ok.
+pub struct Row {
+    pub ok: bool,
+    pub next: usize,
+    pub fields: [Field; 36],
+}

@@ -4,6 +4,7 @@ pub mod Same
 pub mod Stores
 pub mod Writes
 pub mod Books
+pub mod Lookups
 pub mod Facts
 pub mod Listed
 pub mod Computed

@@ -4,7 +4,7 @@ ghost use Prim.Native.Nat.{_≤_, _<_};
 ghost use mathlib.Core.List.{[]};
 ghost use lib.ListN.{length};
 ghost use Rattle.table.specs.Places.{tableBytes};
-ghost use Rattle.table.specs.Heading.{venueOf, portOf, codeOf, nextOf, workOf, stampOf, putNext, putWork, endWork, entries, modeOf};
+ghost use Rattle.table.specs.Heading.{venueOf, portOf, codeOf, nextOf, workOf, stampOf, putNext, putWork, endWork};
 
 // The venue id.
 pub fn venue(t: &[u8]) -> &[u8]

@@ -42,7 +42,7 @@ use denote.Triple.Spec.{Meets, tripleOf}
 use denote.Triple.Statement.{Contract, Triple}
 use denote.Triple.Table.{entered, cited}
 use denote.Triple.Walked.{says, Stays, stay-none-slice, walkOf, goes-none-slice, Walks, ends-at, walked, walk-meets}
-use Rattle.members.specs.Members.{nobody, empty, added, listedOf}
+use Rattle.members.specs.Apart.{nobody, empty, added, listedOf}
 use Rattle.members.specs.declared.Member.{Member}
 use Rattle.members.specs.declared.Listed.{Listed}
 use Rattle.members.proofs.Going.{Going, starts, there, roomy, goes-on, ends as at-end}

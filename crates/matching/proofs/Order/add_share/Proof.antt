@@ -2,7 +2,7 @@
 use borrow.Author.Needs.{needs}
 use Rattle.matching.proofs.Values.{share-fits, share-yes, share-no}
 use Rattle.matching.proofs.Values.{share-fits, share-yes, share-no}
-use Rattle.matching.proofs.Values.{share-yes, share-no, open-most}
+use Rattle.matching.proofs.Values.{share-yes, share-no}
 use Rattle.matching.proofs.Order.add_share.Statement.{statement}
 use Rattle.matching.proofs.Order.add_share.Tie as tie
 

@@ -1,8 +1,7 @@
 -- Each event adds its amount to one of the order's; a replacement sets its terms, an acceptance all of it.
 use borrow.Author.Needs.{needs}
 use native.Mathlib.Omega.{arith}
-use Rattle.matching.specs.Matching.{openOf, placeAfter, change}
-use Rattle.matching.proofs.Values.{value-fits, sum-fits}
+use Rattle.matching.specs.Matching.{openOf, change}
 use Rattle.matching.proofs.Values.{value-fits, sum-fits}
 use Rattle.matching.proofs.Order.change.Statement.{statement}
 use Rattle.matching.proofs.Order.change.Tie as tie
@@ -12,6 +11,9 @@ enum-known-e c = search needs
 
 enum-known-e-2 : tie.Need-enum-known-e-2
 enum-known-e-2 c = search needs
+
+place-after-requires : tie.Need-place-after-requires
+place-after-requires c κs = search needs
 
 enum-known-e-3 : tie.Need-enum-known-e-3
 enum-known-e-3 c = search needs
@@ -59,8 +61,8 @@ unfolding change
 returns c = rw (c .before .e .given .1)
 
 returns-2 : tie.Need-returns-2
-unfolding change placeAfter
-returns-2 c = rw (c .before .e2 .given .1)
+unfolding change
+returns-2 c = rw (c .before .before .e2 .given .1, c .place-after .ensures)
 
 returns-3 : tie.Need-returns-3
 unfolding change
@@ -88,6 +90,7 @@ change-spec =
     (tie.spec
     enum-known-e
     enum-known-e-2
+    place-after-requires
     enum-known-e-3
     add-o
     enum-known-e-4

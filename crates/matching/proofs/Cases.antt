@@ -1,0 +1,172 @@
+-- The rehearsed cases 1 to 11 of document 01, each over any book that is the printed one: of a table's book it is the same
+-- statement. Modes are those of the market's MPIDs; only that of the order in work is asked for.
+use mathlib.Core.Path.{_≡_, refl, ap, _∙_}
+use mathlib.Core.List.{List, [], _∷_, map}
+use Prim.Native.Nat.{ℕ, _+_, _≤_}
+use native.Mathlib.Omega.{arith}
+use lib.ListN.{length}
+use Rattle.decimal.specs.Writing.{decimal, places, plain, fixed, shareOf, meanOf}
+use Rattle.matching.specs.declared.Event.{Event}
+use Rattle.matching.specs.declared.Depth.the-variants.{Level, NoLevel}
+use Rattle.matching.specs.Matching.{Book, at, openOf, Ran, run, meets, better, faces, choose, best, sameOwner, prevention, meeting, ending, preventing, causes, change, after, play, partner, outcome, happens, workAfter, sumOver, countOf}
+use Rattle.matching.specs.Accounts.{tally}
+use Rattle.matching.specs.Depth.{stands, behind, nearer, next, levelAt, onLevel, share, total, orders, depth}
+use Rattle.matching.specs.Rehearsed.{yield, bookA, events1, events2, events3, book4, events4, book5, events5, book6, events6, book7, events7, book8, book9, events9, book10, book11, Shows, Line, Averages}
+use Rattle.matching.proofs.Modes.{same-modes, beyond}
+
+-- ---- what a run of n steps comes to where every MPID has mode m, by computing
+
+abbrev always : ℕ → ℕ → ℕ
+always m mpid = m
+
+record Comes (m : ℕ) (b : Book) (w n : ℕ) (es : List Event) (os : List ℕ) : Type 0 where
+  events : run (always m) n b w .events ≡ es
+  left : map openOf (run (always m) n b w .book) ≡ os
+  steps : run (always m) n b w .steps ≡ n
+  ended : run (always m) n b w .work ≡ 0
+
+-- computing opens these
+computes : ℕ
+unfolding openOf run meets better faces choose best sameOwner prevention meeting ending preventing causes change after play partner outcome happens workAfter
+computes = 0
+
+comes1 : Comes 1 bookA 5 4 events1 (0 ∷ 0 ∷ 200 ∷ 500 ∷ 0 ∷ [])
+unfolding computes
+comes1 = record { events = refl; left = refl; steps = refl; ended = refl }
+
+comes2 : Comes 2 bookA 5 5 events2 (0 ∷ 0 ∷ 0 ∷ 0 ∷ 400 ∷ [])
+unfolding computes
+comes2 = record { events = refl; left = refl; steps = refl; ended = refl }
+
+comes3 : Comes 3 bookA 5 5 events3 (0 ∷ 0 ∷ 0 ∷ 0 ∷ 200 ∷ [])
+unfolding computes
+comes3 = record { events = refl; left = refl; steps = refl; ended = refl }
+
+line3 : Line bookA events3 5 1200 800 200 0 200
+unfolding computes tally
+line3 = record { is-accepted = refl; is-executed = refl; is-decremented = refl; is-canceled = refl; is-left = refl; adds-up = refl }
+
+comes4 : Comes 3 book4 2 2 events4 (0 ∷ 0 ∷ [])
+unfolding computes
+comes4 = record { events = refl; left = refl; steps = refl; ended = refl }
+
+comes5 : Comes 3 book5 2 2 events5 (150 ∷ 0 ∷ [])
+unfolding computes
+comes5 = record { events = refl; left = refl; steps = refl; ended = refl }
+
+-- under any mode
+module _ (m : ℕ) where
+  comes6 : Comes m book6 2 2 events6 (150 ∷ 0 ∷ [])
+  unfolding computes
+  comes6 = record { events = refl; left = refl; steps = refl; ended = refl }
+
+  comes7 : Comes m book7 5 5 events7 (0 ∷ 0 ∷ 0 ∷ 0 ∷ 0 ∷ [])
+  unfolding computes
+  comes7 = record { events = refl; left = refl; steps = refl; ended = refl }
+
+  comes8 : Comes m book8 2 1 [] (100 ∷ 100 ∷ [])
+  unfolding computes
+  comes8 = record { events = refl; left = refl; steps = refl; ended = refl }
+
+  comes9 : Comes m book9 2 2 events9 (0 ∷ 0 ∷ [])
+  unfolding computes
+  comes9 = record { events = refl; left = refl; steps = refl; ended = refl }
+
+  ends11 : run (always m) 3 book11 3 .work ≡ 0
+  unfolding computes
+  ends11 = refl
+
+  sum11 : at (run (always m) 3 book11 3 .book) 3 .sum ≡ 3_000_000_302
+  unfolding computes
+  sum11 = refl
+
+  executed11 : at (run (always m) 3 book11 3 .book) 3 .executed ≡ 3
+  unfolding computes
+  executed11 = refl
+
+mean11 : meanOf 3_000_000_302 3 ≡ 1_000_000_100_666
+unfolding meanOf shareOf
+mean11 = refl
+
+text11 : fixed 6 1_000_000_100_666 ≡ 48 ∷ 46 ∷ 49 ∷ 48 ∷ 48 ∷ 54 ∷ 54 ∷ 54 ∷ []
+unfolding fixed plain decimal places
+text11 = refl
+
+level10 : depth book10 2 0 ≡ Level (yield 100) 4_999_999_995 5
+unfolding openOf sumOver countOf stands behind nearer next levelAt onLevel share total orders depth
+level10 = refl
+
+no-level10 : depth book10 2 1 ≡ NoLevel
+unfolding openOf sumOver countOf stands behind nearer next levelAt onLevel share total orders depth
+no-level10 = refl
+
+-- ---- the same with any budget of n steps or more, under modes that have m for the MPID of w
+module _ (modes : ℕ → ℕ) (m : ℕ) (b : Book) (w n : ℕ) (in-book : w ≤ length b) (mode : modes (at b w .mpid) ≡ m) where
+  same : run (always m) n b w .work ≡ 0 → (k : ℕ) → run modes (n + k) b w ≡ run (always m) n b w
+  same z k =
+      let e = same-modes modes (always m) n b w in-book mode in
+      beyond modes n k b w (rw e z) ∙ e
+
+  shown : {es : List Event} {os : List ℕ} → Comes m b w n es os → Shows modes b w es os n
+  shown c =
+      record {
+        events = λ k. ap (λ (r : Ran). r .events) (same (c .ended) k) ∙ c .events;
+        left = λ k. ap (λ (r : Ran). map openOf (r .book)) (same (c .ended) k) ∙ c .left;
+        steps = λ k. ap (λ (r : Ran). r .steps) (same (c .ended) k) ∙ c .steps;
+        ended = λ k. ap (λ (r : Ran). r .work) (same (c .ended) k) ∙ c .ended;
+      }
+
+-- ---- the cases
+module _ (modes : ℕ → ℕ) (b : Book) where
+  -- 1: mode 1; 200 and 500 stay; 4 steps
+  pub case1 : modes 10 ≡ 1 → b ≡ bookA → Shows modes b 5 events1 (0 ∷ 0 ∷ 200 ∷ 500 ∷ 0 ∷ []) 4
+  case1 m e = rw e (shown modes 1 bookA 5 4 (omega arith) m comes1)
+
+  -- 2: mode 2; 400 rests; 5 steps
+  pub case2 : modes 10 ≡ 2 → b ≡ bookA → Shows modes b 5 events2 (0 ∷ 0 ∷ 0 ∷ 0 ∷ 400 ∷ []) 5
+  case2 m e = rw e (shown modes 2 bookA 5 5 (omega arith) m comes2)
+
+  -- 3: mode 3; 200 rests: 1,200 = 800 + 200 + 0 + 200
+  pub case3 : modes 10 ≡ 3 → b ≡ bookA → Shows modes b 5 events3 (0 ∷ 0 ∷ 0 ∷ 0 ∷ 200 ∷ []) 5 × Line b events3 5 1200 800 200 0 200
+  case3 m e = rw e (shown modes 3 bookA 5 5 (omega arith) m comes3, line3)
+
+  -- 4: mode 3; both are canceled
+  pub case4 : modes 10 ≡ 3 → b ≡ book4 → Shows modes b 2 events4 (0 ∷ 0 ∷ []) 2
+  case4 m e = rw e (shown modes 3 book4 2 2 (omega arith) m comes4)
+
+  -- 5: mode 3; the sell has 150 open
+  pub case5 : modes 10 ≡ 3 → b ≡ book5 → Shows modes b 2 events5 (150 ∷ 0 ∷ []) 2
+  case5 m e = rw e (shown modes 3 book5 2 2 (omega arith) m comes5)
+
+  -- 6: they trade
+  pub case6 : b ≡ book6 → Shows modes b 2 events6 (150 ∷ 0 ∷ []) 2
+  case6 e = rw e (shown modes (modes 0) book6 2 2 (omega arith) refl (comes6 (modes 0)))
+
+  -- 7: trades of 1,000, and 200 expire; 5 steps
+  pub case7 : b ≡ book7 → Shows modes b 5 events7 (0 ∷ 0 ∷ 0 ∷ 0 ∷ 0 ∷ []) 5
+  case7 e = rw e (shown modes (modes 14) book7 5 5 (omega arith) refl (comes7 (modes 14)))
+
+  -- 8: no trade; the one step ends the work
+  pub case8 : b ≡ book8 → Shows modes b 2 [] (100 ∷ 100 ∷ []) 1
+  case8 e = rw e (shown modes (modes 12) book8 2 1 (omega arith) refl (comes8 (modes 12)))
+
+  -- 9: a trade at -0.005
+  pub case9 : b ≡ book9 → Shows modes b 2 events9 (0 ∷ 0 ∷ []) 2
+  case9 e = rw e (shown modes (modes 12) book9 2 2 (omega arith) refl (comes9 (modes 12)))
+
+  -- 11: AvgPx 0.100666
+  pub case11 : b ≡ book11 → Averages modes b 3 3 3_000_000_302 3 1_000_000_100_666 (48 ∷ 46 ∷ 49 ∷ 48 ∷ 48 ∷ 54 ∷ 54 ∷ 54 ∷ [])
+  case11 e =
+      let m = modes 12 in
+      let s = same modes m book11 3 3 (omega arith) refl (ends11 m) in
+      rw e
+      (record {
+        is-sum = λ k. ap (λ (r : Ran). at (r .book) 3 .sum) (s k) ∙ sum11 m;
+        is-executed = λ k. ap (λ (r : Ran). at (r .book) 3 .executed) (s k) ∙ executed11 m;
+        is-mean = mean11;
+        is-text = text11;
+      })
+
+-- 10: one level, with 4,999,999,995 and 5 orders
+pub case10 : (b : Book) → b ≡ book10 → (depth b 2 0 ≡ Level (yield 100) 4_999_999_995 5) × (depth b 2 1 ≡ NoLevel)
+case10 b e = rw e (level10, no-level10)

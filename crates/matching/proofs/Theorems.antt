@@ -1,0 +1,117 @@
+-- What holds of matching: of every run of steps over any book, of every list of events that can happen, and of every level.
+-- Each statement is in the words of specs/; the proofs are one line and lead to the laws.
+use mathlib.Core.Path.{_≡_, sym, _∙_}
+use mathlib.Core.Bool.{Bool, true, false}
+use mathlib.Core.List.{List, []}
+use Prim.Native.Nat.{ℕ, suc, _+_, _*_, _≤_, _<_}
+use native.Mathlib.Omega.{arith}
+use lib.ListN.{length}
+use Rattle.matching.specs.declared.Event.{Event}
+use Rattle.matching.specs.Matching.{Book, at, openOf, buys, ahead, better, faces, partner, metBy, opposedTo, happens, bookAfter, workAfter, play, run}
+use Rattle.matching.specs.Accounts.{tally, trades, decrements, cancels, accepted, bought, sold, SelfTradeFree}
+use Rattle.matching.specs.Runs.{Ended, GoesOn}
+use Rattle.matching.specs.Held.{Covered, Sound, In, Uncrossed, Held}
+use Rattle.matching.specs.Happens.{Follow}
+use Rattle.matching.specs.Depth.{stands, levelAt, totalOf, ordersOf, overLevels, openOn, ordersOn}
+use Rattle.matching.proofs.Steps.{step-is, run-plays, run-fits, run-keeps, happens-fits}
+use Rattle.matching.proofs.Conserved.{accounts, conserved-from, fits-follow, fits-accepted}
+use Rattle.matching.proofs.Fair.{run-fair, fair-balanced, fair-owners}
+use Rattle.matching.proofs.Crossing.{step-uncrossed}
+use Rattle.matching.proofs.Ends.{left-most, run-ends, step-two, run-reports, most-reports}
+use Rattle.matching.proofs.Sounds.{run-sound}
+use Rattle.matching.proofs.Holding.{step-held, run-held}
+use Rattle.matching.proofs.Best.{partner-best, run-on}
+use Rattle.matching.proofs.Levels.{standing-high, totals-add-up, orders-add-up, no-more, levels-ahead, best-level}
+
+-- ---- every run of n steps of order w of book b
+module _ (modes : ℕ → ℕ) (n : ℕ) (b : Book) (w : ℕ) (in-book : w ≤ length b) where
+  -- conserved: the quantity of each order is what it had executed, decremented and canceled, what the events add, and what is
+  -- open afterwards
+  pub conserved : (k : ℕ) → Covered (at b k)
+      → at b k .qty
+      ≡ at b k .executed + tally trades k (run modes n b w .events)
+      + (at b k .decremented + tally decrements k (run modes n b w .events))
+      + (at b k .canceled + tally cancels k (run modes n b w .events))
+      + openOf (at (run modes n b w .book) k)
+  conserved k s =
+      let es = run modes n b w .events in
+      let f = run-fits modes n b w in-book in
+      let g = accounts k es b (fits-follow es b f) s in
+      sym (fits-accepted k (at b k .qty) es b f) ∙ rw (← run-plays modes n b w) at g
+
+  -- balanced: what is bought is what is sold
+  pub balanced : bought b (run modes n b w .events) ≡ sold b (run modes n b w .events)
+  balanced = fair-balanced b (run-fair modes n b w in-book)
+
+  -- no self-trade: no two orders of one MPID trade
+  pub no-self-trade : SelfTradeFree b (run modes n b w .events)
+  no-self-trade = fair-owners b (run-fair modes n b w in-book)
+
+  -- uncrossed: apart from the order in work; and wholly once the work has ended, the order in work being then 0, which is none
+  pub uncrossed : Uncrossed b w → Uncrossed (run modes n b w .book) (run modes n b w .work)
+  uncrossed =
+      run-keeps Uncrossed modes (λ c v i x. step-uncrossed c v _ (happens-fits modes c v i) x (step-is modes c v)) n b w in-book
+
+  -- in range: every order keeps its ranges; executed ≤ sum ≤ executed × 1,999,999,999, and canceled above 0 means nothing open
+  pub in-range : ((k : ℕ) → In b k → Sound (at b k)) → (k : ℕ) → In (run modes n b w .book) k → Sound (at (run modes n b w .book) k)
+  in-range = run-sound modes n b w in-book
+
+  -- numbers: all reports are at most two for each open opposite order and one more
+  pub numbers : length (run modes n b w .events) ≤ 2 * opposedTo b w + 1
+  numbers = omega (arith, run-reports modes n b w in-book, most-reports b w)
+
+-- done: m + 1 steps end the work, m being the open opposite orders that it meets
+pub done : (modes : ℕ → ℕ) (b : Book) (w : ℕ) → w ≤ length b → Ended modes (metBy b w + 1) b w (metBy b w)
+done modes b w h =
+    let g = run-ends modes (metBy b w + 1) b w h (omega (arith, left-most b w)) in
+    record { ended = g .ended; within = omega (arith, g .within, left-most b w) }
+
+-- a run of m steps and then one of n is a run of m + n
+pub goes-on : (modes : ℕ → ℕ) (m n : ℕ) (b : Book) (w : ℕ)
+    → GoesOn (run modes m b w) (run modes n (run modes m b w .book) (run modes m b w .work)) (run modes (m + n) b w)
+goes-on = run-on
+
+-- best is best: nothing that the order in work meets is better than the one it is matched with
+pub best : (b : Book) (w r k : ℕ) → partner b w ≡ r → 0 < r → In b k → faces (at b w) (at b k) ≡ true → better (at b k) (at b r) ≡ false
+best = partner-best
+
+-- a step has no report, one or two
+pub two-reports : (modes : ℕ → ℕ) (b : Book) (w : ℕ) → length (happens modes b w) ≤ 2
+two-reports modes b w = step-two b w _ (step-is modes b w)
+
+-- held: a step keeps what a market asks of its book, the rule on numbers with it, the next number having grown by the reports
+pub step-holds : (listed : ℕ → Bool) (modes : ℕ → ℕ) (next : ℕ) (b : Book) (w : ℕ) → In b w → Held listed next b w
+    → Held listed (next + length (happens modes b w)) (bookAfter modes b w) (workAfter b w)
+step-holds = step-held
+
+-- and so does a run
+pub run-holds : (listed : ℕ → Bool) (modes : ℕ → ℕ) (n next : ℕ) (b : Book) (w : ℕ) → Held listed next b w
+    → Held listed (next + length (run modes n b w .events)) (run modes n b w .book) (run modes n b w .work)
+run-holds = run-held
+
+-- ---- every list of events that can happen from an empty book on: acceptances, replacements, withdrawals and steps
+-- conserved: the quantity of the last acceptance or replacement of an order is what the events execute, decrement and cancel of
+-- it, and what is open
+pub conserved-always : (k : ℕ) (es : List Event) → Follow [] es
+    → accepted k 0 es ≡ tally trades k es + tally decrements k es + tally cancels k es + openOf (at (play [] es) k)
+conserved-always = conserved-from
+
+-- ---- the levels of a side of any book whose orders are in their ranges
+module _ (b : Book) (s : ℕ) (sound : (k : ℕ) → In b k → Sound (at b k)) where
+  -- the levels' totals add up to all that is open on the side, and their orders to its open orders
+  pub depth-totals : overLevels totalOf b s (length b) ≡ openOn b s
+  depth-totals = totals-add-up b s (standing-high b s sound)
+
+  pub depth-orders : overLevels ordersOf b s (length b) ≡ ordersOn b s
+  depth-orders = orders-add-up b s (standing-high b s sound)
+
+  -- there are at most as many levels as orders
+  pub depth-ends : levelAt b s (length b) ≡ 0
+  depth-ends = no-more b s (standing-high b s sound)
+
+  -- from the best: each level is better than the next, and no open order of the side is better than the first
+  pub depth-falls : (k : ℕ) → 0 < levelAt b s (suc k) → ahead (buys s) (levelAt b s k) (levelAt b s (suc k)) ≡ true
+  depth-falls = levels-ahead b s (standing-high b s sound)
+
+  pub depth-best : (k : ℕ) → In b k → stands s (at b k) ≡ true → ahead (buys s) (at b k .level) (levelAt b s 0) ≡ false
+  depth-best = best-level b s (standing-high b s sound)

@@ -1,0 +1,103 @@
+-- Whether a label stands at a place: from its last byte to the first; and that it stands where it was written.
+use Prim.Native.Nat.{ℕ, zero, suc, _+_, _-_, _/_, _%_, _^_, _≤_, _<_}
+use mathlib.Core.Path.{_≡_, refl, sym, ap, _∙_}
+use mathlib.Core.Bool.{Bool, true, false, cond, _&&_, and-false, false≢true}
+use mathlib.Core.List.{List, [], _∷_, _++_}
+use native.Mathlib.Omega.{arith}
+use native.Mathlib.Nat.{not-suc-le-zero}
+use lib.Dec.{ltb, eqb}
+use lib.ListN.{length, drop, getD, length-drop, length-append}
+use lib.Seq.{getD-drop}
+use mir.Syntax.{w64}
+use mir.Val.{Fits}
+use borrow.Author.Tests.{eq-eqb, ne-eqb}
+use Rattle.octets.proofs.Bools.{split}
+use Rattle.decimal.specs.Writing.{decimal, places}
+use Rattle.decimal.proofs.Digits.{decimal-is, length-places}
+use Rattle.report.specs.Fields.{label}
+use Rattle.report.specs.Parse.{starts}
+
+-- too few bytes
+pub starts-long : (p s : List ℕ) → length s < length p → starts p s ≡ false
+starts-long [] s h = absurd (not-suc-le-zero h)
+starts-long (a ∷ p) [] h = refl
+starts-long (a ∷ p) (b ∷ s) h = split (eqb b a) (λ e. rw e (starts-long p s (omega arith))) (λ e. rw e)
+
+-- where there are enough, the last byte decides with those before it
+pub starts-last : (p : List ℕ) (d : ℕ) (s : List ℕ) → length p < length s → starts (p ++ (d ∷ [])) s ≡ (starts p s && eqb (getD s (length p) 0) d)
+starts-last [] d [] h = absurd (not-suc-le-zero h)
+starts-last [] d (b ∷ s) h = split (eqb b d) (λ e. rw e) (λ e. rw e)
+starts-last (a ∷ p) d [] h = absurd (not-suc-le-zero h)
+starts-last (a ∷ p) d (b ∷ s) h = split (eqb b a) (λ e. rw e (starts-last p d s (omega arith))) (λ e. rw e)
+
+and-true : (a : Bool) → (a && true) ≡ a
+and-true true = refl
+and-true false = refl
+
+-- what is still to be compared decides: i digits of m
+pub record Matching (s : List ℕ) (at tag k i m : ℕ) : Type 0 where
+  pub within : i ≤ k
+  pub room : at + k < length s
+  pub left : starts (label tag) (drop at s) ≡ starts (places i m) (drop at s)
+
+module _ (s : List ℕ) (at tag k : ℕ) (h : at ≤ length s) (f : tag < 2 ^ 64) (e : k ≡ length (decimal tag)) where
+  pub label-short : length s - at ≤ k → false ≡ starts (label tag) (drop at s)
+  unfolding label
+  label-short l =
+      sym (starts-long (decimal tag ++ (61 ∷ [])) (drop at s) (omega (arith, length-drop at s, length-append (decimal tag) (61 ∷ []))))
+
+  last : k < length s - at → starts (label tag) (drop at s) ≡ (starts (decimal tag) (drop at s) && eqb (getD s (at + k) 0) 61)
+  unfolding label
+  last l =
+      starts-last (decimal tag) 61 (drop at s) (omega (arith, length-drop at s))
+      ∙ ap (λ (b : ℕ). starts (decimal tag) (drop at s) && eqb b 61) (ap (λ (j : ℕ). getD (drop at s) j 0) (sym e) ∙ getD-drop at s k 0)
+
+  pub label-other : k < length s - at → (getD s (at + k) 0 ≡ 61 → ⊥) → false ≡ starts (label tag) (drop at s)
+  label-other l n = sym (last l ∙ rw (ne-eqb (getD s (at + k) 0) 61 n) (and-false (starts (decimal tag) (drop at s))))
+
+  pub label-start : k < length s - at → getD s (at + k) 0 ≡ 61 → Matching s at tag k k tag
+  label-start l q =
+      record {
+        within = omega arith;
+        room = omega arith;
+        left =
+            last l ∙ rw (eq-eqb (getD s (at + k) 0) 61 q) (and-true (starts (decimal tag) (drop at s)))
+            ∙ ap (λ (p : List ℕ). starts p (drop at s)) (decimal-is tag f ∙ ap (λ (j : ℕ). places j tag) (sym e));
+      }
+
+module _ (s : List ℕ) (at tag k i m : ℕ) (c : Matching s at tag k i m) where
+  pub match-end : i ≤ 0 → true ≡ starts (label tag) (drop at s)
+  unfolding places
+  match-end h = let z : i ≡ 0 = omega arith in sym (c .left ∙ rw z)
+
+module _ (s : List ℕ) (at tag k j m : ℕ) (c : Matching s at tag k (suc j) m) where
+  turn : starts (label tag) (drop at s) ≡ (starts (places j (m / 10)) (drop at s) && eqb (getD s (at + j) 0) (48 + m % 10))
+  unfolding places
+  turn =
+      c .left
+      ∙ starts-last (places j (m / 10)) (48 + m % 10) (drop at s) (omega (arith, length-drop at s, length-places j (m / 10), c .within, c .room))
+      ∙ ap (λ (b : ℕ). starts (places j (m / 10)) (drop at s) && eqb b (48 + m % 10)) (ap (λ (q : ℕ). getD (drop at s) q 0) (length-places j (m / 10)) ∙ getD-drop at s j 0)
+
+  turn-same : getD s (at + j) 0 ≡ 48 + m % 10 → Matching s at tag k j (m / 10)
+  turn-same q =
+      record {
+        within = omega (arith, c .within);
+        room = c .room;
+        left = turn ∙ rw (eq-eqb (getD s (at + j) 0) (48 + m % 10) q) (and-true (starts (places j (m / 10)) (drop at s)));
+      }
+
+  turn-other : (getD s (at + j) 0 ≡ 48 + m % 10 → ⊥) → false ≡ starts (label tag) (drop at s)
+  turn-other n = sym (turn ∙ rw (ne-eqb (getD s (at + j) 0) (48 + m % 10) n) (and-false (starts (places j (m / 10)) (drop at s))))
+
+less-one : (i : ℕ) → 0 < i → i ≡ suc (i - 1)
+less-one i h = omega arith
+
+module _ (s : List ℕ) (at tag k i m : ℕ) (c : Matching s at tag k i m) (h : 0 < i) where
+  one-less : Matching s at tag k (suc (i - 1)) m
+  one-less = rw (less-one i h) at c
+
+  pub match-more : getD s (at + (i - 1)) 0 ≡ 48 + m % 10 → Matching s at tag k (i - 1) (m / 10)
+  match-more q = turn-same s at tag k (i - 1) m one-less q
+
+  pub match-not : (getD s (at + (i - 1)) 0 ≡ 48 + m % 10 → ⊥) → false ≡ starts (label tag) (drop at s)
+  match-not n = turn-other s at tag k (i - 1) m one-less n

@@ -1,0 +1,154 @@
+// Fields of a report read one after another, as slots say.
+use crate::Field;
+use crate::Got;
+use crate::Pick;
+use crate::Row;
+use crate::Shape;
+use crate::Slot;
+use crate::Value;
+use crate::values::pick_value;
+use decimal::write::digits;
+ghost use mathlib.Core.Path.{_≡_};
+ghost use Prim.Native.Nat.{_+_, _≤_};
+ghost use lib.ListN.{length, drop};
+ghost use mathlib.Core.Bool.{true};
+ghost use Rattle.decimal.specs.Writing.{decimal};
+ghost use Rattle.report.specs.Fields.{label};
+ghost use Rattle.report.specs.Parse.{starts, lenTo, valueAt, fieldAt, rowOf, readRow, hop, placeOf};
+
+// Whether the tag of k digits and `=` stand at a place.
+fn label_at(s: &[u8], at: usize, tag: u64, k: usize) -> bool
+    requires { ⌜ (at ≤ length (now s)) × (k ≡ length (decimal tag)) ⌝ }
+    ensures { λ r. ⌜ r ≡ starts (label tag) (drop at (now (s .entry))) ⌝ }
+{
+    if s.len() - at <= k {
+        return false;
+    }
+    if s[at + k] != b'=' {
+        return false;
+    }
+    let mut i = k;
+    let mut m = tag;
+    while i > 0 {
+        i -= 1;
+        if s[at + i] != 48 + (m % 10) as u8 {
+            return false;
+        }
+        m = m / 10;
+    }
+    true
+}
+
+// Where the value that begins at a place ends: at the next SOH, or at the end.
+fn value_end(s: &[u8], from: usize) -> usize
+    requires { ⌜ from ≤ length (now s) ⌝ }
+    ensures { λ r. ⌜ r ≡ from + lenTo (drop from (now (s .entry))) ⌝ }
+{
+    let mut e = from;
+    while e < s.len() {
+        if s[e] == 1 {
+            return e;
+        }
+        e += 1;
+    }
+    e
+}
+
+// The value that begins at a place, and the place behind its SOH.
+fn value_at(s: &[u8], v: usize, shape: Shape) -> Got
+    requires { ⌜ v ≤ length (now s) ⌝ }
+    ensures { λ r. ⌜ r ≡ valueAt (now (s .entry)) v shape ⌝ }
+{
+    let e = value_end(s, v);
+    if e < s.len() {
+        return match pick_value(&s[v..e], shape, v) {
+            Pick::Is(value) => Got::Value { value, next: e + 1 },
+            Pick::No => Got::Wrong,
+        };
+    }
+    Got::Wrong
+}
+
+// The field that stands at a place, as its slot says.
+pub fn field_at(s: &[u8], at: usize, slot: Slot) -> Got
+    requires { ⌜ at ≤ length (now s) ⌝ }
+    ensures { λ r. ⌜ r ≡ fieldAt (now (s .entry)) at slot ⌝ }
+{
+    let tag = slot.tag;
+    let shape = slot.shape;
+    let optional = slot.optional;
+    let k = digits(tag);
+    if label_at(s, at, tag, k) {
+        return value_at(s, at + k + 1, shape);
+    }
+    if optional {
+        return Got::Value {
+            value: Value::Absent,
+            next: at,
+        };
+    }
+    Got::Wrong
+}
+
+// The fields that stand from a place on, as the slots say.
+pub fn read_row(s: &[u8], at: usize, slots: [Slot; 36]) -> Row
+    requires { ⌜ at ≤ length (now s) ⌝ }
+    ensures { λ r. ⌜ r ≡ rowOf (readRow (now (s .entry)) at slots) ⌝ }
+{
+    let mut fields = [Field {
+        tag: 0,
+        value: Value::Absent,
+    }; 36];
+    let mut next = at;
+    let mut i = 0;
+    while i < 36 {
+        let slot = slots[i];
+        let tag = slot.tag;
+        let got = field_at(s, next, slot);
+        let Got::Value { value, next: n } = got else {
+            return Row {
+                ok: false,
+                next: 0,
+                fields: [Field {
+                    tag: 0,
+                    value: Value::Absent,
+                }; 36],
+            };
+        };
+        fields[i] = Field { tag, value };
+        next = n;
+        i += 1;
+    }
+    Row {
+        ok: true,
+        next,
+        fields,
+    }
+}
+
+// The place behind the next SOH, or the end.
+fn past(s: &[u8], at: usize) -> usize
+    requires { ⌜ at ≤ length (now s) ⌝ }
+    ensures { λ r. ⌜ r ≡ at + hop (drop at (now (s .entry))) ⌝ }
+{
+    let e = value_end(s, at);
+    if e < s.len() {
+        return e + 1;
+    }
+    e
+}
+
+// The place of the first field with a tag, or the end where there is none.
+pub fn place_of(s: &[u8], tag: u64) -> usize
+    ensures { λ r. ⌜ r ≡ placeOf (label tag) true (now (s .entry)) ⌝ }
+{
+    let k = digits(tag);
+    let mut at = 0;
+    while at < s.len() {
+        if label_at(s, at, tag, k) {
+            return at;
+        }
+        at = past(s, at);
+    }
+    at
+}

@@ -1,0 +1,573 @@
+//! Command files made from a seed: several markets, messages good and damaged, runs that stop and go on, depths, and
+//! reports read back whole and damaged. The same seed and count give the same commands everywhere.
+//!
+//! The generator plays its own commands on a desk, so that it knows which orders are open and what was reported.
+
+use std::collections::VecDeque;
+
+use crate::compose::Draft;
+use crate::damage::{damaged, damaged_report};
+use crate::market::{Market, Participant, LAST_SUBMIT_NUMBER};
+use crate::order::{Order, Side};
+use crate::random::Random;
+use crate::report::split_reports;
+use crate::transcript::{Command, Desk, LONGEST_LINE};
+
+/// The command lines for a seed, with `count` messages submitted.
+pub fn generate(seed: u64, count: u64) -> Vec<String> {
+    let mut generator = Generator::new(seed);
+    while generator.messages < count {
+        generator.open_market(count - generator.messages);
+        let last = (generator.messages + generator.profile.messages).min(count);
+        while generator.messages < last {
+            generator.turn();
+        }
+        generator.finish_market();
+    }
+    generator.lines
+}
+
+/// What one market is like.
+#[derive(Clone, Debug)]
+struct Profile {
+    name: &'static str,
+    yields: &'static [&'static str],
+    quantities: &'static [&'static str],
+    /// Messages that are submitted to it.
+    messages: u64,
+    /// Of a hundred messages, those that are damaged.
+    damage: u64,
+    /// Of a hundred messages before any damage, those that are a D.
+    new_orders: u64,
+    /// Of a hundred D, those that sell, those that are IOC, and those that carry an MPID.
+    sells: u64,
+    ioc: u64,
+    with_mpid: u64,
+    /// The least first number, and by how much it may be more.
+    first_number: (u64, u64),
+}
+
+const TIGHT: &[&str] = &["0.099", "0.100", "0.1", "000.100", "0.101", "0.102", "0.10", "0.100", "0.101"];
+const AROUND_ZERO: &[&str] = &["-0.002", "-0.001", "0", "-0", "0.001", "0.002", "-0.000", "00", "-0.005"];
+const WIDE: &[&str] =
+    &["-999999.999", "999999.999", "-1", "1", "0", "12.5", "-12.5", "100000", "-0.001", "0.001", "3.14", "-2.718"];
+const APART: &[&str] = &["0.5", "0.6", "0.7", "0.8", "0.50", "0.75"];
+const DEEP: &[&str] = &["0.100", "0.1", "0.100", "0.101"];
+const SMALL: &[&str] = &["1", "2", "3", "5", "7", "10", "10", "20", "0005"];
+const ROUND: &[&str] = &["100", "200", "500", "1200", "200", "100", "50", "000000100"];
+const LARGE: &[&str] = &["999999999", "999999999", "999999998", "500000000", "1", "2", "499999999"];
+
+const PROFILES: &[Profile] = &[
+    Profile {
+        name: "close yields, round quantities",
+        yields: TIGHT,
+        quantities: ROUND,
+        messages: 120,
+        damage: 42,
+        new_orders: 66,
+        sells: 50,
+        ioc: 20,
+        with_mpid: 75,
+        first_number: (1, 0),
+    },
+    Profile {
+        name: "yields around zero, small quantities",
+        yields: AROUND_ZERO,
+        quantities: SMALL,
+        messages: 120,
+        damage: 42,
+        new_orders: 66,
+        sells: 50,
+        ioc: 25,
+        with_mpid: 60,
+        first_number: (9_990, 20),
+    },
+    Profile {
+        name: "wide yields, large quantities",
+        yields: WIDE,
+        quantities: LARGE,
+        messages: 100,
+        damage: 42,
+        new_orders: 66,
+        sells: 50,
+        ioc: 15,
+        with_mpid: 50,
+        first_number: (99_999_900, 200),
+    },
+    Profile {
+        name: "deep levels",
+        yields: DEEP,
+        quantities: LARGE,
+        messages: 90,
+        damage: 30,
+        new_orders: 66,
+        sells: 85,
+        ioc: 10,
+        with_mpid: 50,
+        first_number: (1, 1_000_000),
+    },
+    Profile {
+        name: "numbers that run out",
+        yields: TIGHT,
+        quantities: SMALL,
+        messages: 40,
+        damage: 35,
+        new_orders: 66,
+        sells: 50,
+        ioc: 25,
+        with_mpid: 70,
+        first_number: (999_998_930, 50),
+    },
+    Profile {
+        name: "numbers that have run out",
+        yields: TIGHT,
+        quantities: SMALL,
+        messages: 6,
+        damage: 40,
+        new_orders: 66,
+        sells: 50,
+        ioc: 25,
+        with_mpid: 70,
+        first_number: (999_999_990, 9),
+    },
+];
+
+/// A market that fills up; only for long histories, because it takes many messages.
+const FULL: Profile = Profile {
+    name: "a full table",
+    yields: APART,
+    quantities: SMALL,
+    messages: 460,
+    damage: 12,
+    new_orders: 88,
+    sells: 50,
+    ioc: 8,
+    with_mpid: 80,
+    first_number: (1, 0),
+};
+
+/// How many messages must be left to be made for a table to be filled.
+const LONG: u64 = 1_000;
+
+/// Reports that are kept for reading.
+const KEPT: usize = 16;
+
+struct Generator {
+    random: Random,
+    desk: Desk,
+    lines: Vec<String>,
+    messages: u64,
+    markets: u64,
+    profile: Profile,
+    reports: VecDeque<Vec<u8>>,
+    used_ids: Vec<Vec<u8>>,
+    ids: u64,
+    seconds: u64,
+}
+
+impl Generator {
+    fn new(seed: u64) -> Generator {
+        Generator {
+            random: Random::new(seed),
+            desk: Desk::new(),
+            lines: vec![format!("# generated from seed {seed}")],
+            messages: 0,
+            markets: 0,
+            profile: PROFILES[0].clone(),
+            reports: VecDeque::new(),
+            used_ids: Vec::new(),
+            ids: 0,
+            seconds: 0,
+        }
+    }
+
+    fn market(&self) -> &Market {
+        self.desk.market().expect("a market is open before any message is made")
+    }
+
+    fn is_in_work(&self) -> bool {
+        self.market().in_work().is_some()
+    }
+
+    /// Writes a command and plays it.
+    fn say(&mut self, command: &Command) {
+        self.lines.push(command.to_string());
+        self.keep_reports(command);
+    }
+
+    /// Plays a command and keeps the reports that it wrote.
+    fn keep_reports(&mut self, command: &Command) {
+        let written = match command {
+            Command::Submit { area, message } => self.desk.submit(message, *area).report,
+            Command::Run { area, budget } => self.desk.run(*area, *budget).bytes,
+            other => {
+                self.desk.answer(other);
+                Vec::new()
+            }
+        };
+        self.reports.extend(split_reports(&written).into_iter().map(<[u8]>::to_vec));
+        while self.reports.len() > KEPT {
+            self.reports.pop_front();
+        }
+    }
+
+    /// Opens the next market; before that, sometimes one with a wrong setting.
+    fn open_market(&mut self, left: u64) {
+        self.markets += 1;
+        self.profile = if self.markets % 13 == 7 && left >= LONG {
+            FULL
+        } else {
+            PROFILES[(self.markets as usize - 1) % PROFILES.len()].clone()
+        };
+        self.used_ids.clear();
+        self.ids = 0;
+        self.lines.push(format!("# market {}: {}", self.markets, self.profile.name));
+        if self.random.percent(50) {
+            let wrong = self.wrong_open();
+            self.say(&wrong);
+        }
+        let open = self.good_open();
+        self.say(&open);
+    }
+
+    fn good_open(&mut self) -> Command {
+        let (least, more) = self.profile.first_number;
+        let first_number = self.random.between(least, least + more);
+        let (venue, port) =
+            self.random.pick(&[("V", "P"), ("JNX", "PORT1"), ("12345678", "87654321"), ("X", "X"), ("a=b", "|;\\~")]);
+        let code = self.random.pick(&["350", "000000000", "7", "123456789", "0350"]);
+        let participants = self.participants();
+        Command::Open {
+            venue: venue.as_bytes().to_vec(),
+            port: port.as_bytes().to_vec(),
+            code: code.as_bytes().to_vec(),
+            first_number,
+            participants,
+        }
+    }
+
+    /// 1 to 8 MPIDs, few being more likely, so that they meet their own.
+    fn participants(&mut self) -> Vec<Participant> {
+        const MPIDS: [u64; 8] = [10, 11, 999_999, 1, 77, 12345, 4096, 65_536];
+        let many = self.random.pick(&[1, 2, 2, 3, 3, 3, 4, 8]);
+        let first_mode = self.random.between(1, 3);
+        let modes = (0..many as u64).map(|at| 1 + (first_mode + at) % 3);
+        MPIDS.iter().zip(modes).map(|(&mpid, mode)| Participant { mpid, mode }).collect()
+    }
+
+    /// An Open with one setting wrong.
+    fn wrong_open(&mut self) -> Command {
+        let mut open = self.good_open();
+        if let Command::Open { venue, port, code, first_number, participants } = &mut open {
+            match self.random.below(9) {
+                0 => venue.clear(),
+                1 => port.extend(b"12345678"),
+                2 => venue[0] = self.random.pick(&[0x20, 0x7f, 0x01, 0x00, 0xff]),
+                3 => code.clear(),
+                4 => *code = b"1234567890".to_vec(),
+                5 => code[0] = b'x',
+                6 => *first_number = self.random.pick(&[0, 1_000_000_000, u64::MAX]),
+                7 => participants.push(participants[0]),
+                _ => {
+                    let (mpid, mode) = self.random.pick(&[(0, 1), (1_000_000, 1), (5, 0), (5, 4)]);
+                    *participants = vec![Participant { mpid, mode }];
+                }
+            }
+        }
+        open
+    }
+
+    /// Brings the work to its end and looks at the whole book.
+    fn finish_market(&mut self) {
+        while self.is_in_work() {
+            self.run();
+        }
+        for side in [1, 2] {
+            for k in 0..=self.random.between(1, 4) {
+                self.say(&Command::Depth { side, k });
+            }
+        }
+    }
+
+    /// One call, or a few that belong together.
+    fn turn(&mut self) {
+        let draw = self.random.below(100);
+        if self.is_in_work() {
+            match draw {
+                0..=39 if self.market().next_number() > LAST_SUBMIT_NUMBER => self.submit(),
+                0..=71 => self.run(),
+                72..=81 => self.submit(),
+                82..=88 => self.depth(),
+                89..=95 => self.idle_run(),
+                _ => self.read(),
+            }
+        } else {
+            match draw {
+                0..=73 => self.submit(),
+                74..=83 => self.depth(),
+                84..=86 => self.idle_run(),
+                87 => {
+                    let wrong = self.wrong_open();
+                    self.say(&wrong);
+                }
+                _ => self.read(),
+            }
+        }
+    }
+
+    /// Run with some budget and area. An answer that would be longer than a line is not asked for.
+    fn run(&mut self) {
+        let area = self.random.pick(&[1024, 1025, 1100, 1280, 1500, 2048, 3000, 4096, 6144, 7000]);
+        let budget = self.random.pick(&[1, 1, 2, 3, 5, 8, 300, 300, 300, u64::MAX]);
+        let command = Command::Run { area, budget };
+        let is_short = self.desk.clone().answer(&command).len() <= LONGEST_LINE;
+        self.say(&if is_short { command } else { Command::Run { area: 1024, budget } });
+    }
+
+    /// Run that does nothing: too small an area, no budget, or nothing in work.
+    fn idle_run(&mut self) {
+        let (area, budget) = match self.random.below(3) {
+            0 => (self.random.pick(&[0, 1, 512, 1023]), self.random.between(0, 5)),
+            1 => (1024, 0),
+            _ if self.is_in_work() => (4096, 0),
+            _ => (4096, self.random.between(0, 5)),
+        };
+        self.say(&Command::Run { area, budget });
+    }
+
+    fn depth(&mut self) {
+        let side = self.random.pick(&[1, 1, 1, 1, 2, 2, 2, 2, 0, 3, u64::MAX]);
+        let k = self.random.pick(&[0, 0, 0, 1, 1, 2, 3, 4, 300, 4_294_967_296, u64::MAX]);
+        self.say(&Command::Depth { side, k });
+    }
+
+    /// Read of a report that was written, whole or damaged, or of something else.
+    fn read(&mut self) {
+        let draw = self.random.below(100);
+        let kept = self.reports.len();
+        let report = if draw < 4 || kept == 0 {
+            self.good_message().bytes()
+        } else {
+            let report = self.reports[self.random.below(kept)].clone();
+            if draw < 30 {
+                report
+            } else {
+                damaged_report(&mut self.random, &report)
+            }
+        };
+        self.say(&Command::Read { report });
+    }
+
+    /// Submit of a message, good or damaged.
+    fn submit(&mut self) {
+        let draft = self.good_message();
+        let message =
+            if self.random.percent(self.profile.damage) { damaged(&mut self.random, &draft) } else { draft.bytes() };
+        let area = match self.random.below(100) {
+            0..=89 => 1024,
+            90..=94 => self.random.between(1025, 5000) as usize,
+            95..=97 => 65_536,
+            _ => self.random.pick(&[0, 1, 1000, 1023]),
+        };
+        self.messages += 1;
+        self.say(&Command::Submit { area, message });
+    }
+
+    /// A message without damage; it may still be rejected for what it asks.
+    fn good_message(&mut self) -> Draft {
+        if self.market().orders().is_empty() || self.random.percent(self.profile.new_orders) {
+            self.new_order()
+        } else if self.random.percent(55) {
+            self.replace()
+        } else {
+            self.cancel()
+        }
+    }
+
+    /// The time of the next message, a little later than the last, with the date turning over.
+    fn time(&mut self) -> String {
+        self.seconds += self.random.between(0, 700);
+        let (seconds, minutes, hours) = (self.seconds % 60, self.seconds / 60 % 60, self.seconds / 3600 % 24);
+        format!("202611{:02}-{hours:02}:{minutes:02}:{seconds:02}", 1 + self.seconds / 86_400 % 30)
+    }
+
+    fn header(&mut self, msg_type: &str) -> Draft {
+        let sequence =
+            if self.random.percent(90) { (self.messages + 1).to_string() } else { format!("{:09}", self.messages + 1) };
+        let time = self.time();
+        let mut draft = Draft::of(&[("35", msg_type), ("34", &sequence), ("49", ""), ("52", &time), ("56", "")]);
+        draft.fields[2].1 = self.market().port().to_vec();
+        draft.fields[4].1 = self.market().venue().to_vec();
+        draft
+    }
+
+    fn add(draft: &mut Draft, tag: &str, value: &[u8]) {
+        draft.fields.push((tag.as_bytes().to_vec(), value.to_vec()));
+    }
+
+    fn new_order(&mut self) -> Draft {
+        let mut draft = self.header("D");
+        let id = self.new_id();
+        let side = if self.random.percent(self.profile.sells) { "2" } else { "1" };
+        let (quantity, at) = (self.random.pick(self.profile.quantities), self.yield_for(side));
+        if self.random.percent(20) {
+            Self::add(&mut draft, "1", self.random.pick(&["A", "acct", "0123456789", "a b"]).as_bytes());
+        }
+        Self::add(&mut draft, "11", &id);
+        Self::add(&mut draft, "21", b"1");
+        Self::add(&mut draft, "38", quantity.as_bytes());
+        Self::add(&mut draft, "40", b"2");
+        Self::add(&mut draft, "44", at.as_bytes());
+        Self::add(&mut draft, "47", self.random.pick(&["A", "P"]).as_bytes());
+        Self::add(&mut draft, "54", side.as_bytes());
+        let code = self.code();
+        Self::add(&mut draft, "55", &code);
+        Self::add(&mut draft, "59", if self.random.percent(self.profile.ioc) { b"3" } else { b"0" });
+        let time = self.time();
+        Self::add(&mut draft, "60", time.as_bytes());
+        if self.random.percent(self.profile.with_mpid) {
+            let mpid = self.mpid();
+            Self::add(&mut draft, "109", mpid.as_bytes());
+        }
+        Self::add(&mut draft, "8060", self.random.pick(&["1", "3", "4", "5", "6"]).as_bytes());
+        draft
+    }
+
+    /// A yield of the profile. In a market that is to fill up, buys mostly stay above sells.
+    fn yield_for(&mut self, side: &str) -> String {
+        let at = self.random.pick(self.profile.yields);
+        if self.profile.name == FULL.name && side == "1" && self.random.percent(90) {
+            return format!("1{at}");
+        }
+        at.to_string()
+    }
+
+    /// The market's code, seldom another.
+    fn code(&mut self) -> Vec<u8> {
+        if self.random.percent(98) {
+            self.market().code().to_vec()
+        } else {
+            b"99".to_vec()
+        }
+    }
+
+    /// A listed MPID, the first being more likely, sometimes with zeros before it, seldom one that is not listed.
+    fn mpid(&mut self) -> String {
+        let mpids = self.market().mpids();
+        let mpid = if self.random.percent(40) { mpids[0] } else { self.random.pick(&mpids) };
+        match self.random.below(100) {
+            0..=2 => "998877".to_string(),
+            3..=7 => format!("{mpid:06}"),
+            _ => mpid.to_string(),
+        }
+    }
+
+    /// A ClOrdID that was not used before, mostly; sometimes a used one, seldom a strange one.
+    fn new_id(&mut self) -> Vec<u8> {
+        if !self.used_ids.is_empty() && self.random.percent(6) {
+            let used = self.used_ids.len();
+            return self.used_ids[self.random.below(used)].clone();
+        }
+        self.ids += 1;
+        let id = match self.random.below(40) {
+            0 => format!("{:032}", self.ids),
+            1 => format!("a b{}", self.ids),
+            2 => format!("=|;\\{}", self.ids),
+            _ => format!("c{}", self.ids),
+        };
+        self.used_ids.push(id.clone().into_bytes());
+        id.into_bytes()
+    }
+
+    /// An order for an F or a G: open mostly, else any.
+    fn some_order(&mut self) -> Order {
+        let orders = self.market().orders();
+        let open: Vec<Order> = orders.iter().filter(|order| order.open() > 0).cloned().collect();
+        let all = orders.to_vec();
+        if !open.is_empty() && self.random.percent(85) {
+            self.random.pick(&open)
+        } else {
+            self.random.pick(&all)
+        }
+    }
+
+    /// The 41 for an order: its ClOrdID mostly, else one that was used or never was.
+    fn orig_id(&mut self, order: &Order) -> Vec<u8> {
+        match self.random.below(100) {
+            0..=3 => b"nobody".to_vec(),
+            4..=8 if !self.used_ids.is_empty() => {
+                let used = self.used_ids.len();
+                self.used_ids[self.random.below(used)].clone()
+            }
+            _ => order.cl_ord_id.clone(),
+        }
+    }
+
+    /// The order's side, seldom the other.
+    fn side_of(&mut self, order: &Order) -> Side {
+        if self.random.percent(96) {
+            order.side
+        } else {
+            order.side.opposite()
+        }
+    }
+
+    /// What an F and a G have in common, up to 41: the new id and the old one.
+    fn ids_of_change(&mut self, order: &Order) -> (Vec<u8>, Vec<u8>) {
+        let orig = self.orig_id(order);
+        let id = if self.random.percent(2) { orig.clone() } else { self.new_id() };
+        (id, orig)
+    }
+
+    fn replace(&mut self) -> Draft {
+        let order = self.some_order();
+        let (id, orig) = self.ids_of_change(&order);
+        let side = [self.side_of(&order).code()];
+        let mut draft = self.header("G");
+        Self::add(&mut draft, "11", &id);
+        Self::add(&mut draft, "21", b"1");
+        let quantity = self.new_quantity(&order);
+        Self::add(&mut draft, "38", quantity.as_bytes());
+        Self::add(&mut draft, "40", b"2");
+        Self::add(&mut draft, "41", &orig);
+        let at = self.yield_for(if order.side == Side::Buy { "1" } else { "2" });
+        Self::add(&mut draft, "44", at.as_bytes());
+        Self::add(&mut draft, "54", &side);
+        let code = self.code();
+        Self::add(&mut draft, "55", &code);
+        let time = self.time();
+        Self::add(&mut draft, "60", time.as_bytes());
+        draft
+    }
+
+    /// A new OrderQty: one of the profile's, the old one, or just at what has executed and was decremented.
+    fn new_quantity(&mut self, order: &Order) -> String {
+        let done = order.executed + order.decremented;
+        match self.random.below(10) {
+            0 => done.max(1).to_string(),
+            1 => (done + 1).min(999_999_999).to_string(),
+            2 => order.order_qty.to_string(),
+            3 => (order.order_qty / 2).max(1).to_string(),
+            4 => (order.order_qty + 10).min(999_999_999).to_string(),
+            _ => self.random.pick(self.profile.quantities).to_string(),
+        }
+    }
+
+    fn cancel(&mut self) -> Draft {
+        let order = self.some_order();
+        let (id, orig) = self.ids_of_change(&order);
+        let side = [self.side_of(&order).code()];
+        let mut draft = self.header("F");
+        Self::add(&mut draft, "11", &id);
+        if self.random.percent(30) {
+            Self::add(&mut draft, "38", order.order_qty.to_string().as_bytes());
+        }
+        Self::add(&mut draft, "41", &orig);
+        Self::add(&mut draft, "54", &side);
+        let code = self.code();
+        Self::add(&mut draft, "55", &code);
+        let time = self.time();
+        Self::add(&mut draft, "60", time.as_bytes());
+        draft
+    }
+}

@@ -1,0 +1,45 @@
+//! The rehearsal bond market, written a second time from its paper (document 01) and the page that settles the
+//! paper's open places (READINGS). It is meant for comparison with the proved market: both are given the same
+//! commands, and their answers must be the same bytes. It shares no code with that market.
+//!
+//! Read in this order: `shape` (digits, yields, times), `message` (what is garbled), `session` (what a good message
+//! asks, or why it gets a Session Reject), `order`, `matching` (one step), `report` (what is written), `market`
+//! (the calls), `read` (reports read back). Above them stand `transcript` (command files), `compose`, `damage` and
+//! `generate` (messages made for comparison), `script`, `points` (the hand-written walk through the paper) and
+//! `samples` (messages published by others).
+
+pub mod shape;
+
+pub mod message;
+
+pub mod session;
+
+pub mod order;
+
+pub mod matching;
+
+pub mod report;
+
+pub mod market;
+
+pub mod read;
+
+pub mod escape;
+
+pub mod transcript;
+
+pub mod compose;
+
+pub mod script;
+
+pub mod points;
+
+pub mod samples;
+
+pub mod random;
+
+pub mod damage;
+
+pub mod generate;
+
+pub mod vectors;

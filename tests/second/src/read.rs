@@ -1,0 +1,374 @@
+//! Read: the bytes of one report, taken apart strictly ("The reports" of 01, section E of READINGS).
+//!
+//! Nothing here asks the writer. A kind is a row of slots: the tags in the order in which they stand, which of them
+//! may be absent, and the shape and range of each value. But for 9 and 10, no field is compared with another.
+
+use crate::message::{split_fields, sum, three_digits, Field};
+use crate::report::LONGEST_REPORT;
+use crate::shape::{is_character, is_digits, is_id_character, is_time};
+
+/// The kinds of report, by the numbers that Read gives.
+#[derive(Clone, Copy, Debug, PartialEq, Eq)]
+pub enum Kind {
+    Accepted = 1,
+    Replaced = 2,
+    Canceled = 3,
+    Trade = 4,
+    Rejected = 5,
+    CancelReject = 6,
+    SessionReject = 7,
+}
+
+/// A report that was read: its kind and all its fields in the order of the bytes.
+#[derive(Debug)]
+pub struct Report<'a> {
+    pub kind: Kind,
+    pub fields: Vec<Field<'a>>,
+}
+
+impl<'a> Report<'a> {
+    /// The value of a tag, if the report has it.
+    pub fn value(&self, tag: u32) -> Option<&'a [u8]> {
+        self.fields.iter().find(|field| field.tag == tag).map(|field| field.value)
+    }
+}
+
+/// What a slot's value must be.
+#[derive(Clone, Copy)]
+enum Shape {
+    /// One of these texts.
+    OneOf(&'static [&'static str]),
+    /// A number without needless zeros, from the first to the second.
+    Number(u64, u64),
+    /// A number with this many decimals and 1 to 6 whole digits, a minus only if it is not zero.
+    Fixed(usize),
+    /// 1 to so many characters, 20 to 7E hex.
+    Text(usize),
+    /// 1 to 8 characters, 21 to 7E hex.
+    CompId,
+    /// 1 to 9 digits, leading zeros kept.
+    Code,
+    Time,
+    /// A record number.
+    OrderId,
+    /// A record number, or NONE.
+    OrderIdOrNone,
+}
+
+/// One place in a kind's row.
+#[derive(Clone, Copy)]
+struct Slot {
+    tag: u32,
+    shape: Shape,
+    is_optional: bool,
+}
+
+const fn needs(tag: u32, shape: Shape) -> Slot {
+    Slot { tag, shape, is_optional: false }
+}
+
+const fn may_have(tag: u32, shape: Shape) -> Slot {
+    Slot { tag, shape, is_optional: true }
+}
+
+const QUANTITY: Shape = Shape::Number(0, 999_999_999);
+const REPORT_NUMBER: Shape = Shape::Number(1, 999_999_999);
+const AVERAGE: Shape = Shape::Fixed(6);
+const YIELD: Shape = Shape::Fixed(3);
+const CL_ORD_ID: Shape = Shape::Text(32);
+
+const ACCOUNT: Slot = may_have(1, Shape::Text(10));
+const AVG_PX: Slot = needs(6, AVERAGE);
+const ID: Slot = needs(11, CL_ORD_ID);
+const CUM_QTY: Slot = needs(14, QUANTITY);
+const EXEC_ID: Slot = needs(17, REPORT_NUMBER);
+const EXEC_TRANS_TYPE: Slot = needs(20, Shape::OneOf(&["0"]));
+const LAST_PX: Slot = needs(31, YIELD);
+const LAST_SHARES: Slot = needs(32, QUANTITY);
+const ORDER_ID: Slot = needs(37, Shape::OrderId);
+const ORDER_QTY: Slot = needs(38, QUANTITY);
+const ORD_TYPE: Slot = needs(40, Shape::OneOf(&["2"]));
+const PRICE: Slot = needs(44, YIELD);
+const CAPACITY: Slot = needs(47, Shape::OneOf(&["A", "P"]));
+const SIDE: Slot = needs(54, Shape::OneOf(&["1", "2"]));
+const SYMBOL: Slot = needs(55, Shape::Code);
+const TIME_IN_FORCE: Slot = needs(59, Shape::OneOf(&["0", "3"]));
+const TRANSACT_TIME: Slot = needs(60, Shape::Time);
+const CLIENT_ID: Slot = may_have(109, Shape::Number(1, 999_999));
+const LEAVES_QTY: Slot = needs(151, QUANTITY);
+const PRICE_TYPE: Slot = needs(423, Shape::OneOf(&["9"]));
+const CLASSIFICATION: Slot = needs(8060, Shape::OneOf(&["1", "3", "4", "5", "6"]));
+
+const fn status(values: &'static [&'static str]) -> Slot {
+    needs(39, Shape::OneOf(values))
+}
+
+const fn exec_type(values: &'static [&'static str]) -> Slot {
+    needs(150, Shape::OneOf(values))
+}
+
+/// Between 9 and the body.
+const HEADER: &[Slot] = &[
+    needs(35, Shape::OneOf(&["3", "8", "9"])),
+    needs(34, REPORT_NUMBER),
+    needs(49, Shape::CompId),
+    needs(50, Shape::OneOf(&["DJGB"])),
+    needs(52, Shape::Time),
+    needs(56, Shape::CompId),
+];
+
+const ACCEPTED: &[Slot] = &[
+    ACCOUNT,
+    AVG_PX,
+    ID,
+    CUM_QTY,
+    EXEC_ID,
+    EXEC_TRANS_TYPE,
+    ORDER_ID,
+    ORDER_QTY,
+    status(&["0"]),
+    ORD_TYPE,
+    PRICE,
+    CAPACITY,
+    SIDE,
+    SYMBOL,
+    TIME_IN_FORCE,
+    TRANSACT_TIME,
+    CLIENT_ID,
+    exec_type(&["0"]),
+    LEAVES_QTY,
+    PRICE_TYPE,
+    CLASSIFICATION,
+];
+
+const REPLACED: &[Slot] = &[
+    ACCOUNT,
+    AVG_PX,
+    ID,
+    CUM_QTY,
+    EXEC_ID,
+    EXEC_TRANS_TYPE,
+    ORDER_ID,
+    ORDER_QTY,
+    status(&["1", "5"]),
+    ORD_TYPE,
+    needs(41, CL_ORD_ID),
+    PRICE,
+    CAPACITY,
+    SIDE,
+    SYMBOL,
+    TIME_IN_FORCE,
+    TRANSACT_TIME,
+    CLIENT_ID,
+    exec_type(&["5"]),
+    LEAVES_QTY,
+    may_have(378, Shape::OneOf(&["100"])),
+    PRICE_TYPE,
+    CLASSIFICATION,
+];
+
+/// One of 41 and 378 stands, not both: `has_one_cause` asks that.
+const CANCELED: &[Slot] = &[
+    ACCOUNT,
+    AVG_PX,
+    ID,
+    CUM_QTY,
+    EXEC_ID,
+    EXEC_TRANS_TYPE,
+    ORDER_ID,
+    ORDER_QTY,
+    status(&["4"]),
+    ORD_TYPE,
+    may_have(41, CL_ORD_ID),
+    PRICE,
+    CAPACITY,
+    SIDE,
+    SYMBOL,
+    TIME_IN_FORCE,
+    TRANSACT_TIME,
+    CLIENT_ID,
+    exec_type(&["4"]),
+    LEAVES_QTY,
+    may_have(378, Shape::OneOf(&["99", "100"])),
+    PRICE_TYPE,
+    CLASSIFICATION,
+];
+
+const TRADE: &[Slot] = &[
+    ACCOUNT,
+    AVG_PX,
+    ID,
+    CUM_QTY,
+    EXEC_ID,
+    EXEC_TRANS_TYPE,
+    LAST_PX,
+    LAST_SHARES,
+    ORDER_ID,
+    ORDER_QTY,
+    status(&["1", "2"]),
+    ORD_TYPE,
+    PRICE,
+    CAPACITY,
+    SIDE,
+    SYMBOL,
+    TIME_IN_FORCE,
+    TRANSACT_TIME,
+    CLIENT_ID,
+    exec_type(&["1", "2"]),
+    LEAVES_QTY,
+    needs(375, Shape::Number(0, 999_999)),
+    needs(382, Shape::OneOf(&["1"])),
+    PRICE_TYPE,
+    needs(851, Shape::OneOf(&["1", "2"])),
+    needs(880, REPORT_NUMBER),
+    CLASSIFICATION,
+];
+
+const REJECTED: &[Slot] = &[
+    AVG_PX,
+    ID,
+    needs(14, Shape::OneOf(&["0"])),
+    EXEC_ID,
+    EXEC_TRANS_TYPE,
+    needs(37, Shape::OneOf(&["NONE"])),
+    ORDER_QTY,
+    status(&["8"]),
+    SIDE,
+    SYMBOL,
+    needs(103, Shape::OneOf(&["0", "1", "6", "99"])),
+    exec_type(&["8"]),
+    needs(151, Shape::OneOf(&["0"])),
+];
+
+const CANCEL_REJECT: &[Slot] = &[
+    ID,
+    needs(37, Shape::OrderIdOrNone),
+    status(&["0", "1", "2", "4", "8"]),
+    needs(41, CL_ORD_ID),
+    needs(102, Shape::OneOf(&["0", "1", "2"])),
+    needs(434, Shape::OneOf(&["1", "2"])),
+];
+
+const SESSION_REJECT: &[Slot] = &[
+    needs(45, REPORT_NUMBER),
+    needs(371, Shape::Number(1, 9999)),
+    needs(372, Shape::Text(2)),
+    needs(373, Shape::OneOf(&["1", "2", "3", "4", "5", "6", "9", "11"])),
+];
+
+/// Reads `bytes` as one report; `None` is refusal 11.
+pub fn read(bytes: &[u8]) -> Option<Report<'_>> {
+    if bytes.len() > LONGEST_REPORT {
+        return None;
+    }
+    let fields = split_fields(bytes)?;
+    let (header, body) = unframed(bytes, &fields)?.split_at_checked(HEADER.len())?;
+    let kind = kind_of(header, body)?;
+    let good = fits(header, HEADER) && fits(body, row_of(kind)) && (kind != Kind::Canceled || has_one_cause(body));
+    good.then_some(Report { kind, fields })
+}
+
+/// The fields between 9 and 10, if 8, 9 and 10 stand in their places and are true.
+fn unframed<'a, 'b>(bytes: &[u8], fields: &'b [Field<'a>]) -> Option<&'b [Field<'a>]> {
+    let [begin, length, inner @ .., check_sum] = fields else {
+        return None;
+    };
+    let before_10 = bytes.len().checked_sub("10=xxx|".len())?;
+    let before_35 = "8=FIX.4.2|9=".len() + length.value.len() + "|".len();
+    let good = (begin.tag, begin.value) == (8, b"FIX.4.2")
+        && length.tag == 9
+        && length.value == before_10.checked_sub(before_35)?.to_string().as_bytes()
+        && check_sum.tag == 10
+        && check_sum.value == three_digits(sum(&bytes[..before_10]));
+    good.then_some(inner)
+}
+
+/// The only kind that these fields can be of: told by 35, and for execution reports by 150.
+fn kind_of(header: &[Field], body: &[Field]) -> Option<Kind> {
+    let exec_type = body.iter().find(|field| field.tag == 150).map(|field| field.value);
+    match (header.first()?.value, exec_type) {
+        (b"8", Some(b"0")) => Some(Kind::Accepted),
+        (b"8", Some(b"5")) => Some(Kind::Replaced),
+        (b"8", Some(b"4")) => Some(Kind::Canceled),
+        (b"8", Some(b"1" | b"2")) => Some(Kind::Trade),
+        (b"8", Some(b"8")) => Some(Kind::Rejected),
+        (b"9", _) => Some(Kind::CancelReject),
+        (b"3", _) => Some(Kind::SessionReject),
+        _ => None,
+    }
+}
+
+fn row_of(kind: Kind) -> &'static [Slot] {
+    match kind {
+        Kind::Accepted => ACCEPTED,
+        Kind::Replaced => REPLACED,
+        Kind::Canceled => CANCELED,
+        Kind::Trade => TRADE,
+        Kind::Rejected => REJECTED,
+        Kind::CancelReject => CANCEL_REJECT,
+        Kind::SessionReject => SESSION_REJECT,
+    }
+}
+
+/// Whether `fields` are those of `row`, in its order, each with a value of its slot.
+fn fits(fields: &[Field], row: &[Slot]) -> bool {
+    let mut rest = fields;
+    for slot in row {
+        match rest.split_first() {
+            Some((field, others)) if field.tag == slot.tag => {
+                if !has_shape(field.value, slot.shape) {
+                    return false;
+                }
+                rest = others;
+            }
+            _ if slot.is_optional => {}
+            _ => return false,
+        }
+    }
+    rest.is_empty()
+}
+
+/// A Canceled was requested (41) or not (378).
+fn has_one_cause(body: &[Field]) -> bool {
+    body.iter().filter(|field| field.tag == 41 || field.tag == 378).count() == 1
+}
+
+fn has_shape(value: &[u8], shape: Shape) -> bool {
+    match shape {
+        Shape::OneOf(values) => values.iter().any(|known| known.as_bytes() == value),
+        Shape::Number(least, most) => plain_number(value).is_some_and(|number| (least..=most).contains(&number)),
+        Shape::Fixed(decimals) => is_fixed(value, decimals),
+        Shape::Text(most) => (1..=most).contains(&value.len()) && value.iter().all(|&byte| is_character(byte)),
+        Shape::CompId => (1..=8).contains(&value.len()) && value.iter().all(|&byte| is_id_character(byte)),
+        Shape::Code => is_digits(value, 9),
+        Shape::Time => is_time(value),
+        Shape::OrderId => plain_number(value).is_some_and(|record| (1..=255).contains(&record)),
+        Shape::OrderIdOrNone => value == b"NONE" || has_shape(value, Shape::OrderId),
+    }
+}
+
+/// A number of up to 9 digits without needless zeros.
+fn plain_number(text: &[u8]) -> Option<u64> {
+    let is_plain = is_digits(text, 9) && (text[0] != b'0' || text.len() == 1);
+    if is_plain {
+        std::str::from_utf8(text).ok()?.parse().ok()
+    } else {
+        None
+    }
+}
+
+/// A minus if need be, 1 to 6 whole digits without needless zeros, a point, and exactly `decimals` digits.
+fn is_fixed(text: &[u8], decimals: usize) -> bool {
+    let size = text.strip_prefix(b"-").unwrap_or(text);
+    let is_negative = size.len() < text.len();
+    let Some(whole) = size.len().checked_sub(decimals + 1).map(|length| &size[..length]) else {
+        return false;
+    };
+    let tail = &size[whole.len()..];
+    let is_zero = size.iter().all(|&byte| byte == b'0' || byte == b'.');
+    whole.len() <= 6
+        && plain_number(whole).is_some()
+        && tail[0] == b'.'
+        && is_digits(&tail[1..], decimals)
+        && !(is_negative && is_zero)
+}

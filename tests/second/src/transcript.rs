@@ -1,0 +1,201 @@
+//! Command files and their transcripts; the format is written down in tests/vectors/README.md.
+
+use std::fmt;
+
+use crate::escape::{escaped, unescaped};
+use crate::market::{Market, Participant, Ran, Refusal, Submitted, FREE};
+use crate::read::read;
+
+/// The longest line of a command file, in characters.
+pub const LONGEST_LINE: usize = 8192;
+
+/// The largest report area that a command may lend.
+pub const LARGEST_AREA: usize = 65_536;
+
+/// One call, with what is lent to it.
+#[derive(Clone, Debug, PartialEq, Eq)]
+pub enum Command {
+    Open { venue: Vec<u8>, port: Vec<u8>, code: Vec<u8>, first_number: u64, participants: Vec<Participant> },
+    Submit { area: usize, message: Vec<u8> },
+    Run { area: usize, budget: u64 },
+    Depth { side: u64, k: u64 },
+    Read { report: Vec<u8> },
+}
+
+impl Command {
+    /// Reads one line; an error says what is wrong with it.
+    pub fn parse(line: &str) -> Result<Command, String> {
+        if line.len() > LONGEST_LINE {
+            return Err("the line is too long".to_string());
+        }
+        let (letter, rest) = line.split_once(' ').ok_or("no command")?;
+        let parts: Vec<&str> = rest.split(';').collect();
+        match (letter, parts.as_slice()) {
+            ("o", [venue, port, code, first, participants @ ..]) => Ok(Command::Open {
+                venue: bytes(venue)?,
+                port: bytes(port)?,
+                code: bytes(code)?,
+                first_number: decimal(first)?,
+                participants: participants.iter().map(|text| participant(text)).collect::<Result<_, _>>()?,
+            }),
+            ("s", [size, message]) => Ok(Command::Submit { area: area(size)?, message: bytes(message)? }),
+            ("r", [size, budget]) => Ok(Command::Run { area: area(size)?, budget: decimal(budget)? }),
+            ("d", [side, k]) => Ok(Command::Depth { side: decimal(side)?, k: decimal(k)? }),
+            ("x", [report]) => Ok(Command::Read { report: bytes(report)? }),
+            _ => Err("not a command".to_string()),
+        }
+    }
+}
+
+impl fmt::Display for Command {
+    /// Writes the command as its line, without the LF.
+    fn fmt(&self, out: &mut fmt::Formatter) -> fmt::Result {
+        match self {
+            Command::Open { venue, port, code, first_number, participants } => {
+                write!(out, "o {};{};{};{first_number}", escaped(venue), escaped(port), escaped(code))?;
+                participants.iter().try_for_each(|entry| write!(out, ";{}:{}", entry.mpid, entry.mode))
+            }
+            Command::Submit { area, message } => write!(out, "s {area};{}", escaped(message)),
+            Command::Run { area, budget } => write!(out, "r {area};{budget}"),
+            Command::Depth { side, k } => write!(out, "d {side};{k}"),
+            Command::Read { report } => write!(out, "x {}", escaped(report)),
+        }
+    }
+}
+
+fn bytes(text: &str) -> Result<Vec<u8>, String> {
+    unescaped(text).ok_or_else(|| format!("not a text: {text}"))
+}
+
+fn decimal(text: &str) -> Result<u64, String> {
+    let is_decimal = !text.is_empty() && text.bytes().all(|byte| byte.is_ascii_digit());
+    text.parse().ok().filter(|_| is_decimal).ok_or_else(|| format!("not a number: {text}"))
+}
+
+fn area(text: &str) -> Result<usize, String> {
+    let size = decimal(text)?;
+    usize::try_from(size).ok().filter(|&size| size <= LARGEST_AREA).ok_or_else(|| format!("not an area: {text}"))
+}
+
+fn participant(text: &str) -> Result<Participant, String> {
+    let (mpid, mode) = text.split_once(':').ok_or_else(|| format!("not an MPID and its mode: {text}"))?;
+    Ok(Participant { mpid: decimal(mpid)?, mode: decimal(mode)? })
+}
+
+/// The market in use. Before the first accepted Open there is none, which is answered like a table that is not a
+/// market.
+#[derive(Clone, Debug, Default)]
+pub struct Desk {
+    market: Option<Market>,
+}
+
+impl Desk {
+    pub fn new() -> Desk {
+        Desk::default()
+    }
+
+    pub fn market(&self) -> Option<&Market> {
+        self.market.as_ref()
+    }
+
+    /// Does one command and gives its line of the transcript, without the LF.
+    pub fn answer(&mut self, command: &Command) -> String {
+        match command {
+            Command::Open { venue, port, code, first_number, participants } => {
+                let opened = Market::open(venue, port, code, *first_number, participants);
+                self.open(opened)
+            }
+            Command::Submit { area, message } => submit_line(&self.submit(message, *area)),
+            Command::Run { area, budget } => run_line(&self.run(*area, *budget)),
+            Command::Depth { side, k } => self.depth_line(*side, *k),
+            Command::Read { report } => read_line(report),
+        }
+    }
+
+    /// Puts a newly opened market into use; a refused one changes nothing.
+    fn open(&mut self, opened: Result<Market, Refusal>) -> String {
+        match opened {
+            Ok(market) => {
+                self.market = Some(market);
+                "o 0".to_string()
+            }
+            Err(refusal) => format!("o {}", refusal.number()),
+        }
+    }
+
+    pub fn submit(&mut self, message: &[u8], area: usize) -> Submitted {
+        match &mut self.market {
+            Some(market) => market.submit(message, area),
+            None => Submitted { number: refusal_without_market(area), report: Vec::new() },
+        }
+    }
+
+    pub fn run(&mut self, area: usize, budget: u64) -> Ran {
+        match &mut self.market {
+            Some(market) => market.run(area, budget),
+            None => Ran { number: refusal_without_market(area), ..Ran::default() },
+        }
+    }
+
+    fn depth_line(&self, side: u64, k: u64) -> String {
+        let depth = match &self.market {
+            Some(market) => market.depth(side, k),
+            None => Err(Refusal::NotAMarket),
+        };
+        match depth {
+            Ok(Some(level)) => format!("d 0 1 {} {} {}", level.yield_thousandths, level.total, level.orders),
+            Ok(None) => "d 0 0 0 0 0".to_string(),
+            Err(refusal) => format!("d {} 0 0 0 0", refusal.number()),
+        }
+    }
+}
+
+fn refusal_without_market(area: usize) -> u64 {
+    if area < FREE {
+        Refusal::AreaTooSmall.number()
+    } else {
+        Refusal::NotAMarket.number()
+    }
+}
+
+fn submit_line(submitted: &Submitted) -> String {
+    with_bytes(format!("s {} {}", submitted.number, submitted.report.len()), &submitted.report)
+}
+
+fn run_line(ran: &Ran) -> String {
+    with_bytes(format!("r {} {} {} {}", ran.number, ran.bytes.len(), ran.reports, ran.steps), &ran.bytes)
+}
+
+fn with_bytes(line: String, bytes: &[u8]) -> String {
+    if bytes.is_empty() {
+        line
+    } else {
+        format!("{line} {}", escaped(bytes))
+    }
+}
+
+fn read_line(bytes: &[u8]) -> String {
+    match read(bytes) {
+        None => format!("x {} 0", Refusal::NotAReport.number()),
+        Some(report) => {
+            let fields = report.fields.iter().map(|field| format!("{}={};", field.tag, escaped(field.value)));
+            format!("x 0 {} {}", report.kind as u64, fields.collect::<String>())
+        }
+    }
+}
+
+/// The transcript of a whole command file. Comment lines are said back as they are. A last line without LF is taken.
+pub fn transcript(commands: &str) -> Result<String, String> {
+    let mut desk = Desk::new();
+    let mut answers = String::new();
+    for (at, line) in commands.split_terminator('\n').enumerate() {
+        let answer = if line.starts_with('#') {
+            line.to_string()
+        } else {
+            desk.answer(&Command::parse(line).map_err(|error| format!("line {}: {error}", at + 1))?)
+        };
+        answers.push_str(&answer);
+        answers.push('\n');
+    }
+    Ok(answers)
+}

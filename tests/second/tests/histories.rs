@@ -1,0 +1,319 @@
+//! Generated histories, looked at after every call: demand 3 from the bytes of the reports, what a market must be,
+//! and what refusals leave alone.
+//!
+//! The tallies are taken from the reports as Read gives them, by tag 37, as the paper's paragraph on demand 3 says;
+//! what is open is the market's own.
+
+use std::collections::{BTreeMap, BTreeSet};
+
+use second::generate::generate;
+use second::market::Market;
+use second::order::{Order, Side, TimeInForce};
+use second::read::{read, Kind, Report};
+use second::report::{split_reports, LONGEST_REPORT};
+use second::transcript::{Command, Desk};
+
+/// Seeds and sizes of the histories; the second is long enough for full tables.
+const HISTORIES: [(u64, u64); 3] = [(1, 700), (2, 2_700), (3, 500)];
+
+/// What the reports have said about one order.
+#[derive(Clone, Debug, Default)]
+struct Tally {
+    accepted: u64,
+    executed: u64,
+    decremented: u64,
+    canceled: u64,
+    leaves: u64,
+}
+
+/// What the reports of one market have said.
+#[derive(Clone, Debug, Default)]
+struct Book {
+    tallies: BTreeMap<u64, Tally>,
+    bought: u64,
+    sold: u64,
+}
+
+fn number(report: &Report, tag: u32) -> u64 {
+    let value = report.value(tag).unwrap_or_else(|| panic!("{tag} stands"));
+    std::str::from_utf8(value).unwrap().parse().unwrap_or_else(|_| panic!("{tag} is a number"))
+}
+
+impl Book {
+    /// Takes one report into the tallies.
+    fn tell(&mut self, report: &Report) {
+        match report.kind {
+            Kind::Rejected | Kind::CancelReject | Kind::SessionReject => {}
+            _ => self.tell_of_order(report),
+        }
+    }
+
+    fn tell_of_order(&mut self, report: &Report) {
+        let leaves = number(report, 151);
+        let tally = self.tallies.entry(number(report, 37)).or_default();
+        match report.kind {
+            Kind::Accepted => tally.accepted = number(report, 38),
+            Kind::Replaced if report.value(378).is_none() => tally.accepted = number(report, 38),
+            Kind::Replaced => tally.decremented += tally.leaves - leaves,
+            Kind::Canceled => tally.canceled += tally.leaves,
+            _ => {
+                let quantity = number(report, 32);
+                tally.executed += quantity;
+                match report.value(54) {
+                    Some(b"1") => self.bought += quantity,
+                    _ => self.sold += quantity,
+                }
+            }
+        }
+        tally.leaves = leaves;
+    }
+
+    /// Accepted = executions + decrements + cancels + open for every order, and bought = sold.
+    fn assert_conserved(&self, market: &Market) {
+        assert_eq!(self.tallies.len(), market.orders().len());
+        for (record, tally) in &self.tallies {
+            let open = market.orders()[*record as usize - 1].open();
+            assert_eq!(tally.accepted, tally.executed + tally.decremented + tally.canceled + open, "order {record}");
+            assert_eq!(tally.leaves, open, "order {record}");
+        }
+        assert_eq!(self.bought, self.sold);
+    }
+}
+
+/// The two reports of a trade follow each other, say the same of it, and are not of one MPID.
+fn assert_no_self_trade(reports: &[Report]) {
+    let trades: Vec<&Report> = reports.iter().filter(|report| report.kind == Kind::Trade).collect();
+    for pair in trades.chunks(2) {
+        let [resting, in_work] = pair else { panic!("a trade has two reports") };
+        for tag in [31, 32, 880, 52] {
+            assert_eq!(resting.value(tag), in_work.value(tag));
+        }
+        assert_eq!(number(resting, 880), number(resting, 34));
+        assert_eq!((resting.value(851), in_work.value(851)), (Some(&b"1"[..]), Some(&b"2"[..])));
+        assert_eq!(resting.value(375), Some(in_work.value(109).unwrap_or(b"0")));
+        assert_eq!(in_work.value(375), Some(resting.value(109).unwrap_or(b"0")));
+        assert!(resting.value(109).is_none() || resting.value(109) != in_work.value(109), "a trade inside one MPID");
+    }
+}
+
+fn open_orders(market: &Market, side: Side) -> Vec<&Order> {
+    market.orders().iter().filter(|order| order.side == side && order.open() > 0).collect()
+}
+
+/// Depth's levels hold what is open, level by level from the best, and nothing else.
+fn assert_depth_adds_up(market: &Market) {
+    for (number, side) in [(1, Side::Buy), (2, Side::Sell)] {
+        let mut open = open_orders(market, side);
+        let mut last: Option<i64> = None;
+        for k in 0.. {
+            let Some(level) = market.depth(number, k).expect("nothing is in work") else { break };
+            assert!(last.is_none_or(|last| side.is_better(last, level.yield_thousandths)));
+            let (here, elsewhere): (Vec<&Order>, Vec<&Order>) =
+                open.into_iter().partition(|order| order.yield_thousandths == level.yield_thousandths);
+            assert_eq!(level.orders, here.len() as u64);
+            assert_eq!(level.total, here.iter().map(|order| order.open()).sum::<u64>());
+            (open, last) = (elsewhere, Some(level.yield_thousandths));
+        }
+        assert!(open.is_empty(), "open orders stand on no level");
+    }
+}
+
+/// What 01 asks of a market, as far as it is not plain from the types.
+fn assert_is_market(market: &Market) {
+    let orders = market.orders();
+    assert!(orders.len() <= 255);
+    assert!((1..=1_000_000_000).contains(&market.next_number()));
+    for order in orders {
+        assert!((1..=999_999_999).contains(&order.order_qty));
+        assert!(order.yield_thousandths.abs() <= 999_999_999);
+        assert!(order.executed + order.decremented + order.canceled <= order.order_qty);
+        assert!(order.canceled == 0 || order.open() == 0);
+        assert!(order.sum.abs() <= i128::from(order.executed) * 999_999_999);
+        assert!(order.mpid.is_none_or(|mpid| market.mpids().contains(&mpid)));
+        assert!((1..market.next_number()).contains(&order.place));
+    }
+    assert_eq!(orders.iter().map(|order| &order.cl_ord_id).collect::<BTreeSet<_>>().len(), orders.len());
+    assert_eq!(orders.iter().map(|order| order.place).collect::<BTreeSet<_>>().len(), orders.len());
+    assert_uncrossed(market);
+    assert_numbers_suffice(market);
+}
+
+/// Apart from the order in work, no IOC is open and every open buy is above every open sell.
+fn assert_uncrossed(market: &Market) {
+    let in_work = market.in_work().map(|record| &market.orders()[record - 1]);
+    let resting = |side| open_orders(market, side).into_iter().filter(|&order| Some(order) != in_work);
+    let lowest_buy = resting(Side::Buy).map(|order| order.yield_thousandths).min();
+    let highest_sell = resting(Side::Sell).map(|order| order.yield_thousandths).max();
+    if let (Some(buy), Some(sell)) = (lowest_buy, highest_sell) {
+        assert!(buy > sell, "buys are above sells");
+    }
+    assert!(resting(Side::Buy).chain(resting(Side::Sell)).all(|order| order.time_in_force == TimeInForce::Day));
+}
+
+/// While the order in work has something open, there are numbers for all that may still be reported.
+fn assert_numbers_suffice(market: &Market) {
+    if let Some(record) = market.in_work() {
+        let order = &market.orders()[record - 1];
+        let opposite = open_orders(market, order.side.opposite()).len() as u64;
+        assert!(order.open() == 0 || market.next_number() + 2 * opposite < 1_000_000_000);
+    }
+}
+
+/// How many open opposite orders the order in work meets.
+fn met(market: &Market) -> u64 {
+    let order = &market.orders()[market.in_work().expect("an order is in work") - 1];
+    open_orders(market, order.side.opposite()).iter().filter(|other| order.meets(other)).count() as u64
+}
+
+/// A history being played, with what is remembered from call to call.
+struct History {
+    desk: Desk,
+    book: Book,
+    steps_left: u64,
+}
+
+impl History {
+    fn market(&self) -> &Market {
+        self.desk.market().expect("a market is open")
+    }
+
+    /// Plays one call and looks at everything.
+    fn play(&mut self, command: &Command) {
+        let before = self.desk.market().cloned();
+        match command {
+            Command::Open { .. } => {
+                if self.desk.answer(command) == "o 0" {
+                    self.book = Book::default();
+                } else {
+                    assert_eq!(self.desk.market(), before.as_ref());
+                }
+            }
+            Command::Submit { area, message } => self.play_submit(before.as_ref(), message, *area),
+            Command::Run { area, budget } => self.play_run(before.as_ref(), *area, *budget),
+            Command::Depth { .. } | Command::Read { .. } => {
+                self.desk.answer(command);
+                assert_eq!(self.desk.market(), before.as_ref());
+            }
+        }
+        if self.desk.market().is_some() {
+            self.look();
+        }
+    }
+
+    fn play_submit(&mut self, before: Option<&Market>, message: &[u8], area: usize) {
+        let submitted = self.desk.submit(message, area);
+        match submitted.number {
+            0 | 6..=8 => self.hear(before, &submitted.report, 1),
+            _ => {
+                assert!(submitted.report.is_empty());
+                assert_eq!(self.desk.market(), before);
+            }
+        }
+        if submitted.number == 0 && self.market().in_work().is_some() {
+            self.steps_left = met(self.market()) + 1;
+        }
+    }
+
+    fn play_run(&mut self, before: Option<&Market>, area: usize, budget: u64) {
+        let ran = self.desk.run(area, budget);
+        assert!(ran.bytes.len() <= area);
+        assert!(ran.steps <= budget);
+        if ran.steps == 0 {
+            assert_eq!((ran.reports, ran.bytes.len()), (0, 0));
+            assert_eq!(self.desk.market(), before);
+            return;
+        }
+        self.hear(before, &ran.bytes, ran.reports);
+        assert!(ran.steps <= self.steps_left, "done within m + 1 steps");
+        self.steps_left -= ran.steps;
+        assert_eq!(self.market().in_work().is_none(), self.is_stepwise_end(before, ran.steps));
+    }
+
+    /// Whether so many single steps, each with room of its own, end the work that stood before.
+    fn is_stepwise_end(&self, before: Option<&Market>, steps: u64) -> bool {
+        let mut market = before.expect("a market is open").clone();
+        for _ in 0..steps {
+            market.run(1024, 1);
+        }
+        assert_eq!(&market, self.market(), "one run or many, the market is the same");
+        market.in_work().is_none()
+    }
+
+    /// Reads the reports of one call and takes them into the tallies.
+    fn hear(&mut self, before: Option<&Market>, bytes: &[u8], count: u64) {
+        let texts = split_reports(bytes);
+        assert_eq!(texts.len() as u64, count);
+        assert_eq!(texts.concat(), bytes);
+        let mut number_before = before.expect("a market is open").next_number();
+        let reports: Vec<Report> = texts.iter().map(|text| read(text).expect("what is written can be read")).collect();
+        for (report, text) in reports.iter().zip(texts) {
+            assert!(text.len() <= LONGEST_REPORT);
+            assert_eq!(number(report, 34), number_before);
+            assert!(report.value(17).is_none() || number(report, 17) == number_before);
+            number_before += 1;
+            self.book.tell(report);
+        }
+        assert_eq!(self.market().next_number(), number_before);
+        assert_no_self_trade(&reports);
+    }
+
+    /// Looks at the market and the tallies.
+    fn look(&self) {
+        assert_is_market(self.market());
+        self.book.assert_conserved(self.market());
+        if self.market().in_work().is_none() {
+            assert_depth_adds_up(self.market());
+        }
+    }
+}
+
+fn commands(seed: u64, count: u64) -> Vec<Command> {
+    let lines = generate(seed, count);
+    lines.iter().filter(|line| !line.starts_with('#')).map(|line| Command::parse(line).unwrap()).collect()
+}
+
+#[test]
+fn q1_q2_q3_demand_3_holds_after_every_call_of_generated_histories() {
+    for (seed, count) in HISTORIES {
+        let mut history = History { desk: Desk::new(), book: Book::default(), steps_left: 0 };
+        for command in commands(seed, count) {
+            history.play(&command);
+        }
+    }
+}
+
+#[test]
+fn a_generated_history_meets_every_outcome() {
+    let mut desk = Desk::new();
+    let mut answers: BTreeMap<String, u64> = BTreeMap::new();
+    for (seed, count) in HISTORIES {
+        for command in commands(seed, count) {
+            let answer = desk.answer(&command);
+            let words: Vec<&str> = answer.split(' ').take(if answer.starts_with("x 0") { 3 } else { 2 }).collect();
+            *answers.entry(words.join(" ")).or_default() += 1;
+            let fields = answer
+                .split('|')
+                .filter(|field| ["103=", "102=", "373=", "378="].iter().any(|tag| field.starts_with(tag)));
+            for field in fields {
+                *answers.entry(field.to_string()).or_default() += 1;
+            }
+        }
+    }
+    for outcome in [
+        "o 0", "o 9", "s 0", "s 1", "s 3", "s 4", "s 5", "s 6", "s 7", "s 8", "r 0", "r 1", "d 0", "d 3", "d 10",
+        "x 11", "x 0 1", "x 0 2", "x 0 3", "x 0 4", "x 0 5", "x 0 6", "x 0 7", "103=0", "103=1", "103=6", "103=99",
+        "102=0", "102=1", "102=2", "373=1", "373=2", "373=3", "373=4", "373=5", "373=6", "373=9", "373=11", "378=99",
+        "378=100",
+    ] {
+        assert!(answers.contains_key(outcome), "{outcome} never came up");
+    }
+    let taken = answers["s 0"];
+    let all: u64 = (0..=8).filter_map(|number| answers.get(&format!("s {number}"))).sum();
+    assert!((35..=65).contains(&(taken * 100 / all)), "about half of the messages are good: {taken} of {all}");
+}
+
+#[test]
+fn a_seed_gives_the_same_commands_and_another_seed_others() {
+    assert_eq!(generate(5, 50), generate(5, 50));
+    assert_ne!(generate(5, 50), generate(6, 50));
+}

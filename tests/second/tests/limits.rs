@@ -1,0 +1,94 @@
+//! Limits that are looked at through the library rather than through commands.
+
+use second::compose::{cancel, new_order, order, Draft};
+use second::market::{Market, Participant, Refusal};
+use second::read::read;
+
+/// Venue V, port P, code 350 with one MPID.
+fn market_from(first_number: u64) -> Market {
+    Market::open(b"V", b"P", b"350", first_number, &[Participant { mpid: 10, mode: 1 }]).expect("the settings are good")
+}
+
+/// Submits a message and runs it to its end; gives Submit's number.
+fn play(market: &mut Market, draft: &Draft) -> u64 {
+    let number = market.submit(&draft.bytes(), 1024).number;
+    while market.in_work().is_some() {
+        market.run(1024, 1);
+    }
+    number
+}
+
+#[test]
+fn o13_dead_orders_count_as_in_the_table() {
+    let mut market = market_from(1);
+    for record in 1..=255 {
+        assert_eq!(play(&mut market, &new_order(&format!("a{record}"))), 0);
+        assert_eq!(play(&mut market, &cancel(&format!("a{record}"), &format!("b{record}"), "1")), 0);
+    }
+    assert!(market.orders().iter().all(|order| order.open() == 0));
+    let late = market.submit(&new_order("a1").bytes(), 1024);
+    let report = read(&late.report).expect("Rejected can be read");
+    assert_eq!((late.number, report.value(103)), (7, Some(&b"0"[..])));
+}
+
+#[test]
+fn r12_the_last_submit_has_numbers_for_all_that_it_meets() {
+    let mut market = market_from(999_998_976 - 254);
+    for record in 1..=254 {
+        assert_eq!(play(&mut market, &order(&format!("s{record}"), "2", "1", "0.1")), 0);
+    }
+    assert_eq!(market.next_number(), 999_998_976);
+    assert_eq!(market.submit(&order("b", "1", "254", "0.1").bytes(), 1024).number, 0);
+    let ran = market.run(1_000_000, 1_000);
+    assert_eq!((ran.reports, ran.steps, market.next_number()), (508, 255, 999_999_485));
+    assert_eq!(market.submit(&new_order("c").bytes(), 1024).number, Refusal::NumbersSpent.number());
+}
+
+#[test]
+fn open_needs_1_to_8_entries() {
+    let list: Vec<Participant> = (1..=9).map(|mpid| Participant { mpid, mode: 1 }).collect();
+    for count in 0..=9 {
+        let opened = Market::open(b"V", b"P", b"350", 1, &list[..count]);
+        assert_eq!(opened.is_ok(), (1..=8).contains(&count));
+        assert!(opened.is_ok() || opened == Err(Refusal::SettingWrong));
+    }
+}
+
+#[test]
+fn refusals_have_the_papers_numbers() {
+    let in_order = [
+        Refusal::AreaTooSmall,
+        Refusal::NotAMarket,
+        Refusal::OrderInWork,
+        Refusal::NumbersSpent,
+        Refusal::Garbled,
+        Refusal::SessionRejected,
+        Refusal::OrderRejected,
+        Refusal::ChangeRejected,
+        Refusal::SettingWrong,
+        Refusal::SideWrong,
+        Refusal::NotAReport,
+    ];
+    assert_eq!(in_order.map(Refusal::number), [1, 2, 3, 4, 5, 6, 7, 8, 9, 10, 11]);
+}
+
+#[test]
+fn e15_the_longest_reports_are_394_bytes() {
+    let id = "x".repeat(32);
+    let head = "35=8|34=999999999|49=12345678|50=DJGB|52=20261116-09:00:00|56=12345678|1=0123456789|6=-999999.999999|";
+    let tail = "47=A|54=1|55=123456789|59=0|60=20261116-09:00:00|109=999999|";
+    let trade = format!(
+        "{head}11={id}|14=999999999|17=999999999|20=0|31=-999999.999|32=999999999|37=255|38=999999999|39=1|40=2|\
+         44=-999999.999|{tail}150=1|151=999999999|375=999999|382=1|423=9|851=1|880=999999999|8060=1|"
+    );
+    let replaced = format!(
+        "{head}11={id}|14=999999999|17=999999999|20=0|37=255|38=999999999|39=1|40=2|41={id}|44=-999999.999|{tail}\
+         150=5|151=999999999|378=100|423=9|8060=1|"
+    );
+    let lengths = [trade, replaced].map(|text| {
+        let bytes = Draft::of_text(&text).bytes();
+        assert!(read(&bytes).is_some());
+        bytes.len()
+    });
+    assert_eq!(lengths.into_iter().max(), Some(394));
+}
