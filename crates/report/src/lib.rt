@@ -24,6 +24,14 @@ pub struct Field {
     pub value: Value,
 }
 
+// Where a text stands: in the message that caused the report, or else in the table where it is stored; its first byte and how
+// many there are.
+pub struct Place {
+    pub sent: bool,
+    pub start: usize,
+    pub length: usize,
+}
+
 // What the value of a field may be: one of five characters; a number in a range; one of eight numbers; four characters; an
 // order's record, or NONE; a text of at most so many characters from one on to 7E hex; 1 to 9 digits; a time; a yield; AvgPx.
 pub enum Shape {
