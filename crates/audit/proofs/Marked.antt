@@ -3,18 +3,18 @@
 use mathlib.Core.Path.{_≡_, refl, sym, ap, _∙_}
 use mathlib.Core.Bool.{Bool, true, false, not, _&&_}
 use mathlib.Core.List.{List}
-use Prim.Native.Nat.{ℕ, suc, _+_, _*_, _%_, _≤_, _<_, zero-le}
+use Prim.Native.Nat.{ℕ, suc, _+_, _*_, _/_, _%_, _≤_, _<_, zero-le}
 use native.Mathlib.Decide.{ℕ-discrete}
 use native.Mathlib.Nat.{not-suc-le-zero}
 use native.Mathlib.Numerals.{add-one}
 use native.Mathlib.Omega.{arith}
-use borrow.Author.Tests.{ne-eqb, lt-ltb, le-ltb}
+use borrow.Author.Tests.{ne-eqb, lt-ltb, le-ltb, eqb-true, not-false}
 use lib.Dec.{eqb, ltb}
 use lib.ListN.{length, getD, set, drop, length-set}
 use lib.Seq.{getD-set-same, getD-set-other, drop-cons, drop-length}
 use Rattle.octets.specs.Octets.{sameBytes}
 use Rattle.octets.specs.Tests.{allUpTo}
-use Rattle.octets.proofs.Bools.{both-i, both-not-l, both-not-r}
+use Rattle.octets.proofs.Bools.{split, both-i, both-not-l, both-not-r}
 use Rattle.octets.proofs.Parts.{not-same}
 use Rattle.octets.proofs.Ranges.{all-from}
 use Rattle.matching.specs.Matching.{Book, at}
@@ -25,10 +25,10 @@ use Rattle.audit.specs.Checking.{keyFrom, keyOf, placeKey}
 
 -- ---- the first j keys have a mark: at the start, one more, and what a key without a mark tells
 pub record Marked (key : ℕ → ℕ) (mark : List ℕ) (j : ℕ) : Type 0 where
-  pub size : length mark ≡ 16384
+  pub size : length mark ≡ 2048
   pub mark-at : (i : ℕ) → i < j → getD mark (key i) 0 ≡ 1
 
-pub marked-none : {key : ℕ → ℕ} (mark : List ℕ) → length mark ≡ 16384 → Marked key mark 0
+pub marked-none : {key : ℕ → ℕ} (mark : List ℕ) → length mark ≡ 2048 → Marked key mark 0
 marked-none mark h = record { size = h; mark-at = λ i l. absurd (not-suc-le-zero l) }
 
 pub unmarked : {key : ℕ → ℕ} {mark : List ℕ} {j : ℕ} (k : ℕ) → Marked key mark j → k ≡ key j → getD mark k 0 ≡ 0
@@ -37,7 +37,7 @@ unmarked {key} {mark} {j} k m e none i l same =
     let z : _≡_ {A = ℕ} 1 0 = sym (m .mark-at i l) ∙ ap (λ (q : ℕ). getD mark q 0) (same ∙ sym e) ∙ none in
     omega arith
 
-pub marked-more : {key : ℕ → ℕ} {mark : List ℕ} {j : ℕ} (k : ℕ) → Marked key mark j → k ≡ key j → k < 16384 → Marked key (set mark k 1) (j + 1)
+pub marked-more : {key : ℕ → ℕ} {mark : List ℕ} {j : ℕ} (k : ℕ) → Marked key mark j → k ≡ key j → k < 2048 → Marked key (set mark k 1) (j + 1)
 marked-more {key} {mark} {j} k m e small =
     record {
       size = length-set mark k 1 ∙ m .size;
@@ -55,16 +55,16 @@ marked-more {key} {mark} {j} k m e small =
 -- ---- the key of a text, of which i bytes were passed
 pub record Keyed (s : List ℕ) (h i : ℕ) : Type 0 where
   pub within : i ≤ length s
-  pub small : h < 16384
+  pub small : h < 4194304
   pub left : keyFrom h (drop i s) ≡ keyOf s
 
 pub keyed-none : {s : List ℕ} → Keyed s 0 0
 keyed-none = record { within = zero-le; small = omega arith; left = refl }
 
-pub keyed-more : {s : List ℕ} {h i : ℕ} (x : ℕ) → Keyed s h i → i < length s → x ≡ getD s i 0 → Keyed s ((h * 31 + x) % 16384) (i + 1)
+pub keyed-more : {s : List ℕ} {h i : ℕ} (x : ℕ) → Keyed s h i → i < length s → x ≡ getD s i 0 → Keyed s ((h * 10 + x) % 4194304) (i + 1)
 unfolding keyFrom
 keyed-more {s} {h} {i} x k l e =
-    let z : keyFrom h (drop i s) ≡ keyFrom ((h * 31 + x) % 16384) (drop (i + 1) s) = rw (drop-cons s i 0 l, e, add-one) in
+    let z : keyFrom h (drop i s) ≡ keyFrom ((h * 10 + x) % 4194304) (drop (i + 1) s) = rw (drop-cons s i 0 l, e, add-one) in
     record { within = omega arith; small = omega arith; left = sym z ∙ k .left }
 
 pub keyed-end : {s : List ℕ} {h i : ℕ} → Keyed s h i → length s ≤ i → h ≡ keyOf s
@@ -78,11 +78,27 @@ keyed-end {s} {h} {i} k l =
 abbrev pub idKey : List ℕ → ℕ → ℕ
 idKey t i = keyOf (clOrdIdAt t (i + 1))
 
+abbrev pub lowKey : List ℕ → ℕ → ℕ
+lowKey t i = idKey t i % 2048
+
+abbrev pub highKey : List ℕ → ℕ → ℕ
+highKey t i = idKey t i / 2048
+
 pub id-new : (t : List ℕ) (j : ℕ) → ((i : ℕ) → i < j → idKey t i ≡ idKey t j → ⊥) → isFreshId t j ≡ true
 unfolding isFreshId
 id-new t j h =
     all-from (λ i. not (sameBytes (clOrdIdAt t (i + 1)) (clOrdIdAt t (j + 1)))) j (λ i l.
     ap not (not-same (clOrdIdAt t (i + 1)) (clOrdIdAt t (j + 1)) (λ e. h i l (ap keyOf e))))
+
+-- the same by the marks of both halves, of which one is not there
+pub id-unmarked : (t : List ℕ) (j x y : ℕ) {low high : List ℕ} → Marked (lowKey t) low j → Marked (highKey t) high j → x ≡ lowKey t j → y ≡ highKey t j
+    → (not (eqb (getD low x 0) 0) && not (eqb (getD high y 0) 0)) ≡ false → isFreshId t j ≡ true
+id-unmarked t j x y {low} {high} m k e f h =
+    split (eqb (getD low x 0) 0)
+    (λ z. id-new t j (λ i l same. unmarked x m e (eqb-true _ 0 z) i l (ap (λ (q : ℕ). q % 2048) same)))
+    (λ z.
+    let g : not (eqb (getD high y 0) 0) ≡ false = rw z at h in
+    id-new t j (λ i l same. unmarked y k f (eqb-true _ 0 (not-false _ g)) i l (ap (λ (q : ℕ). q / 2048) same)))
 
 -- ---- places: order k + 1 of the book is record k + 1
 pub at-record : (t : List ℕ) (n k : ℕ) → n ≡ filled t → k < n → at (bookOf t) (suc k) ≡ orderAt t (k + 1)

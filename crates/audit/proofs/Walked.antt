@@ -8,7 +8,7 @@ use native.Mathlib.Numerals.{add-one}
 use native.Mathlib.Omega.{arith}
 use borrow.Author.Tests.{eq-eqb, ne-eqb}
 use lib.Dec.{eqb, leb, ltb}
-use lib.ListN.{length, drop, List·getD-eq-default}
+use lib.ListN.{length, getD, drop, List·getD-eq-default}
 use Rattle.octets.specs.Octets.{allZero, Bytes}
 use Rattle.octets.specs.Tests.{allUpTo}
 use Rattle.octets.proofs.Places.{below-or}
@@ -65,6 +65,10 @@ module _ (had : ℕ) (x y : Bool) (o r : Order) (e : x ≡ isOpen r) (f : y ≡ 
 pub done-is : (o : Order) (x : Bool) → x ≡ isOpen o → not (eqb (o .tif) 3 && x) ≡ isDone o
 unfolding isDone
 done-is o x e = rw e
+
+pub not-ioc : (t : List ℕ) (i : ℕ) → (getD t (128 * i + 45) 0 ≡ 3 → ⊥) → true ≡ isDone (orderAt t i)
+unfolding isDone orderAt
+not-ioc t i h = rw (ne-eqb (getD t (128 * i + 45) 0) 3 h)
 
 -- ---- no IOC is open: the test of record k + 1, and of all
 module _ (t : List ℕ) (n w : ℕ) (e : n ≡ filled t) where

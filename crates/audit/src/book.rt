@@ -5,7 +5,7 @@ ghost use Prim.Native.Nat.{_+_, _≤_, _<_};
 ghost use lib.ListN.{length};
 ghost use Rattle.matching.specs.Matching.{countOf, opposed};
 ghost use Rattle.table.specs.Places.{tableBytes};
-ghost use Rattle.table.specs.Orders.{filled, bookOf};
+ghost use Rattle.table.specs.Orders.{orderAt, filled, bookOf};
 ghost use Rattle.audit.specs.Widths.{Narrow};
 ghost use Rattle.table.specs.Market.{isDone, noIoc, noCross, hasNumbers, isBook};
 ghost use Rattle.audit.specs.Checking.{lowWith, highWith};
@@ -22,6 +22,17 @@ fn is_done(o: Order) -> bool
     !((o.tif == 3) & has_open(o))
 }
 
+// Whether record i is no open IOC; what is open is asked of an IOC alone.
+fn is_done_at(t: &[u8], i: usize) -> bool
+    requires { ⌜ (length (now t) ≡ tableBytes) × (i < 256) ⌝ }
+    ensures { λ r. ⌜ r ≡ isDone (orderAt (now (t .entry)) i) ⌝ }
+{
+    if t[128 * i + 45] != 3 {
+        return true;
+    }
+    is_done(load(t, i))
+}
+
 // Whether no IOC among the n filled records is open, apart from order w.
 fn no_ioc(t: &[u8], n: usize, w: usize) -> bool
     requires { ⌜ (length (now t) ≡ tableBytes) × (n ≡ filled (now t)) × (n ≤ 255) ⌝ }
@@ -29,7 +40,7 @@ fn no_ioc(t: &[u8], n: usize, w: usize) -> bool
 {
     let mut k = 0;
     while k < n {
-        if !((k + 1 == w) | is_done(load(t, k + 1))) {
+        if !((k + 1 == w) | is_done_at(t, k + 1)) {
             return false;
         }
         k += 1;

@@ -1,5 +1,5 @@
-// Whether ClOrdIDs and places are distinct: a mark for each key seen, and a comparison with those before only where the
-// key was seen.
+// Whether ClOrdIDs and places are distinct: marks for the keys seen, and a comparison with all before only where the marks
+// of a key are there already.
 ghost use mathlib.Core.Path.{_≡_};
 ghost use Prim.Native.Nat.{_+_, _≤_, _<_};
 ghost use lib.ListN.{length};
@@ -11,12 +11,12 @@ use table::record::clordid;
 
 // The key of a ClOrdID.
 fn key_of(s: &[u8]) -> usize
-    ensures { λ r. ⌜ (r ≡ keyOf (now (s .entry))) × (r < 16384) ⌝ }
+    ensures { λ r. ⌜ (r ≡ keyOf (now (s .entry))) × (r < 4194304) ⌝ }
 {
     let mut h = 0;
     let mut i = 0;
     while i < s.len() {
-        h = (h * 31 + (octets::wide(s[i]) as usize)) % 16384;
+        h = (h * 10 + (octets::wide(s[i]) as usize)) % 4194304;
         i += 1;
     }
     h
@@ -43,16 +43,20 @@ pub fn has_ids(t: &[u8], n: usize) -> bool
     requires { ⌜ (length (now t) ≡ tableBytes) × (n ≡ filled (now t)) × (n ≤ 255) ⌝ }
     ensures { λ r. ⌜ r ≡ hasIds (now (t .entry)) ⌝ }
 {
-    let mut mark = [0u8; 16384];
+    let mut low = [0u8; 2048];
+    let mut high = [0u8; 2048];
     let mut j = 0;
     while j < n {
         let key = key_of(clordid(t, j + 1));
-        if mark[key] != 0 {
+        let a = key % 2048;
+        let b = key / 2048;
+        if (low[a] != 0) & (high[b] != 0) {
             if !is_fresh_id(t, j) {
                 return false;
             }
         }
-        mark[key] = 1;
+        low[a] = 1;
+        high[b] = 1;
         j += 1;
     }
     true
@@ -87,14 +91,14 @@ pub fn has_places(t: &[u8], n: usize, next: u64) -> bool
     requires { ⌜ (length (now t) ≡ tableBytes) × (n ≡ filled (now t)) × (n ≤ 255) ⌝ }
     ensures { λ r. ⌜ r ≡ hasPlaces (bookOf (now (t .entry))) next ⌝ }
 {
-    let mut mark = [0u8; 16384];
+    let mut mark = [0u8; 2048];
     let mut j = 0;
     while j < n {
         let p = place(t, j + 1);
         if next <= p {
             return false;
         }
-        let key = (p % 16384) as usize;
+        let key = (p % 2048) as usize;
         if mark[key] != 0 {
             if !is_fresh_place(t, n, j) {
                 return false;

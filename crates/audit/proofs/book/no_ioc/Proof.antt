@@ -1,5 +1,5 @@
 -- `audit::no_ioc` meets its contract: of the records passed none is an open IOC, apart from the order in work.
-use mathlib.Core.Path.{sym, _∙_}
+use mathlib.Core.Path.{refl, sym, _∙_}
 use mathlib.Core.Bool.{_||_}
 use Prim.Native.Nat.{_-_, suc}
 use native.Mathlib.Omega.{arith}
@@ -9,7 +9,6 @@ use Rattle.octets.proofs.Ranges.{Passed, passed-none, passed-more, passed-stop,
 use Rattle.matching.specs.Matching.{at}
 use Rattle.table.specs.Orders.{bookOf}
 use Rattle.table.specs.Market.{isDone}
-use Rattle.audit.proofs.Amounts.{narrow-load}
 use Rattle.audit.proofs.Walked.{ioc-at, ioc-all}
 use Rattle.audit.proofs.book.no_ioc.Statement.{statement}
 use Rattle.audit.proofs.book.no_ioc.Tie as tie
@@ -26,17 +25,14 @@ loop-holds c = passed-none
 add-if1 : tie.Need-add-if1 Inv-loop μ-loop
 add-if1 c = omega arith
 
-add-load : tie.Need-add-load Inv-loop μ-loop
-add-load c = omega arith
+add-is-done-at : tie.Need-add-is-done-at Inv-loop μ-loop
+add-is-done-at c = omega arith
 
-load-requires : tie.Need-load-requires Inv-loop μ-loop
-load-requires c κs = omega arith
-
-is-done-requires : tie.Need-is-done-requires Inv-loop μ-loop
-is-done-requires c κs = narrow-load _ _ (λ j. c .before .before .before .shared-slice-known .given j .fits) (c .load .ensures)
+is-done-at-requires : tie.Need-is-done-at-requires Inv-loop μ-loop
+is-done-at-requires c κs = omega arith
 
 returns : tie.Need-returns Inv-loop μ-loop
-returns c = ioc-all _ _ _ (c .before .before .before .before .before .before .pre .1) _ (passed-stop (c .before .before .before .before .loop .inv) (c .before .before .before .loop-test .taken) (sym (ioc-at _ _ _ (c .before .before .before .before .before .before .pre .1) _ _ _ (c .before .before .before .loop-test .taken) (c .before .before .load .ensures) (c .before .is-done .ensures)) ∙ not-true _ (c .if1 .taken)))
+returns c = ioc-all _ _ _ (c .before .before .before .before .before .pre .1) _ (passed-stop (c .before .before .before .loop .inv) (c .before .before .loop-test .taken) (sym (ioc-at _ _ _ (c .before .before .before .before .before .pre .1) _ _ _ (c .before .before .loop-test .taken) refl (c .before .is-done-at .ensures)) ∙ not-true _ (c .if1 .taken)))
 
 add-k : tie.Need-add-k Inv-loop μ-loop
 add-k c = omega arith
@@ -45,7 +41,7 @@ loop-less : tie.Need-loop-less Inv-loop μ-loop
 loop-less c = omega arith
 
 loop-again : tie.Need-loop-again Inv-loop μ-loop
-loop-again c = passed-more (c .before .before .before .before .loop .inv) (c .before .before .before .loop-test .taken) (sym (ioc-at _ _ _ (c .before .before .before .before .before .before .pre .1) _ _ _ (c .before .before .before .loop-test .taken) (c .before .before .load .ensures) (c .before .is-done .ensures)) ∙ not-false _ (c .if1 .left))
+loop-again c = passed-more (c .before .before .before .loop .inv) (c .before .before .loop-test .taken) (sym (ioc-at _ _ _ (c .before .before .before .before .before .pre .1) _ _ _ (c .before .before .loop-test .taken) refl (c .before .is-done-at .ensures)) ∙ not-false _ (c .if1 .left))
 
 returns-2 : tie.Need-returns-2 Inv-loop μ-loop
 returns-2 c = ioc-all _ _ _ (c .before .before .before .pre .1) _ (passed-end (c .before .loop .inv) (c .loop-test .left))
@@ -58,9 +54,8 @@ no-ioc-spec =
     μ-loop
     loop-holds
     add-if1
-    add-load
-    load-requires
-    is-done-requires
+    add-is-done-at
+    is-done-at-requires
     returns
     add-k
     loop-less

@@ -56,7 +56,7 @@ loop-again c =
     let t = c .before .before .before .before .before .before .args .t .now in
     let l = c .before .before .before .before .loop in
     let p = c .before .before .place .ensures .0 in
-    let e : c .before .before .place .result % 16384 ≡ placeKeyAt (bookOf t) (l .j) =
+    let e : c .before .before .place .result % 2048 ≡ placeKeyAt (bookOf t) (l .j) =
     ap placeKey (place-read t _ (l .j) _ (c .before .before .before .before .before .before .pre .1) (c .before .before .before .loop-test .taken) p) in
     let h : isFreshPlace (bookOf t) (l .j) ≡ true =
     ⊎-elim (λ w. sym (w .1 .ensures) ∙ not-false _ (w .2 .left))
