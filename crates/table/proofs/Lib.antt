@@ -17,4 +17,3 @@ pub mod Entering
 pub mod Settings
 pub mod Kept
 pub mod Opens
-pub mod Computed
