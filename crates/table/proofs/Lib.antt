@@ -17,3 +17,4 @@ pub mod Entering
 pub mod Settings
 pub mod Kept
 pub mod Opens
+pub mod Theorems

@@ -3,14 +3,16 @@
 use mathlib.Core.Path.{_≡_, refl, sym, ap, _∙_}
 use mathlib.Core.Bool.{Bool, true, false, cond, _&&_, _||_}
 use mathlib.Core.List.{List}
-use Prim.Native.Nat.{ℕ, suc, _+_, _≤_, _<_}
+use Prim.Native.Nat.{ℕ, suc, _+_, _-_, _≤_, _<_}
 use native.Mathlib.Nat.{add-zero}
 use native.Mathlib.Numerals.{add-one}
 use native.Mathlib.Omega.{arith}
-use lib.Dec.{eqb}
+use lib.Dec.{eqb, ltb}
 use lib.ListN.{length}
-use borrow.Author.Tests.{ne-eqb, lt-ltb, le-ltb}
+use borrow.Author.Tests.{le-ltb, lt-ltb, ltb-false, ltb-true, ne-eqb}
 use Rattle.octets.specs.Octets.{sameBytes}
+use Rattle.octets.proofs.Parts.{same-is}
+use Rattle.table.proofs.Searches.{first-before, first-holds}
 use Rattle.octets.specs.Tests.{firstFrom}
 use Rattle.octets.proofs.Bools.{split}
 use Rattle.octets.proofs.Ranges.{Sought, sought-here, sought-end}
@@ -121,3 +123,31 @@ module _ (t : List ℕ) (n : ℕ) (o : Order) (i c : ℕ) (e : n ≡ filled t) (
   count-no z =
       let x : opposed o (at (bookOf t) (suc i)) ≡ false = rw loaded (sym q ∙ z) in
       rw (add-one i, count-suc (bookOf t) o i, x, s, add-zero)
+
+-- ---- what a search for a ClOrdID says
+
+-- none of the records has it
+pub record-none : (t : List ℕ) (n : ℕ) (xs : List ℕ) → recordWith t n xs ≡ 0 → (i : ℕ) → 1 ≤ i → i ≤ n → sameBytes (clOrdIdAt t i) xs ≡ false
+unfolding recordWith idIndex
+record-none t n xs h i l m =
+    let f : ℕ → Bool = λ k. sameBytes (clOrdIdAt t (k + 1)) xs in
+    let r : ℕ = firstFrom f 0 n in
+    let e : i - 1 + 1 ≡ i = omega arith in
+    split (ltb r n)
+    (λ z. absurd (let x : r + 1 ≡ 0 = rw z at h in omega arith))
+    (λ z.
+    let b : sameBytes (clOrdIdAt t (i - 1 + 1)) xs ≡ false = first-before f 0 n (i - 1) (omega arith) (omega (arith, ltb-false)) in
+    rw e at b)
+
+-- record r has it
+pub record-found : (t : List ℕ) (n : ℕ) (xs : List ℕ) (r : ℕ) → recordWith t n xs ≡ r → 0 < r → (r ≤ n) × (clOrdIdAt t r ≡ xs)
+unfolding recordWith idIndex
+record-found t n xs r h l =
+    let f : ℕ → Bool = λ k. sameBytes (clOrdIdAt t (k + 1)) xs in
+    let q : ℕ = firstFrom f 0 n in
+    split (ltb q n)
+    (λ z.
+    let x : q + 1 ≡ r = rw z at h in
+    let y : sameBytes (clOrdIdAt t (q + 1)) xs ≡ true = first-holds f 0 n (omega (arith, ltb-true)) in
+    (omega (arith, ltb-true), rw (← x) (same-is (clOrdIdAt t (q + 1)) xs y)))
+    (λ z. absurd (let x : 0 ≡ r = rw z at h in omega arith))
