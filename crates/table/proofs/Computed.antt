@@ -1,9 +1,9 @@
 -- Book R's table is a market; tables with one clause broken are not. By computing.
 use mathlib.Core.Path.{_≡_, refl}
-use mathlib.Core.Bool.{Bool, true, false, cond}
+use mathlib.Core.Bool.{true, false}
 use mathlib.Core.List.{List, [], _∷_}
-use Prim.Native.Nat.{ℕ, _+_}
-use lib.ListN.{length, getD, set, replicate}
+use Prim.Native.Nat.{ℕ}
+use lib.ListN.{set}
 use Rattle.octets.specs.Octets.{leAt, bytesOf, put, partAt, textAt, textBytes, sameBytes, allZero}
 use Rattle.octets.specs.Tests.{allUpTo, firstFrom}
 use Rattle.decimal.specs.Reading.{isDigit, digitOf, isTime, isTimeLength, timeShaped, timeRanged, twoAt}

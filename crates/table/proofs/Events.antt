@@ -1,7 +1,7 @@
 -- The laws that applying an event wants: what the loaded order promises, and what the stores make of the table.
-use mathlib.Core.Path.{_≡_, refl, sym, ap, _∙_}
+use mathlib.Core.Path.{_≡_, sym, ap, _∙_}
 use mathlib.Core.List.{List}
-use Prim.Native.Nat.{ℕ, _+_, _≤_, _<_}
+use Prim.Native.Nat.{ℕ, _<_}
 use native.Mathlib.Omega.{arith}
 use lib.ListN.{length}
 use Rattle.octets.specs.Octets.{textBytes}
@@ -9,9 +9,9 @@ use Rattle.octets.proofs.Places.{length-put}
 use Rattle.matching.specs.declared.Order.{Order}
 use Rattle.matching.specs.declared.Event.{Event}
 use Rattle.matching.specs.Matching.{at, who, change}
-use Rattle.matching.specs.Held.{Sound, May, Ready}
+use Rattle.matching.specs.Held.{Sound, May}
 use Rattle.table.specs.Places.{tableBytes}
-use Rattle.table.specs.Orders.{orderAt, filled, bookOf, putId, putTerms, putAmounts, applied, withdrawn, replaced}
+use Rattle.table.specs.Orders.{orderAt, bookOf, putId, putTerms, putAmounts, applied, withdrawn, replaced}
 use Rattle.table.specs.Facts.{Due}
 use Rattle.table.proofs.Same.{filled-few}
 use Rattle.table.proofs.Books.{length-book, at-book}

@@ -16,4 +16,5 @@ pub mod Naming
 pub mod Entering
 pub mod Settings
 pub mod Kept
+pub mod Opens
 pub mod Computed

@@ -1,10 +1,9 @@
 -- The laws that looking at the settings and writing them want: tests of every byte, lists of MPIDs and modes put entry by
 -- entry.
 use mathlib.Core.Path.{_≡_, refl, sym, ap, _∙_}
-use mathlib.Core.Bool.{Bool, true, false, not, _&&_}
-use mathlib.Core.List.{List, [], _∷_, _++_}
-use Prim.Native.Nat.{ℕ, zero, suc, _+_, _*_, _-_, _≤_, _<_}
-use native.Mathlib.Nat.{add-zero}
+use mathlib.Core.Bool.{Bool, true, false, _&&_}
+use mathlib.Core.List.{List, [], _∷_}
+use Prim.Native.Nat.{ℕ, suc, _+_, _*_, _≤_, _<_}
 use native.Mathlib.Numerals.{add-one}
 use native.Mathlib.Omega.{arith}
 use mathlib.Core.Logic.{⊎-elim}
@@ -19,7 +18,7 @@ use Rattle.octets.proofs.Ranges.{all-at}
 use Rattle.decimal.specs.Reading.{isDigit}
 use Rattle.octets.proofs.Places.{put-put, length-put, length-bytesOf, below-or}
 use Rattle.table.specs.Heading.{mpidBytes, putNext, putMpids, putModes}
-use Rattle.table.specs.Market.{every, isBetween}
+use Rattle.table.specs.Market.{every, isBetween, isGraphic}
 use Rattle.table.specs.Opened.{isName, isNew, isGiven, areGiven, areNames, areSettings, namedTable, freshTable, isOpening, opened, openNumber}
 
 -- ---- a test of every byte that has come to byte i: from there on it gives the whole test's answer
@@ -142,7 +141,27 @@ module _ {t₀ ds t : List ℕ} {k : ℕ} (s : ModesPut t₀ ds t k) where
 
 -- ---- what good settings promise
 
+pub name-some : (f : ℕ → Bool) (room : ℕ) (s : List ℕ) → isName f room s ≡ true → 1 ≤ length s
+unfolding isName
+name-some f room s h = leb-true _ _ (search both-l)
+
+pub name-every : (f : ℕ → Bool) (room : ℕ) (s : List ℕ) → isName f room s ≡ true → every f s ≡ true
+unfolding isName
+name-every f room s h = search both-r
+
 module _ (venue port code : List ℕ) (h : areNames venue port code ≡ true) where
+  pub venue-name : isName isGraphic 8 venue ≡ true
+  unfolding areNames
+  venue-name = search both-l
+
+  pub port-name : isName isGraphic 8 port ≡ true
+  unfolding areNames
+  port-name = search (both-l, both-r)
+
+  pub code-name : isName isDigit 9 code ≡ true
+  unfolding areNames
+  code-name = search both-r
+
   pub venue-short : length venue ≤ 8
   unfolding areNames isName
   venue-short = leb-true _ _ (search (both-l, both-r))

@@ -2,9 +2,9 @@
 -- The places that the paper leaves to the team are decided here: bytes that nothing uses are zero, and so is the room
 -- behind a text; the order in work is a filled record; while one is in work its 52 is a time, and otherwise zeros; OrderQty
 -- and place are at least 1. Assumes nothing: any list of bytes is a market or is not.
-use mathlib.Core.Bool.{Bool, true, false, not, cond, _&&_, _||_}
+use mathlib.Core.Bool.{Bool, true, not, cond, _&&_, _||_}
 use mathlib.Core.List.{List, [], _∷_}
-use Prim.Native.Nat.{ℕ, zero, suc, _+_, _*_, _-_}
+use Prim.Native.Nat.{ℕ, suc, _+_, _*_, _-_}
 use lib.Dec.{eqb, leb, ltb}
 use lib.ListN.{length, getD, drop}
 use Rattle.octets.specs.Octets.{partAt, textAt, sameBytes, allZero}
@@ -14,7 +14,7 @@ use Rattle.matching.specs.declared.Order.{Order}
 use Rattle.matching.specs.Matching.{Book, at, openOf, isOpen, isBuy, crosses, opposedTo}
 use Rattle.table.specs.Places.{tableBytes, venueByte, portByte, idRoom, codeByte, codeRoom, stampByte, stampRoom, spareByte, mpidsByte, modesByte, mostMpids, headingEnd, headingSpare, recordAt, clOrdIdRoom, accountByte, accountRoom, recordEnd, recordSpare}
 use Rattle.table.specs.Heading.{nextOf, workOf, stampOf, mpidAt, modeAt, entries, isListed}
-use Rattle.table.specs.Orders.{clOrdIdAt, accountAt, capacityAt, classificationAt, orderAt, filled, bookOf}
+use Rattle.table.specs.Orders.{clOrdIdAt, capacityAt, classificationAt, orderAt, filled, bookOf}
 
 -- ---- texts
 

@@ -1,9 +1,9 @@
 -- What opening does (document 01, "The table and its calls", Open and refusal 9): the settings it takes, the table it
 -- writes, and its answer. The MPIDs and their modes are two lists of numbers, one entry of the one for one of the other. What
 -- was in the table before is not looked at. Assumes nothing.
-use mathlib.Core.Bool.{Bool, true, false, not, cond, _&&_}
-use mathlib.Core.List.{List, [], _∷_}
-use Prim.Native.Nat.{ℕ, _+_, _*_}
+use mathlib.Core.Bool.{Bool, not, cond, _&&_}
+use mathlib.Core.List.{List}
+use Prim.Native.Nat.{ℕ}
 use lib.Dec.{eqb, leb}
 use lib.ListN.{length, getD, replicate}
 use Rattle.octets.specs.Tests.{allUpTo}

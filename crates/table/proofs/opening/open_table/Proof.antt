@@ -1,5 +1,5 @@
 -- `table::opening::open_table` meets its contract: refused where the length or a setting is wrong, else the table is written.
-use mathlib.Core.Path.{_≡_, sym, _∙_}
+use mathlib.Core.Path.{sym, _∙_}
 use borrow.Author.Tests.{not-true, not-false}
 use Rattle.table.proofs.Settings.{answer-short, table-short, answer-wrong, table-wrong, answer-right, table-right}
 use borrow.Author.Needs.{needs}
