@@ -1,0 +1,2 @@
+-- The laws of `samples`.
+pub mod Texts

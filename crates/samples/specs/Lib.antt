@@ -1,0 +1,2 @@
+-- What the contracts of `samples` cite.
+pub mod Fine
