@@ -6,3 +6,4 @@ pub mod Sums
 pub mod Tails
 pub mod Opening
 pub mod Verdict
+pub mod Plain

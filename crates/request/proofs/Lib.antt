@@ -3,3 +3,5 @@ pub mod Keys
 pub mod Judging
 pub mod Gathering
 pub mod Answers
+pub mod Told
+pub mod Requests

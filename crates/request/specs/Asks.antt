@@ -116,3 +116,11 @@ headAsked venue port s =
 -- what a message asks
 unfoldable pub askedOf : List ℕ → List ℕ → List ℕ → Asked
 askedOf venue port s = cond (garbledMessage s) Garbled (headAsked venue port s)
+
+-- the number of a refusal that an answer is: 5 garbled, 6 a session Reject, 0 none so far
+abbrev pub refusalNumber : Asked → ℕ
+refusalNumber Garbled = 5
+refusalNumber (Refused r) = 6
+refusalNumber (Enters o) = 0
+refusalNumber (Replaces o) = 0
+refusalNumber (Cancels o) = 0
