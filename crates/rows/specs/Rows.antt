@@ -56,6 +56,10 @@ orNobody n = cond (eqb n 0) nobody (Number n)
 
 -- ---- what is worked out of an order
 
+-- 38: the quantity accepted, which a decrement leaves as it is
+abbrev pub orderQty : Order → ℕ
+orderQty o = o .qty
+
 -- AvgPx: the mean of what has executed
 unfoldable pub avgPx : Order → ℕ
 avgPx o = meanOf (o .sum) (o .executed)
@@ -131,7 +135,7 @@ acceptedFields s o g =
     ∷ 17 is Number (s .number)
     ∷ 20 is Char 48
     ∷ 37 is Number (o .orderid)
-    ∷ 38 is Number (o .order .qty)
+    ∷ 38 is Number (orderQty (o .order))
     ∷ 39 is Char 48
     ∷ 40 is Char 50
     ∷ 44 is Level (o .order .level)
@@ -161,7 +165,7 @@ replacedFields s o g w =
     ∷ 17 is Number (s .number)
     ∷ 20 is Char 48
     ∷ 37 is Number (o .orderid)
-    ∷ 38 is Number (o .order .qty)
+    ∷ 38 is Number (orderQty (o .order))
     ∷ 39 is g .replaced
     ∷ 40 is Char 50
     ∷ 41 is w .orig
@@ -193,7 +197,7 @@ canceledFields s o g w =
     ∷ 17 is Number (s .number)
     ∷ 20 is Char 48
     ∷ 37 is Number (o .orderid)
-    ∷ 38 is Number (o .order .qty)
+    ∷ 38 is Number (orderQty (o .order))
     ∷ 39 is Char 52
     ∷ 40 is Char 50
     ∷ 41 is w .orig
@@ -227,7 +231,7 @@ tradeFields s o g f =
     ∷ 31 is Level (f .level)
     ∷ 32 is Number (f .quantity)
     ∷ 37 is Number (o .orderid)
-    ∷ 38 is Number (o .order .qty)
+    ∷ 38 is Number (orderQty (o .order))
     ∷ 39 is g .traded
     ∷ 40 is Char 50
     ∷ 44 is Level (o .order .level)

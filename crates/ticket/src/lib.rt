@@ -1,8 +1,99 @@
 // The report of what happens on a table.
+ghost use mathlib.Core.Path.{_≡_};
+ghost use Prim.Native.Nat.{_≤_, _<_};
+ghost use lib.ListN.{length};
+ghost use Rattle.table.specs.Places.{tableBytes};
+ghost use Rattle.ticket.specs.Tickets.{storedAt, orStoredAt, stampOn, shownOn, fillOn};
 use report::Place;
+use report::Value;
+use rows::Fill;
+use rows::Shown;
+use rows::Stamp;
 
 // The message that causes a report: where its 52 stands, and its 41 (empty for none).
 pub struct Cause {
     pub time: Place,
     pub orig: Place,
+}
+
+// The text whose length byte is at place p of the table.
+fn stored_at(t: &[u8], p: usize) -> Value
+    requires { ⌜ (length (now t) ≡ tableBytes) × (p < tableBytes) ⌝ }
+    ensures { λ r. ⌜ r ≡ storedAt (now (t .entry)) p ⌝ }
+{
+    let len = octets::wide(t[p]) as usize;
+    Value::Stored { from: p + 1, len }
+}
+
+// The same, or no value where it is empty.
+fn or_stored_at(t: &[u8], p: usize) -> Value
+    requires { ⌜ (length (now t) ≡ tableBytes) × (p < tableBytes) ⌝ }
+    ensures { λ r. ⌜ r ≡ orStoredAt (now (t .entry)) p ⌝ }
+{
+    if t[p] == 0 {
+        return Value::Absent;
+    }
+    stored_at(t, p)
+}
+
+// What report number n starts with, caused by a message with this 52.
+pub fn stamp_on(t: &[u8], n: u64, time: Place) -> Stamp
+    requires { ⌜ length (now t) ≡ tableBytes ⌝ }
+    ensures { λ r. ⌜ r ≡ stampOn (now (t .entry)) n time ⌝ }
+{
+    let when = rows::text(time);
+    let venue = stored_at(t, 0);
+    let port = stored_at(t, 9);
+    Stamp {
+        number: n,
+        time: when,
+        venue,
+        port,
+    }
+}
+
+// The order of record i as it is reported.
+pub fn shown_on(t: &[u8], i: usize) -> Shown
+    requires { ⌜ (length (now t) ≡ tableBytes) × (i < 256) ⌝ }
+    ensures { λ r. ⌜ r ≡ shownOn (now (t .entry)) i ⌝ }
+{
+    let capacity = t[128 * i + 46];
+    let order = table::record::load(t, i);
+    let class = table::record::classification(t, i);
+    let code = stored_at(t, 18);
+    let id = stored_at(t, 128 * i);
+    let account = or_stored_at(t, 128 * i + 33);
+    Shown {
+        orderid: i as u64,
+        order,
+        capacity,
+        class,
+        code,
+        id,
+        account,
+    }
+}
+
+// One side of a trade between the orders of records i and other: the order in work is reported second.
+pub fn fill_on(t: &[u8], n: u64, i: usize, other: usize, quantity: u64, level: u64) -> Fill
+    requires { ⌜ (length (now t) ≡ tableBytes) × (other < 256) × (0 < n) ⌝ }
+    ensures { λ r. ⌜ r ≡ fillOn (now (t .entry)) n i other quantity level ⌝ }
+{
+    let o = table::record::load(t, other);
+    if i == table::heading::work(t) {
+        return Fill {
+            quantity,
+            level,
+            other: o.mpid,
+            first: n - 1,
+            liquidity: 2,
+        };
+    }
+    Fill {
+        quantity,
+        level,
+        other: o.mpid,
+        first: n,
+        liquidity: 1,
+    }
 }

@@ -1,0 +1,63 @@
+-- `ticket::shown_on` meets its contract, part by part.
+use Prim.Native.Nat.{_+_, _*_}
+use lib.ListN.{getD}
+use Rattle.ticket.specs.Tickets.{shownOn}
+use borrow.Author.Needs.{needs}
+use Rattle.ticket.proofs.shown_on.Statement.{statement}
+use Rattle.ticket.proofs.shown_on.Tie as tie
+
+mul-capacity : tie.Need-mul-capacity
+mul-capacity c = search needs
+
+add-capacity : tie.Need-add-capacity
+add-capacity c = search needs
+
+shared-slice-read-capacity : tie.Need-shared-slice-read-capacity
+shared-slice-read-capacity c = search needs
+
+load-requires : tie.Need-load-requires
+load-requires c κs = search needs
+
+classification-requires : tie.Need-classification-requires
+classification-requires c κs = search needs
+
+stored-at-requires : tie.Need-stored-at-requires
+stored-at-requires c κs = search needs
+
+mul-stored-at : tie.Need-mul-stored-at
+mul-stored-at c = search needs
+
+stored-at-requires-2 : tie.Need-stored-at-requires-2
+stored-at-requires-2 c κs = search needs
+
+mul-or-stored-at : tie.Need-mul-or-stored-at
+mul-or-stored-at c = search needs
+
+add-or-stored-at : tie.Need-add-or-stored-at
+add-or-stored-at c = search needs
+
+or-stored-at-requires : tie.Need-or-stored-at-requires
+or-stored-at-requires c κs = search needs
+
+returns : tie.Need-returns
+unfolding shownOn
+returns c =
+    let a = c .before .before .before .before .before .before .before .args in
+    λ j. record { orderid = a .i; order = c .before .before .before .before .load .ensures j; capacity = getD (a .t .now) (128 * a .i + 46) 0; class = c .before .before .before .classification .ensures .0 j; code = c .before .before .stored-at .ensures j; id = c .before .stored-at2 .ensures j; account = c .or-stored-at .ensures j }
+
+pub shown-on-spec : {M : Type 1} → statement M
+shown-on-spec =
+    tie.close
+    (tie.spec
+    mul-capacity
+    add-capacity
+    shared-slice-read-capacity
+    load-requires
+    classification-requires
+    stored-at-requires
+    mul-stored-at
+    stored-at-requires-2
+    mul-or-stored-at
+    add-or-stored-at
+    or-stored-at-requires
+    returns)
