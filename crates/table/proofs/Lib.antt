@@ -17,4 +17,5 @@ pub mod Entering
 pub mod Settings
 pub mod Kept
 pub mod Opens
+pub mod Promises
 pub mod Theorems

@@ -1,7 +1,6 @@
 // The heading of a table: the settings as parts of it, the next report number, the order in work.
 ghost use mathlib.Core.Path.{_≡_};
 ghost use Prim.Native.Nat.{_≤_, _<_};
-ghost use mathlib.Core.List.{[]};
 ghost use lib.ListN.{length};
 ghost use Rattle.table.specs.Places.{tableBytes};
 ghost use Rattle.table.specs.Heading.{venueOf, portOf, codeOf, nextOf, workOf, stampOf, putNext, putWork, endWork};

@@ -3,11 +3,9 @@ ghost use mathlib.Core.Path.{_≡_};
 ghost use mathlib.Core.Bool.{true};
 ghost use Prim.Native.Nat.{ℕ, _+_, _≤_, _<_};
 ghost use lib.ListN.{length, getD};
-ghost use Rattle.octets.specs.Octets.{put};
-ghost use Rattle.decimal.specs.Reading.{isDigit};
 ghost use Rattle.table.specs.Places.{tableBytes};
 ghost use Rattle.table.specs.Heading.{putMpids, putModes};
-ghost use Rattle.table.specs.Market.{every, isBetween, isGraphic};
+ghost use Rattle.table.specs.Market.{every, isBetween};
 ghost use Rattle.table.specs.Opened.{isName, isNew, isGiven, areGiven, areNames, areSettings, namedTable, freshTable, opened, openNumber};
 use crate::heading::put_next;
 

@@ -4,7 +4,7 @@ ghost use Prim.Native.Nat.{_+_, _*_, _≤_, _<_};
 ghost use mathlib.Core.List.{[], _∷_};
 ghost use lib.ListN.{length};
 ghost use Rattle.octets.specs.Octets.{put};
-ghost use Rattle.table.specs.Places.{tableBytes, recordAt};
+ghost use Rattle.table.specs.Places.{tableBytes};
 ghost use Rattle.table.specs.Orders.{clOrdIdAt, accountAt, capacityAt, classificationAt, orderAt, termBytes, amountBytes, fieldBytes, putId, putTerms, putAmounts, accepted};
 use matching::Order;
 
