@@ -3,34 +3,18 @@ ghost use mathlib.Core.Path.{_≡_};
 ghost use Prim.Native.Nat.{_+_, _≤_};
 ghost use lib.ListN.{length, drop, replicate};
 ghost use Rattle.octets.specs.Octets.{allZero, put};
-use crate::number::eight_at;
 
-// Whether every byte from place p on is zero, one byte a turn: the last few of a slice.
-fn few_zero(t: &[u8], p: usize) -> bool
-    requires { ⌜ p ≤ length (now t) ⌝ }
-    ensures { λ r. ⌜ r ≡ allZero (drop p (now (t .entry))) ⌝ }
-{
-    let mut i = p;
-    while i < t.len() {
-        if t[i] != 0 {
-            return false;
-        }
-        i += 1;
-    }
-    true
-}
-
-// Whether every byte is zero: eight bytes a turn, and then the last few.
+// Whether every byte is zero. There is no way out of the loop but its end, so that the compiler takes 32 bytes a turn.
 pub fn all_zero(t: &[u8]) -> bool
     ensures { λ r. ⌜ r ≡ allZero (now (t .entry)) ⌝ }
 {
-    let mut seen: u64 = 0;
+    let mut zero = true;
     let mut i = 0;
-    while 8 <= t.len() - i {
-        seen = seen | eight_at(t, i);
-        i += 8;
+    while i < t.len() {
+        zero = zero & (t[i] == 0);
+        i += 1;
     }
-    (seen == 0) & few_zero(t, i)
+    zero
 }
 
 // Whether every byte from place p on is zero; p may lie past the end.
