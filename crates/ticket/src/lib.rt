@@ -4,9 +4,14 @@ ghost use Prim.Native.Nat.{_≤_, _<_};
 ghost use lib.ListN.{length};
 ghost use Rattle.table.specs.Places.{tableBytes};
 ghost use Rattle.ticket.specs.Tickets.{storedAt, orStoredAt, stampOn, shownOn, fillOn};
+ghost use Rattle.matching.specs.Matching.{who};
+ghost use Rattle.rows.specs.Rows.{requested as Rows·requested, text as Rows·text};
+ghost use Rattle.rows.specs.Rows.{prevented as Rows·prevented, decremented as Rows·decremented, expired as Rows·expired};
+use matching::Event;
 use report::Place;
 use report::Value;
 use rows::Fill;
+use rows::Ground;
 use rows::Shown;
 use rows::Stamp;
 
@@ -95,5 +100,72 @@ pub fn fill_on(t: &[u8], n: u64, i: usize, other: usize, quantity: u64, level: u
         other: o.mpid,
         first: n,
         liquidity: 1,
+    }
+}
+
+// As requested, with this 41.
+pub fn requested(orig: Place) -> Ground
+    ensures { λ r. ⌜ r ≡ Rows·requested (Rows·text orig) ⌝ }
+{
+    let value = rows::text(orig);
+    Ground {
+        orig: value,
+        reason: Value::Absent,
+    }
+}
+
+// By prevention.
+pub fn prevented() -> Ground
+    ensures { λ r. ⌜ r ≡ Rows·prevented ⌝ }
+{
+    Ground {
+        orig: Value::Absent,
+        reason: Value::Number(100),
+    }
+}
+
+// By a decrement.
+pub fn decremented(o: Shown) -> Ground
+    ensures { λ r. ⌜ r ≡ Rows·decremented o ⌝ }
+{
+    let id = o.id;
+    Ground {
+        orig: id,
+        reason: Value::Number(100),
+    }
+}
+
+// As an IOC's rest.
+pub fn expired() -> Ground
+    ensures { λ r. ⌜ r ≡ Rows·expired ⌝ }
+{
+    Ground {
+        orig: Value::Absent,
+        reason: Value::Number(99),
+    }
+}
+
+// The number of an event's order.
+pub fn order_of(e: Event) -> u64
+    ensures { λ r. ⌜ r ≡ who e ⌝ }
+{
+    match e {
+        Event::Accepted { order, entered: _ } => order,
+        Event::Replaced {
+            order,
+            level: _,
+            quantity: _,
+            place: _,
+        } => order,
+        Event::Withdrawn { order, quantity: _ } => order,
+        Event::Canceled { order, quantity: _ } => order,
+        Event::Decremented { order, quantity: _ } => order,
+        Event::Traded {
+            order,
+            other: _,
+            quantity: _,
+            level: _,
+        } => order,
+        Event::Expired { order, quantity: _ } => order,
     }
 }
