@@ -3,12 +3,15 @@
 -- own. Texts that the market keeps are named by where they stand in the table. Assumes nothing.
 use mathlib.Core.Bool.{Bool, true, false, cond}
 use mathlib.Core.List.{List}
-use Prim.Native.Nat.{ℕ, _+_, _-_}
+use mathlib.Core.Path.{_≡_}
+use Prim.Native.Nat.{ℕ, _+_, _-_, _<_}
 use lib.Dec.{eqb}
-use lib.ListN.{getD}
+use lib.ListN.{length, getD}
 use Rattle.matching.specs.declared.Event.{Event}
 use Rattle.matching.specs.declared.Event.the-variants.{Accepted, Replaced, Withdrawn, Canceled, Decremented, Traded, Expired}
-use Rattle.table.specs.Places.{recordAt, venueByte, portByte, codeByte, stampByte, accountByte}
+use Rattle.matching.specs.Matching.{who}
+use Rattle.matching.specs.Held.{Sound}
+use Rattle.table.specs.Places.{tableBytes, recordAt, venueByte, portByte, codeByte, stampByte, accountByte}
 use Rattle.table.specs.Heading.{workOf}
 use Rattle.table.specs.Orders.{capacityAt, classificationAt, orderAt}
 use Rattle.report.specs.declared.Place.{Place}
@@ -86,6 +89,23 @@ rowOf t n c (Canceled i q) = canceledRow (stampOn t n (c .time)) (shownOn t i) p
 rowOf t n c (Decremented i q) = replacedRow (stampOn t n (c .time)) (shownOn t i) (decremented (shownOn t i))
 rowOf t n c (Traded i m q l) = tradeRow (stampOn t n (c .time)) (shownOn t i) (fillOn t n i m q l)
 rowOf t n c (Expired i q) = canceledRow (stampOn t n (c .time)) (shownOn t i) expired
+
+-- what it is written from: a whole table, the records of the event's orders, a sound order, and a number
+abbrev pub otherOf : Event → ℕ
+otherOf (Accepted i o) = 0
+otherOf (Replaced i l q p) = 0
+otherOf (Withdrawn i q) = 0
+otherOf (Canceled i q) = 0
+otherOf (Decremented i q) = 0
+otherOf (Traded i m q l) = m
+otherOf (Expired i q) = 0
+
+pub record Ready (t : List ℕ) (n : ℕ) (e : Event) : Type 0 where
+  pub long : length t ≡ tableBytes
+  pub order-in : who e < 256
+  pub order-sound : Sound (orderAt t (who e))
+  pub other-in : otherOf e < 256
+  pub number-in : 0 < n
 
 -- its bytes, with the texts of the table and of the message
 unfoldable pub ticketOf : List ℕ → List ℕ → ℕ → Cause → Event → List ℕ

@@ -3,11 +3,13 @@ ghost use mathlib.Core.Path.{_≡_};
 ghost use Prim.Native.Nat.{_≤_, _<_};
 ghost use lib.ListN.{length};
 ghost use Rattle.table.specs.Places.{tableBytes};
-ghost use Rattle.ticket.specs.Tickets.{storedAt, orStoredAt, stampOn, shownOn, fillOn};
+ghost use Rattle.ticket.specs.Tickets.{storedAt, orStoredAt, stampOn, shownOn, fillOn, rowOf, Ready};
 ghost use Rattle.matching.specs.Matching.{who};
+ghost use Rattle.rows.specs.Rows.{padded};
 ghost use Rattle.rows.specs.Rows.{requested as Rows·requested, text as Rows·text};
 ghost use Rattle.rows.specs.Rows.{prevented as Rows·prevented, decremented as Rows·decremented, expired as Rows·expired};
 use matching::Event;
+use report::Field;
 use report::Place;
 use report::Value;
 use rows::Fill;
@@ -167,5 +169,51 @@ pub fn order_of(e: Event) -> u64
             level: _,
         } => order,
         Event::Expired { order, quantity: _ } => order,
+    }
+}
+
+// The row of an event, report number n, on the table after it.
+pub fn row_of(t: &[u8], n: u64, c: Cause, e: Event) -> [Field; 36]
+    requires { ⌜ Ready (now t) n e ⌝ }
+    ensures { λ r. ⌜ r ≡ padded (rowOf (now (t .entry)) n c e) ⌝ }
+{
+    let time = c.time;
+    let orig = c.orig;
+    let s = stamp_on(t, n, time);
+    let i = order_of(e) as usize;
+    let o = shown_on(t, i);
+    match e {
+        Event::Accepted {
+            order: _,
+            entered: _,
+        } => rows::accepted_row(s, o),
+        Event::Replaced {
+            order: _,
+            level: _,
+            quantity: _,
+            place: _,
+        } => rows::replaced_row(s, o, requested(orig)),
+        Event::Withdrawn {
+            order: _,
+            quantity: _,
+        } => rows::canceled_row(s, o, requested(orig)),
+        Event::Canceled {
+            order: _,
+            quantity: _,
+        } => rows::canceled_row(s, o, prevented()),
+        Event::Decremented {
+            order: _,
+            quantity: _,
+        } => rows::replaced_row(s, o, decremented(o)),
+        Event::Traded {
+            order: _,
+            other,
+            quantity,
+            level,
+        } => rows::trade_row(s, o, fill_on(t, n, i, other as usize, quantity, level)),
+        Event::Expired {
+            order: _,
+            quantity: _,
+        } => rows::canceled_row(s, o, expired()),
     }
 }

@@ -1,0 +1,2 @@
+-- The laws of `ticket`, for the proofs of this crate and of those above it. Nothing here need be believed.
+pub mod Events
