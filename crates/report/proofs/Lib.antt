@@ -9,3 +9,4 @@ pub mod Taken
 pub mod Only
 pub mod Back
 pub mod Tables
+pub mod ReadOnly
