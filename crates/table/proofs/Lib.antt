@@ -7,4 +7,6 @@ pub mod Books
 pub mod Lookups
 pub mod Facts
 pub mod Listed
+pub mod Frames
+pub mod Applied
 pub mod Computed

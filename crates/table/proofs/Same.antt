@@ -219,14 +219,16 @@ module _ {t u : List ℕ} where
 
   -- ---- the records
 
-  pub record-same : (i : ℕ) → Same t u (recordAt i) (recordAt i + 128) → isRecord t i ≡ isRecord u i
+  -- by its texts, its capacity and classification, and its unused bytes
+  pub record-parts : (i : ℕ) → Same t u (recordAt i) (recordAt i + 44) → Same t u (recordAt i + 46) (recordAt i + 48)
+      → Same t u (recordAt i + 84) (recordAt i + 128) → isRecord t i ≡ isRecord u i
   unfolding isRecord
-  record-same i s =
-      let a = is-text-same isPrintable 1 32 (128 * i) (128 * i + 128) s (omega arith) in
-      let b = is-text-same isPrintable 0 10 (128 * i + 33) (128 * i + 128) (same-in (128 * i + 33) (128 * i + 128) s (omega arith) (omega arith)) (omega arith) in
-      let c : getD t (128 * i + 46) 0 ≡ getD u (128 * i + 46) 0 = s .byte (128 * i + 46) (omega arith) (omega arith) in
-      let d : getD t (128 * i + 47) 0 ≡ getD u (128 * i + 47) 0 = s .byte (128 * i + 47) (omega arith) (omega arith) in
-      let e = part-same (128 * i + 84) 44 (128 * i + 128) (same-in (128 * i + 84) (128 * i + 128) s (omega arith) (omega arith)) (omega arith) in
+  record-parts i s r q =
+      let a = is-text-same isPrintable 1 32 (128 * i) (128 * i + 44) s (omega arith) in
+      let b = is-text-same isPrintable 0 10 (128 * i + 33) (128 * i + 44) (same-in (128 * i + 33) (128 * i + 44) s (omega arith) (omega arith)) (omega arith) in
+      let c : getD t (128 * i + 46) 0 ≡ getD u (128 * i + 46) 0 = r .byte (128 * i + 46) (omega arith) (omega arith) in
+      let d : getD t (128 * i + 47) 0 ≡ getD u (128 * i + 47) 0 = r .byte (128 * i + 47) (omega arith) (omega arith) in
+      let e = part-same (128 * i + 84) 44 (128 * i + 128) q (omega arith) in
       rw (a, b, c, d, e)
 
   pub order-same : (i : ℕ) → Same t u (recordAt i + 44) (recordAt i + 84) → orderAt t i ≡ orderAt u i

@@ -1,8 +1,10 @@
 -- What the contracts of `table` cite. A reader believes, in this order: Places (which byte is what), Heading and Orders (reading
--- and writing by name), Market (when a table is a market), Facts (what a market promises), Opened (what opening writes).
+-- and writing by name), Market (when a table is a market), Facts (what a market promises), Changes (the table after what a
+-- call does), Opened (what opening writes).
 pub mod Places
 pub mod Heading
 pub mod Orders
 pub mod Market
 pub mod Facts
+pub mod Changes
 pub mod Opened

@@ -1,0 +1,175 @@
+-- The frame of a table: all of it but the next number, what is in work, and the sides, terms and amounts of its filled
+-- records. A table with a market's frame is a market once its book is held and its work is in order.
+use mathlib.Core.Path.{_≡_, refl, sym, ap, _∙_}
+use mathlib.Core.Bool.{Bool, true, false, not, _&&_, _||_}
+use mathlib.Core.List.{List, [], _∷_}
+use mathlib.Core.Logic.{⊎-elim}
+use Prim.Native.Nat.{ℕ, zero, suc, _+_, _*_, _-_, _≤_, _<_}
+use native.Mathlib.Omega.{arith}
+use lib.Dec.{eqb, leb, lit≤}
+use lib.ListN.{length, getD, drop}
+use borrow.Author.Tests.{leb-true, eqb-true, eqb-false, eq-eqb, ne-eqb}
+use Rattle.octets.specs.Octets.{put, textBytes, sameBytes, allZero}
+use Rattle.octets.proofs.Bools.{both-l, both-r}
+use Rattle.octets.proofs.Places.{below-or}
+use Rattle.octets.proofs.Zeros.{zero-at}
+use Rattle.matching.specs.declared.Order.{Order}
+use Rattle.matching.specs.Held.{Held}
+use Rattle.table.specs.Places.{tableBytes, recordAt}
+use Rattle.table.specs.Heading.{nextOf, workOf, isListed}
+use Rattle.table.specs.Orders.{clOrdIdAt, orderAt, isFree, filled, bookOf}
+use Rattle.table.specs.Market.{isPrintable, isText, hasSettings, hasWork, hasSpare, restZero, isRecord}
+use Rattle.table.specs.Facts.{Market}
+use Rattle.table.proofs.Searches.{first-before, first-is, first-holds}
+use Rattle.table.proofs.Same.{Same, same-in, same-then, put-below, put-above, order-same, record-parts, rest-same, id-same, settings-same, spare-same, listed-same, filled-few}
+
+pub record Framed (t u : List ℕ) : Type 0 where
+  pub names : Same u t 0 28
+  pub lists : Same u t 55 128
+  pub texts : (i : ℕ) → 1 ≤ i → i ≤ filled t → Same u t (recordAt i) (recordAt i + 44)
+  pub kinds : (i : ℕ) → 1 ≤ i → i ≤ filled t → Same u t (recordAt i + 46) (recordAt i + 48)
+  pub spares : (i : ℕ) → 1 ≤ i → i ≤ filled t → Same u t (recordAt i + 84) (recordAt i + 128)
+  pub behind : Same u t (recordAt (filled t + 1)) (length t)
+
+-- ---- filled records
+
+-- a filled record's first byte is not 0; the first byte behind the last one is
+pub filled-byte : (t : List ℕ) (i : ℕ) → 1 ≤ i → i ≤ filled t → getD t (recordAt i) 0 ≡ 0 → ⊥
+unfolding filled
+filled-byte t i l h e =
+    let z : i - 1 + 1 ≡ i = omega arith in
+    let f : isFree t (i - 1 + 1) ≡ false = first-before (λ k. isFree t (k + 1)) 0 255 (i - 1) (omega arith) (omega arith) in
+    eqb-false (getD t (128 * i) 0) 0 (rw z at f) e
+
+pub free-byte : (t : List ℕ) → filled t < 255 → getD t (recordAt (filled t + 1)) 0 ≡ 0
+unfolding filled
+free-byte t h = eqb-true _ _ (first-holds (λ k. isFree t (k + 1)) 0 255 h)
+
+-- as many records are filled as have a first byte that is not 0, up to one that has
+pub filled-is : (t : List ℕ) (n : ℕ) → n ≤ 255 → ((i : ℕ) → 1 ≤ i → i ≤ n → getD t (recordAt i) 0 ≡ 0 → ⊥)
+    → (n < 255 → getD t (recordAt (n + 1)) 0 ≡ 0) → filled t ≡ n
+unfolding filled
+filled-is t n l before here =
+    first-is (λ k. isFree t (k + 1)) 255 n l
+    (λ j h. ne-eqb (getD t (128 * (j + 1)) 0) 0 (before (j + 1) (omega arith) (omega arith)))
+    (λ h. eq-eqb (getD t (128 * (n + 1)) 0) 0 (here h))
+
+-- the ClOrdID of a good record is of at most 32 characters
+pub id-short : (t : List ℕ) (i : ℕ) → isRecord t i ≡ true → getD t (recordAt i) 0 ≤ 32
+unfolding isRecord isText
+id-short t i h = leb-true _ _ (search (both-l, both-r) depth 9)
+
+-- ---- a frame
+
+module _ (t u : List ℕ) (long : length t ≡ tableBytes) (f : Framed t u) where
+  pub framed-long : length u ≡ tableBytes
+  framed-long = f .names .size ∙ long
+
+  pub framed-filled : filled u ≡ filled t
+  framed-filled =
+      let few = filled-few t in
+      filled-is u (filled t) few
+      (λ i l h e. filled-byte t i l h (sym (f .texts i l h .byte (128 * i) (omega arith) (omega arith)) ∙ e))
+      (λ h. f .behind .byte (128 * (filled t + 1)) (omega arith) (omega arith) ∙ free-byte t h)
+
+  pub framed-rest : restZero t ≡ true → restZero u ≡ true
+  unfolding restZero
+  framed-rest h =
+      let e = framed-filled in
+      let d = rest-same (128 * (filled t + 1)) (f .behind) in
+      rw (e, d) h
+
+  pub framed-settings : hasSettings u ≡ hasSettings t
+  framed-settings = settings-same (f .names) (same-in 56 96 (f .lists) (lit≤ tt) (lit≤ tt))
+
+  pub framed-spare : hasSpare u ≡ hasSpare t
+  framed-spare = spare-same (same-in 55 56 (f .lists) (lit≤ tt) (lit≤ tt)) (same-in 96 128 (f .lists) (lit≤ tt) (lit≤ tt))
+
+  pub framed-listed : isListed u ≡ isListed t
+  framed-listed = λ j m. listed-same (same-in 56 96 (f .lists) (lit≤ tt) (lit≤ tt)) m j
+
+  pub framed-record : (i : ℕ) → 1 ≤ i → i ≤ filled t → isRecord u i ≡ isRecord t i
+  framed-record i l h = record-parts i (f .texts i l h) (f .kinds i l h) (f .spares i l h)
+
+  pub framed-id : (i : ℕ) → 1 ≤ i → i ≤ filled t → isRecord t i ≡ true → clOrdIdAt u i ≡ clOrdIdAt t i
+  framed-id i l h r = id-same i (same-in (128 * i) (128 * i + 33) (f .texts i l h) (omega arith) (omega arith)) (id-short t i r)
+
+  -- what is left to show of a market is what the frame leaves open
+  pub framed-market : Market t → hasWork u ≡ true → 1 ≤ nextOf u → Held (isListed t) (nextOf u) (bookOf u) (workOf u) → Market u
+  framed-market m w n h =
+      let e = framed-filled in
+      record {
+        long = framed-long;
+        settings = framed-settings ∙ m .settings;
+        next-low = n;
+        work = w;
+        spare = framed-spare ∙ m .spare;
+        rest = framed-rest (m .rest);
+        records = λ i l k. framed-record i l (omega arith) ∙ m .records i l (omega arith);
+        ids = λ j k l i o.
+          let a = framed-id j l (omega arith) (m .records j l (omega arith)) in
+          let b = framed-id k (omega arith) (omega arith) (m .records k (omega arith) (omega arith)) in
+          rw (a, b) (m .ids j k l i (omega arith));
+        held = rw framed-listed h;
+      }
+
+-- ---- frames one after another, and those of the stores
+
+pub framed-self : (t : List ℕ) → Framed t t
+framed-self t =
+    let s : (p e : ℕ) → Same t t p e = λ p e. record { size = refl; byte = λ k l h. refl } in
+    record { names = s 0 28; lists = s 55 128; texts = λ i l h. s _ _; kinds = λ i l h. s _ _; spares = λ i l h. s _ _; behind = s _ _ }
+
+pub framed-then : (t u v : List ℕ) → length t ≡ tableBytes → Framed t u → Framed u v → Framed t v
+framed-then t u v long f g =
+    let e = framed-filled t u long f in
+    let z = f .names .size in
+    record {
+      names = same-then (g .names) (f .names);
+      lists = same-then (g .lists) (f .lists);
+      texts = λ i l h. same-then (g .texts i l (omega arith)) (f .texts i l h);
+      kinds = λ i l h. same-then (g .kinds i l (omega arith)) (f .kinds i l h);
+      spares = λ i l h. same-then (g .spares i l (omega arith)) (f .spares i l h);
+      behind = same-then (rw (e, z) at (g .behind)) (f .behind);
+    }
+
+-- a put among the terms and amounts of a filled record
+pub framed-put : (t : List ℕ) (k a : ℕ) (vs : List ℕ) → 1 ≤ k → k ≤ filled t → 48 ≤ a → a + length vs ≤ 84 → Framed t (put t (recordAt k + a) vs)
+framed-put t k a vs low high l h =
+    let p : ℕ = 128 * k + a in
+    record {
+      names = put-below t p vs 0 28 (omega arith);
+      lists = put-below t p vs 55 128 (omega arith);
+      texts = λ i j m.
+        ⊎-elim (λ (x : k < i). put-above t p vs (128 * i) (128 * i + 44) (omega arith))
+        (λ (x : i ≤ k). put-below t p vs (128 * i) (128 * i + 44) (omega arith)) (below-or k i);
+      kinds = λ i j m.
+        ⊎-elim (λ (x : k < i). put-above t p vs (128 * i + 46) (128 * i + 48) (omega arith))
+        (λ (x : i ≤ k). put-below t p vs (128 * i + 46) (128 * i + 48) (omega arith)) (below-or k i);
+      spares = λ i j m.
+        ⊎-elim (λ (x : i < k). put-below t p vs (128 * i + 84) (128 * i + 128) (omega arith))
+        (λ (x : k ≤ i). put-above t p vs (128 * i + 84) (128 * i + 128) (omega arith)) (below-or i k);
+      behind = put-above t p vs (128 * (filled t + 1)) (length t) (omega arith);
+    }
+
+-- a put among the next number, the order in work and its 52
+pub framed-heading : (t : List ℕ) (a : ℕ) (vs : List ℕ) → 28 ≤ a → a + length vs ≤ 55 → Framed t (put t a vs)
+framed-heading t a vs l h =
+    record {
+      names = put-below t a vs 0 28 (omega arith);
+      lists = put-above t a vs 55 128 (omega arith);
+      texts = λ i j m. put-above t a vs (128 * i) (128 * i + 44) (omega arith);
+      kinds = λ i j m. put-above t a vs (128 * i + 46) (128 * i + 48) (omega arith);
+      spares = λ i j m. put-above t a vs (128 * i + 84) (128 * i + 128) (omega arith);
+      behind = put-above t a vs (128 * (filled t + 1)) (length t) (omega arith);
+    }
+
+-- the orders of the other records, and all orders where the heading was put
+pub order-elsewhere : (t : List ℕ) (k a : ℕ) (vs : List ℕ) (j : ℕ) → (j ≡ k → ⊥) → a + length vs ≤ 128 → orderAt (put t (recordAt k + a) vs) j ≡ orderAt t j
+order-elsewhere t k a vs j n h =
+    order-same j
+    (⊎-elim (λ (x : k < j). put-above t (128 * k + a) vs (128 * j + 44) (128 * j + 84) (omega arith))
+    (λ (x : j ≤ k). put-below t (128 * k + a) vs (128 * j + 44) (128 * j + 84) (omega arith)) (below-or k j))
+
+pub order-below : (t : List ℕ) (a : ℕ) (vs : List ℕ) (j : ℕ) → 1 ≤ j → a + length vs ≤ 128 → orderAt (put t a vs) j ≡ orderAt t j
+order-below t a vs j l h = order-same j (put-above t a vs (128 * j + 44) (128 * j + 84) (omega arith))

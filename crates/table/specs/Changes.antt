@@ -1,0 +1,45 @@
+-- The table after what a call does to it (document 01, "The table and its calls" and "Matching, step by step"): one step of
+-- the order in work, a report about no order, a new order, a replacement, a requested cancel. Each of them is a few named
+-- writes. Assumes nothing; that a market stays a market is a theorem.
+use mathlib.Core.Bool.{cond}
+use mathlib.Core.List.{List, [], _∷_}
+use Prim.Native.Nat.{ℕ, _+_}
+use lib.Dec.{eqb}
+use lib.ListN.{length}
+use Rattle.matching.specs.declared.Order.{Order}
+use Rattle.matching.specs.declared.Event.{Event}
+use Rattle.matching.specs.Matching.{who, happens, workAfter}
+use Rattle.table.specs.Heading.{nextOf, workOf, modeOf, putNext, putWork, endWork}
+use Rattle.table.specs.Orders.{filled, bookOf, applied, withdrawn, replaced, accepted}
+
+-- after events that change amounts, one by one
+unfoldable pub played : List ℕ → List Event → List ℕ
+played t [] = t
+played t (e ∷ es) = played (applied t e) es
+
+-- the events of the next step of the order in work
+unfoldable pub stepEvents : List ℕ → List Event
+stepEvents t = happens (modeOf t) (bookOf t) (workOf t)
+
+-- after the n reports of something, the next number is n more
+unfoldable pub numbered : List ℕ → ℕ → List ℕ
+numbered t n = putNext t (nextOf t + n)
+
+-- after one step: the amounts of its events, a number for the report of each, and nothing in work if it ends the work
+unfoldable pub stepped : List ℕ → List ℕ
+stepped t =
+    let after = numbered (played t (stepEvents t)) (length (stepEvents t)) in
+    cond (eqb (workAfter (bookOf t) (workOf t)) 0) (endWork after) after
+
+-- after a new order, o, is accepted as the next record: it is in work, with the 52 of its message
+unfoldable pub entered : List ℕ → List ℕ → List ℕ → ℕ → ℕ → Order → List ℕ → List ℕ
+entered t clOrdId account capacity class o stamp =
+    putWork (numbered (accepted t (filled t + 1) clOrdId account capacity class o) 1) (filled t + 1) stamp
+
+-- after event e replaces its order: it is in work, with the 52 of its message
+unfoldable pub renewed : List ℕ → List ℕ → Event → List ℕ → List ℕ
+renewed t clOrdId e stamp = putWork (numbered (replaced t clOrdId e) 1) (who e) stamp
+
+-- after event e withdraws its order
+unfoldable pub taken : List ℕ → List ℕ → Event → List ℕ
+taken t clOrdId e = numbered (withdrawn t clOrdId e) 1
