@@ -16,13 +16,13 @@ use Rattle.matching.specs.declared.Event.the-variants.{Accepted, Replaced, With
 use Rattle.matching.specs.Matching.{Book, at, put as putOrder, openOf, who, change, after, play, amounts, terms}
 use Rattle.matching.specs.Held.{Sound, In, May, Ready, Readies, amount, levelOf}
 use Rattle.matching.specs.Accounts.{trades}
-use Rattle.matching.specs.Happens.{moves}
+use Rattle.matching.specs.Happens.{moves, Fits}
 use Rattle.matching.proofs.Events.{change-is, amount-is, change-executed, change-decremented, change-canceled, change-sum}
 use Rattle.table.specs.Places.{tableBytes, recordAt}
 use Rattle.table.specs.Heading.{putNext, putWork}
 use Rattle.table.specs.Orders.{orderAt, filled, bookOf, termBytes, amountBytes, putId, putTerms, putAmounts, applied}
 use Rattle.table.specs.Changes.{played}
-use Rattle.table.proofs.Same.{filled-few, book-same}
+use Rattle.table.proofs.Same.{Same, same-then, put-below, filled-few, book-same}
 use Rattle.table.proofs.Stores.{Amounts, Terms, length-amounts, length-terms, amounts-got, terms-got}
 use Rattle.table.proofs.Books.{length-book, at-book, book-changed}
 use Rattle.table.proofs.Frames.{Framed, framed-self, framed-long, framed-filled, framed-put, framed-heading, framed-then, order-elsewhere, order-below}
@@ -125,12 +125,30 @@ abbrev pub AllMove : List Event → Type 0
 AllMove [] = Unit {0}
 AllMove (e ∷ es) = (moves e ≡ true) × AllMove es
 
-pub framed-played : (es : List Event) (t : List ℕ) → length t ≡ tableBytes → AllMove es → Readies (bookOf t) es
-    → Framed t (played t es) × (bookOf (played t es) ≡ play (bookOf t) es)
+-- the table afterwards: its frame, its heading, its book
+pub record Played (t : List ℕ) (es : List Event) : Type 0 where
+  pub framed : Framed t (played t es)
+  pub heading : Same (played t es) t 0 128
+  pub book : bookOf (played t es) ≡ play (bookOf t) es
+
+pub heading-applied : (t : List ℕ) (e : Event) → 1 ≤ who e → Same (applied t e) t 0 128
+unfolding applied
+heading-applied t e l = put-below t (128 * who e + 64) (amountBytes (change e (orderAt t (who e)))) 0 128 (omega arith)
+
+pub all-played : (es : List Event) (t : List ℕ) → length t ≡ tableBytes → AllMove es → Readies (bookOf t) es → Played t es
 unfolding played play
-framed-played [] t long m r = (framed-self t, refl)
-framed-played (e ∷ es) t long m r =
+all-played [] t long m r = record { framed = framed-self t; heading = record { size = refl; byte = λ k l h. refl }; book = refl }
+all-played (e ∷ es) t long m r =
     let f = framed-applied t e long (m .0) (r .0) in
     let b = book-applied t e long (m .0) (r .0) in
-    let g = framed-played es (applied t e) (framed-long t (applied t e) long f) (m .1) (rw b (r .1)) in
-    (framed-then t (applied t e) (played (applied t e) es) long f (g .0), g .1 ∙ ap (λ (c : Book). play c es) b)
+    let g = all-played es (applied t e) (framed-long t (applied t e) long f) (m .1) (rw b (r .1)) in
+    record {
+      framed = framed-then t (applied t e) (played (applied t e) es) long f (g .framed);
+      heading = same-then (g .heading) (heading-applied t e (r .0 .inside .low));
+      book = g .book ∙ ap (λ (c : Book). play c es) b;
+    }
+
+-- events that fit the book all change amounts
+pub fits-move : (es : List Event) (b : Book) → Fits b es → AllMove es
+fits-move [] b f = tt
+fits-move (e ∷ es) b f = (f .0 .moving, fits-move es (after b e) (f .1))

@@ -49,13 +49,13 @@ book-changed t u (suc k) o e l h here there =
     let same : bookOf u ≡ set b k o =
     ext-getD none (bookOf u) (set b k o) (omega arith)
     (λ j i.
-      at-book u (suc j) (omega arith) (omega arith)
-      ∙ split (eqb j k)
-        (λ z. rw (eqb-true j k z) (here ∙ sym (getD-set-same b k o none (omega arith))))
-        (λ z.
-          let d = eqb-false j k z in
-          there (suc j) (omega arith) (omega arith) (λ x. d (omega arith))
-          ∙ sym (at-book t (suc j) (omega arith) (omega arith)) ∙ sym (getD-set-other b k j o none d))) in
+    at-book u (suc j) (omega arith) (omega arith)
+    ∙ split (eqb j k)
+    (λ z. rw (eqb-true j k z) (here ∙ sym (getD-set-same b k o none (omega arith))))
+    (λ z.
+    let d = eqb-false j k z in
+    there (suc j) (omega arith) (omega arith) (λ x. d (omega arith))
+    ∙ sym (at-book t (suc j) (omega arith) (omega arith)) ∙ sym (getD-set-other b k j o none d))) in
     same ∙ sym (put-set b k o (omega arith))
 
 -- one order added, all others as they were
@@ -69,14 +69,14 @@ book-added t u o e here there =
     let same : bookOf u ≡ b ++ o ∷ [] =
     ext-getD none (bookOf u) (b ++ o ∷ []) (omega arith)
     (λ j i.
-      at-book u (suc j) (omega arith) (omega arith)
-      ∙ split (eqb j (length b))
-        (λ z.
-          let d = eqb-true j (length b) z in
-          let f : suc j ≡ filled t + 1 = omega arith in
-          rw f (here ∙ sym (getD-at b o [] none j (sym d))))
-        (λ z.
-          let d = eqb-false j (length b) z in
-          let f : j < length b = omega arith in
-          there (suc j) (omega arith) (omega arith) ∙ sym (at-book t (suc j) (omega arith) (omega arith)) ∙ sym (List·getD-append b (o ∷ []) none j f))) in
+    at-book u (suc j) (omega arith) (omega arith)
+    ∙ split (eqb j (length b))
+    (λ z.
+    let d = eqb-true j (length b) z in
+    let f : suc j ≡ filled t + 1 = omega arith in
+    rw f (here ∙ sym (getD-at b o [] none j (sym d))))
+    (λ z.
+    let d = eqb-false j (length b) z in
+    let f : j < length b = omega arith in
+    there (suc j) (omega arith) (omega arith) ∙ sym (at-book t (suc j) (omega arith) (omega arith)) ∙ sym (List·getD-append b (o ∷ []) none j f))) in
     same ∙ sym (put-new b o)

@@ -107,9 +107,9 @@ module _ (t u : List ℕ) (long : length t ≡ tableBytes) (f : Framed t u) wher
         rest = framed-rest (m .rest);
         records = λ i l k. framed-record i l (omega arith) ∙ m .records i l (omega arith);
         ids = λ j k l i o.
-          let a = framed-id j l (omega arith) (m .records j l (omega arith)) in
-          let b = framed-id k (omega arith) (omega arith) (m .records k (omega arith) (omega arith)) in
-          rw (a, b) (m .ids j k l i (omega arith));
+            let a = framed-id j l (omega arith) (m .records j l (omega arith)) in
+            let b = framed-id k (omega arith) (omega arith) (m .records k (omega arith) (omega arith)) in
+            rw (a, b) (m .ids j k l i (omega arith));
         held = rw framed-listed h;
       }
 
@@ -141,14 +141,14 @@ framed-put t k a vs low high l h =
       names = put-below t p vs 0 28 (omega arith);
       lists = put-below t p vs 55 128 (omega arith);
       texts = λ i j m.
-        ⊎-elim (λ (x : k < i). put-above t p vs (128 * i) (128 * i + 44) (omega arith))
-        (λ (x : i ≤ k). put-below t p vs (128 * i) (128 * i + 44) (omega arith)) (below-or k i);
+          ⊎-elim (λ (x : k < i). put-above t p vs (128 * i) (128 * i + 44) (omega arith))
+          (λ (x : i ≤ k). put-below t p vs (128 * i) (128 * i + 44) (omega arith)) (below-or k i);
       kinds = λ i j m.
-        ⊎-elim (λ (x : k < i). put-above t p vs (128 * i + 46) (128 * i + 48) (omega arith))
-        (λ (x : i ≤ k). put-below t p vs (128 * i + 46) (128 * i + 48) (omega arith)) (below-or k i);
+          ⊎-elim (λ (x : k < i). put-above t p vs (128 * i + 46) (128 * i + 48) (omega arith))
+          (λ (x : i ≤ k). put-below t p vs (128 * i + 46) (128 * i + 48) (omega arith)) (below-or k i);
       spares = λ i j m.
-        ⊎-elim (λ (x : i < k). put-below t p vs (128 * i + 84) (128 * i + 128) (omega arith))
-        (λ (x : k ≤ i). put-above t p vs (128 * i + 84) (128 * i + 128) (omega arith)) (below-or i k);
+          ⊎-elim (λ (x : i < k). put-below t p vs (128 * i + 84) (128 * i + 128) (omega arith))
+          (λ (x : k ≤ i). put-above t p vs (128 * i + 84) (128 * i + 128) (omega arith)) (below-or i k);
       behind = put-above t p vs (128 * (filled t + 1)) (length t) (omega arith);
     }
 

@@ -9,4 +9,7 @@ pub mod Facts
 pub mod Listed
 pub mod Frames
 pub mod Applied
+pub mod Texts
+pub mod Working
+pub mod Kept
 pub mod Computed

@@ -1,0 +1,98 @@
+-- What is in work: the clause of a market about it, kept by stores elsewhere and made by putting an order in work or ending
+-- the work.
+use mathlib.Core.Path.{_≡_, refl, sym, ap, _∙_}
+use mathlib.Core.Bool.{Bool, true, false, cond, _&&_}
+use mathlib.Core.List.{List, [], _∷_, _++_}
+use Prim.Native.Nat.{ℕ, zero, suc, _+_, _-_, _≤_, _<_, min}
+use native.Mathlib.Omega.{arith}
+use lib.Dec.{eqb, leb, lit≤}
+use lib.ListN.{length, getD, drop, replicate, length-take, length-drop}
+use borrow.Author.Tests.{leb-true, le-leb, eqb-true, eqb-false, eq-eqb, ne-eqb}
+use Rattle.octets.specs.Octets.{put, partAt, textAt, textBytes, putText, allZero}
+use Rattle.octets.proofs.Bools.{split, both-i, both-l, both-r}
+use Rattle.octets.proofs.Places.{length-put, put-put}
+use Rattle.octets.proofs.Parts.{length-textBytes, text-put-first, text-put-padding, part-in}
+use Rattle.octets.proofs.Zeros.{zero-replicate}
+use Rattle.decimal.specs.Reading.{isTime, isTimeLength, timeShaped}
+use Rattle.table.specs.Places.{tableBytes}
+use Rattle.table.specs.Heading.{workOf, stampOf, putWork, endWork}
+use Rattle.table.specs.Orders.{filled}
+use Rattle.table.specs.Market.{isPadded, hasWork}
+use Rattle.table.proofs.Same.{Same, same-in, part-same, text-same, padded-same}
+use Rattle.table.proofs.Stores.{work-got, stamp-got}
+use Rattle.table.proofs.Texts.{padded-put}
+
+-- a time fits its room
+pub time-short : (s : List ℕ) → isTime s ≡ true → length s ≤ 21
+unfolding isTime timeShaped isTimeLength
+time-short s h = let e : length s ≡ 17 = eqb-true _ _ (search both-l depth 14) in omega arith
+
+-- so the length byte of a stored time is small
+stamp-byte : (t : List ℕ) → length t ≡ tableBytes → isTime (stampOf t) ≡ true → getD t 33 0 ≤ 21
+unfolding textAt partAt
+stamp-byte t long h =
+    let a = length-take (getD t 33 0) (drop 34 t) in
+    let b = length-drop 34 t in
+    let c = time-short (stampOf t) h in
+    omega arith
+
+module _ (t : List ℕ) where
+  pub work-low : hasWork t ≡ true → workOf t ≤ filled t
+  unfolding hasWork
+  work-low h = leb-true _ _ (search both-l)
+
+  pub work-none : hasWork t ≡ true → workOf t ≡ 0 → allZero (partAt t 33 22) ≡ true
+  unfolding hasWork
+  work-none h e = rw (eq-eqb (workOf t) 0 e) at (both-r (leb (workOf t) (filled t)) _ h)
+
+  pub work-some : hasWork t ≡ true → (workOf t ≡ 0 → ⊥) → (isTime (stampOf t) && isPadded 21 t 33) ≡ true
+  unfolding hasWork
+  work-some h e = rw (ne-eqb (workOf t) 0 e) at (both-r (leb (workOf t) (filled t)) _ h)
+
+  pub none-work : workOf t ≡ 0 → allZero (partAt t 33 22) ≡ true → hasWork t ≡ true
+  unfolding hasWork
+  none-work e z = both-i (le-leb (workOf t) (filled t) (omega arith)) (rw (eq-eqb (workOf t) 0 e) z)
+
+  pub some-work : (workOf t ≡ 0 → ⊥) → workOf t ≤ filled t → isTime (stampOf t) ≡ true → isPadded 21 t 33 ≡ true → hasWork t ≡ true
+  unfolding hasWork
+  some-work n l h p = both-i (le-leb _ _ l) (rw (ne-eqb (workOf t) 0 n) (both-i h p))
+
+-- kept where those bytes and the number of filled records are kept
+pub has-work-kept : (t u : List ℕ) → length t ≡ tableBytes → Same u t 32 55 → filled t ≤ filled u → hasWork t ≡ true → hasWork u ≡ true
+has-work-kept t u long s f h =
+    let e : workOf u ≡ workOf t = s .byte 32 (lit≤ tt) (lit≤ tt) in
+    split (eqb (workOf t) 0)
+    (λ z.
+    let n = eqb-true (workOf t) 0 z in
+    let p : partAt u 33 22 ≡ partAt t 33 22 = part-same 33 22 55 (same-in 33 55 s (lit≤ tt) (lit≤ tt)) (lit≤ tt) in
+    none-work u (e ∙ n) (rw p (work-none t h n)))
+    (λ z.
+    let n = eqb-false (workOf t) 0 z in
+    let q = work-some t h n in
+    let i : isTime (stampOf t) ≡ true = both-l (isTime (stampOf t)) (isPadded 21 t 33) q in
+    let x : stampOf u ≡ stampOf t = text-same 33 21 55 (same-in 33 55 s (lit≤ tt) (lit≤ tt)) (lit≤ tt) (stamp-byte t long i) in
+    let y : isPadded 21 u 33 ≡ isPadded 21 t 33 = padded-same 33 21 55 (same-in 33 55 s (lit≤ tt) (lit≤ tt)) (lit≤ tt) in
+    some-work u (λ d. n (sym e ∙ d)) (omega (arith, work-low t h)) (rw x i) (y ∙ both-r (isTime (stampOf t)) (isPadded 21 t 33) q))
+
+-- made by putting a filled record in work, with a time
+pub has-work-put : (t : List ℕ) (w : ℕ) (stamp : List ℕ) → length t ≡ tableBytes → 1 ≤ w → w ≤ filled (putWork t w stamp) → isTime stamp ≡ true
+    → hasWork (putWork t w stamp) ≡ true
+has-work-put t w stamp long low high i =
+    let short = time-short stamp i in
+    let e = work-got t w stamp (omega arith) short in
+    let x = stamp-got t w stamp (omega arith) short in
+    some-work (putWork t w stamp) (λ d. omega arith) (omega arith) (rw x i) (padded short)
+  where
+    padded : length stamp ≤ 21 → isPadded 21 (putWork t w stamp) 33 ≡ true
+    padded short =
+        let a = length-put t 32 (w ∷ []) in
+        let e : putWork t w stamp ≡ putText 21 (put t 32 (w ∷ [])) 33 stamp = sym (put-put t 32 (w ∷ []) (textBytes 21 stamp)) in
+        rw e (padded-put 21 (put t 32 (w ∷ [])) 33 stamp (omega arith) short)
+
+-- made by ending the work
+pub has-work-end : (t : List ℕ) → length t ≡ tableBytes → hasWork (endWork t) ≡ true
+unfolding textBytes partAt
+has-work-end t long =
+    let e = work-got t 0 [] (omega arith) (lit≤ tt) in
+    let p : partAt (endWork t) 33 22 ≡ partAt (0 ∷ textBytes 21 []) 1 22 = part-in t 32 (0 ∷ textBytes 21 []) 1 22 (lit≤ tt) (omega arith) in
+    none-work (endWork t) e (rw p (zero-replicate 22))
