@@ -1,5 +1,5 @@
 -- Whether a label stands at a place: from its last byte to the first; and that it stands where it was written.
-use Prim.Native.Nat.{ℕ, zero, suc, _+_, _-_, _/_, _%_, _^_, _≤_, _<_}
+use Prim.Native.Nat.{ℕ, zero, suc, _+_, _-_, _/_, _%_, _^_, _≤_, _<_, zero-le}
 use mathlib.Core.Path.{_≡_, refl, sym, ap, _∙_}
 use mathlib.Core.Bool.{Bool, true, false, cond, _&&_, and-false, false≢true}
 use mathlib.Core.List.{List, [], _∷_, _++_}
@@ -16,6 +16,16 @@ use Rattle.decimal.specs.Writing.{decimal, places}
 use Rattle.decimal.proofs.Digits.{decimal-is, length-places}
 use Rattle.report.specs.Fields.{label}
 use Rattle.report.specs.Parse.{starts}
+
+pub starts-length : (p s : List ℕ) → starts p s ≡ true → length p ≤ length s
+starts-length [] s e = zero-le
+starts-length (a ∷ p) [] e = absurd (false≢true e)
+starts-length (a ∷ p) (b ∷ s) e =
+    split (eqb b a) (λ t. let z : starts p s ≡ true = rw t at e in omega (arith, starts-length p s z)) (λ t. let z : false ≡ true = rw t at e in absurd (false≢true z))
+
+pub label-length : (tag : ℕ) → length (label tag) ≡ length (decimal tag) + 1
+unfolding label
+label-length tag = length-append (decimal tag) (61 ∷ [])
 
 -- too few bytes
 pub starts-long : (p s : List ℕ) → length s < length p → starts p s ≡ false

@@ -13,6 +13,7 @@ use mir.Val.{Fits}
 use borrow.Author.Tests.{lt-ltb, le-ltb, ltb-true}
 use Rattle.octets.proofs.Bools.{split}
 use Rattle.decimal.specs.Writing.{decimal}
+use Rattle.report.proofs.Labels.{starts-length, label-length}
 use Rattle.report.specs.declared.Value.{Value}
 use Rattle.report.specs.declared.Value.the-variants.{Absent}
 use Rattle.report.specs.declared.Field.{Field}
@@ -47,16 +48,6 @@ module _ (s : List ℕ) (v : ℕ) (shape : Shape) (e : ℕ) (k : e ≡ v + lenTo
     value-no i = sym (ap (λ w. gotOf w (e + 1)) i) ∙ value-is
 
 -- ---- fields
-pub starts-length : (p s : List ℕ) → starts p s ≡ true → length p ≤ length s
-starts-length [] s e = zero-le
-starts-length (a ∷ p) [] e = absurd (false≢true e)
-starts-length (a ∷ p) (b ∷ s) e =
-    split (eqb b a) (λ t. let z : starts p s ≡ true = rw t at e in omega (arith, starts-length p s z)) (λ t. let z : false ≡ true = rw t at e in absurd (false≢true z))
-
-pub label-length : (tag : ℕ) → length (label tag) ≡ length (decimal tag) + 1
-unfolding label
-label-length tag = length-append (decimal tag) (61 ∷ [])
-
 module _ (s : List ℕ) (at : ℕ) (slot : Slot) (k : ℕ) (e : k ≡ length (decimal (slot .tag))) (h : at ≤ length s) (t : Bool) (st : t ≡ starts (label (slot .tag)) (drop at s)) where
   pub label-within : t ≡ true → at + k + 1 ≤ length s
   label-within y = omega (arith, starts-length (label (slot .tag)) (drop at s) (sym st ∙ y), label-length (slot .tag), length-drop at s)

@@ -9,8 +9,9 @@ use lib.Dec.{ltb, leb, eqb}
 use lib.ListN.{length, take, drop, getD, length-drop, drop-of-length-le}
 use lib.Seq.{drop-cons, drop-drop}
 use native.Mathlib.Nat.{not-suc-le-zero}
-use Rattle.octets.proofs.Bools.{split}
+use Rattle.octets.proofs.Bools.{split, both-r}
 use borrow.Author.Tests.{eq-eqb, ne-eqb, lt-ltb, le-ltb}
+use Rattle.report.proofs.Labels.{starts-length}
 use Rattle.report.specs.Shapes.{allFrom}
 use Rattle.report.specs.Parse.{starts, lenTo, hop, placeOf}
 
@@ -126,3 +127,12 @@ module _ (lab s : List ℕ) (at : ℕ) (inv : Sought lab s at) where
 
 pub sought-less : (s : List ℕ) (at next : ℕ) → at < length s → next ≡ at + hop (drop at s) → length s - next < length s - at
 sought-less s at next h q = omega (arith, hop-some (drop at s) (omega (arith, length-drop at s)))
+
+-- a label that is found stands within the bytes
+pub place-within : (lab s : List ℕ) (f : Bool) → placeOf lab f s < length s → placeOf lab f s + length lab ≤ length s
+unfolding placeOf
+place-within lab [] f h = absurd (not-suc-le-zero h)
+place-within lab (b ∷ s) f h =
+    split (f && starts lab (b ∷ s))
+    (λ e. rw e (omega (arith, starts-length lab (b ∷ s) (both-r f (starts lab (b ∷ s)) e))))
+    (λ e. rw e (let z : suc (placeOf lab (eqb b 1) s) < suc (length s) = rw e at h in let ih = place-within lab s (eqb b 1) (omega arith) in omega arith))

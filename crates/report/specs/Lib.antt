@@ -5,3 +5,5 @@ pub mod Frame
 pub mod Rows
 pub mod Shapes
 pub mod Parse
+pub mod Slots
+pub mod Reports

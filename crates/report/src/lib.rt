@@ -1,6 +1,8 @@
 // Reports: rows of fields, their bytes, and reading them back.
 pub mod rows;
 pub mod parse;
+pub mod read;
+pub mod slots;
 pub mod values;
 pub mod write;
 
@@ -97,4 +99,34 @@ pub struct Row {
     pub ok: bool,
     pub next: usize,
     pub fields: [Field; 36],
+}
+
+// The kinds of reports, and what is none.
+pub enum Kind {
+    Accepted,
+    Replaced,
+    Canceled,
+    Trade,
+    Rejected,
+    CancelReject,
+    SessionReject,
+    Refused,
+}
+
+// A report that was read: its kind and its fields, in the order of its kind's slots.
+pub struct Reading {
+    pub kind: Kind,
+    pub fields: [Field; 36],
+}
+
+// Where the body of a report stands.
+pub enum Frame {
+    Body { from: usize, len: usize },
+    Not,
+}
+
+// Where the value of a field stands in a report.
+pub enum Part {
+    At { start: usize, len: usize },
+    Nowhere,
 }

@@ -40,7 +40,7 @@ fn label_at(s: &[u8], at: usize, tag: u64, k: usize) -> bool
 }
 
 // Where the value that begins at a place ends: at the next SOH, or at the end.
-fn value_end(s: &[u8], from: usize) -> usize
+pub fn value_end(s: &[u8], from: usize) -> usize
     requires { ⌜ from ≤ length (now s) ⌝ }
     ensures { λ r. ⌜ r ≡ from + lenTo (drop from (now (s .entry))) ⌝ }
 {

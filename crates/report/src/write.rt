@@ -56,7 +56,7 @@ pub fn put_label(out: &mut [u8], at: usize, tag: u64) -> usize
 }
 
 // Whether a field is not written.
-fn is_absent(value: Value) -> bool
+pub fn is_absent(value: Value) -> bool
     ensures { λ r. ⌜ r ≡ isAbsent value ⌝ }
 {
     match value {

@@ -11,12 +11,12 @@ use Rattle.matching.specs.declared.Order.{Order}
 use Rattle.matching.specs.Matching.{openOf, meets, opposed, opposedTo, countOf, sumOver}
 use Rattle.table.specs.Heading.{entries, entryOf, isListed, modeOf, mpidBytes, putWork, putNext}
 use Rattle.table.specs.Orders.{orderAt, filled, ordersFrom, bookOf, termBytes, amountBytes, fieldBytes, recordOf, accepted}
-use Rattle.table.specs.Market.{every, isPadded, isText, hasLength, hasNames, isEntry, hasList, hasSettings, hasNext, hasWork, hasSpare, restZero, isRecord, isRanged, isKnown, isWithin, isShut, isPriced, isOrder, hasOrders, isFreshId, hasIds, isFreshPlace, hasPlaces, isDone, noIoc, isClear, noCross, hasNumbers, isBook, isMarket}
+use Rattle.table.specs.Market.{every, isPadded, isText, hasLength, hasNames, isEntry, hasList, hasSettings, hasNext, hasWork, hasSpare, restZero, isCapacity, isClass, isRecord, isRanged, isKnown, isWithin, isShut, isPriced, isOrder, hasOrders, isFreshId, hasIds, isFreshPlace, hasPlaces, isDone, noIoc, isClear, noCross, hasNumbers, isBook, isMarket}
 use Rattle.table.specs.Opened.{freshTable}
 
 -- opens all definitions
 computes : ℕ
-unfolding leAt bytesOf put partAt textAt textBytes sameBytes allZero allUpTo firstFrom isDigit digitOf isTime isTimeLength timeShaped timeRanged twoAt openOf meets opposed opposedTo countOf sumOver entries entryOf isListed modeOf mpidBytes orderAt filled ordersFrom bookOf termBytes amountBytes fieldBytes recordOf accepted every isPadded isText hasLength hasNames isEntry hasList hasSettings hasNext hasWork hasSpare restZero isRecord isRanged isKnown isWithin isShut isPriced isOrder hasOrders isFreshId hasIds isFreshPlace hasPlaces isDone noIoc isClear noCross hasNumbers isBook isMarket freshTable
+unfolding leAt bytesOf put partAt textAt textBytes sameBytes allZero allUpTo firstFrom isDigit digitOf isTime isTimeLength timeShaped timeRanged twoAt openOf meets opposed opposedTo countOf sumOver entries entryOf isListed modeOf mpidBytes orderAt filled ordersFrom bookOf termBytes amountBytes fieldBytes recordOf accepted every isPadded isText hasLength hasNames isEntry hasList hasSettings hasNext hasWork hasSpare restZero isCapacity isClass isRecord isRanged isKnown isWithin isShut isPriced isOrder hasOrders isFreshId hasIds isFreshPlace hasPlaces isDone noIoc isClear noCross hasNumbers isBook isMarket freshTable
 computes = 0
 
 abbrev order : ℕ → ℕ → ℕ → ℕ → ℕ → Order

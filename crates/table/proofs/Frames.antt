@@ -31,6 +31,33 @@ pub record Framed (t u : List ℕ) : Type 0 where
   pub spares : (i : ℕ) → 1 ≤ i → i ≤ filled t → Same u t (recordAt i + 84) (recordAt i + 128)
   pub behind : Same u t (recordAt (filled t + 1)) (length t)
 
+-- all that a market asks of its bytes apart from its numbers: what a frame keeps
+pub record Formed (t : List ℕ) : Type 0 where
+  pub long : length t ≡ tableBytes
+  pub settings : hasSettings t ≡ true
+  pub spare : hasSpare t ≡ true
+  pub rest : restZero t ≡ true
+  pub records : (i : ℕ) → 1 ≤ i → i ≤ filled t → isRecord t i ≡ true
+  pub ids : (j k : ℕ) → 1 ≤ j → j < k → k ≤ filled t → sameBytes (clOrdIdAt t j) (clOrdIdAt t k) ≡ false
+
+pub market-formed : (t : List ℕ) → Market t → Formed t
+market-formed t m =
+    record { long = m .long; settings = m .settings; spare = m .spare; rest = m .rest; records = m .records; ids = m .ids }
+
+pub formed-market : (t : List ℕ) → Formed t → hasWork t ≡ true → 1 ≤ nextOf t → Held (isListed t) (nextOf t) (bookOf t) (workOf t) → Market t
+formed-market t f w n h =
+    record {
+      long = f .long;
+      settings = f .settings;
+      next-low = n;
+      work = w;
+      spare = f .spare;
+      rest = f .rest;
+      records = f .records;
+      ids = f .ids;
+      held = h;
+    }
+
 -- ---- filled records
 
 -- a filled record's first byte is not 0; the first byte behind the last one is
@@ -94,15 +121,13 @@ module _ (t u : List ℕ) (long : length t ≡ tableBytes) (f : Framed t u) wher
   pub framed-id : (i : ℕ) → 1 ≤ i → i ≤ filled t → isRecord t i ≡ true → clOrdIdAt u i ≡ clOrdIdAt t i
   framed-id i l h r = id-same i (same-in (128 * i) (128 * i + 33) (f .texts i l h) (omega arith) (omega arith)) (id-short t i r)
 
-  -- what is left to show of a market is what the frame leaves open
-  pub framed-market : Market t → hasWork u ≡ true → 1 ≤ nextOf u → Held (isListed t) (nextOf u) (bookOf u) (workOf u) → Market u
-  framed-market m w n h =
+  -- so a formed table's frame is formed
+  pub framed-formed : Formed t → Formed u
+  framed-formed m =
       let e = framed-filled in
       record {
         long = framed-long;
         settings = framed-settings ∙ m .settings;
-        next-low = n;
-        work = w;
         spare = framed-spare ∙ m .spare;
         rest = framed-rest (m .rest);
         records = λ i l k. framed-record i l (omega arith) ∙ m .records i l (omega arith);
@@ -110,7 +135,6 @@ module _ (t u : List ℕ) (long : length t ≡ tableBytes) (f : Framed t u) wher
             let a = framed-id j l (omega arith) (m .records j l (omega arith)) in
             let b = framed-id k (omega arith) (omega arith) (m .records k (omega arith) (omega arith)) in
             rw (a, b) (m .ids j k l i (omega arith));
-        held = rw framed-listed h;
       }
 
 -- ---- frames one after another, and those of the stores

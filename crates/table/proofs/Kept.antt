@@ -1,5 +1,5 @@
--- A market stays a market: one step of the order in work, a report about no order, a requested cancel and a replacement each
--- leave a market, with the numbers that they use.
+-- A market stays a market: one step of the order in work, a report about no order, a requested cancel, a replacement and a
+-- new order each leave a market, with the numbers that they use.
 use mathlib.Core.Path.{_≡_, refl, sym, ap, _∙_, subst}
 use mathlib.Core.Bool.{Bool, true, false, cond}
 use mathlib.Core.List.{List, [], _∷_}
@@ -7,30 +7,37 @@ use Prim.Native.Nat.{ℕ, zero, suc, _+_, _*_, _^_, _≤_, _<_}
 use native.Mathlib.Omega.{arith}
 use lib.Dec.{eqb, lit≤}
 use lib.ListN.{length, getD}
-use borrow.Author.Tests.{eqb-true, eqb-false}
+use borrow.Author.Tests.{eqb-true, eqb-false, leb-true, ltb-true}
 use Rattle.octets.specs.Octets.{put, bytesOf, textBytes}
-use Rattle.octets.proofs.Bools.{split}
+use Rattle.octets.specs.Tests.{allUpTo}
+use Rattle.octets.proofs.Bools.{split, both-l, both-r, or-r}
+use Rattle.octets.proofs.Ranges.{all-at}
 use Rattle.octets.proofs.Places.{length-put, length-bytesOf}
 use Rattle.octets.proofs.Parts.{length-textBytes}
+use Rattle.decimal.specs.Reading.{isTime}
 use Rattle.matching.specs.declared.Order.{Order}
 use Rattle.matching.specs.declared.Event.{Event}
-use Rattle.matching.specs.Matching.{Book, at, openOf, who, change, after, play, partner, happens, bookAfter, workAfter}
-use Rattle.matching.specs.Held.{Sound, In, Held, Ready, Readies}
+use Rattle.matching.specs.declared.Event.the-variants.{Accepted, Replaced, Withdrawn}
+use Rattle.matching.specs.Matching.{Book, at, put as putOrder, openOf, who, change, after, play, partner, happens, bookAfter, workAfter}
+use Rattle.matching.specs.Held.{Sound, In, Held, Ready, Readies, Enters, Renews}
 use Rattle.matching.specs.Happens.{moves, Fits}
 use Rattle.matching.proofs.Steps.{happens-fits}
 use Rattle.matching.proofs.Holding.{step-ready, step-held}
-use Rattle.matching.proofs.Requests.{later-held}
+use Rattle.matching.proofs.Requests.{later-held, accepted-held, replaced-held, withdrawn-fits, withdrawn-held}
 use Rattle.table.specs.Places.{tableBytes}
-use Rattle.table.specs.Heading.{nextOf, workOf, modeOf, isListed, putNext, putWork, endWork}
-use Rattle.table.specs.Orders.{orderAt, filled, bookOf}
-use Rattle.table.specs.Market.{hasWork}
-use Rattle.table.specs.Facts.{Market}
-use Rattle.table.specs.Changes.{played, stepEvents, numbered, stepped}
-use Rattle.table.proofs.Same.{Same, same-in, put-below, put-above, next-same, work-same}
-use Rattle.table.proofs.Stores.{next-got, work-got}
-use Rattle.table.proofs.Books.{length-book}
-use Rattle.table.proofs.Frames.{Framed, framed-long, framed-filled, framed-market, framed-then, framed-heading}
-use Rattle.table.proofs.Applied.{AllMove, Played, all-played, fits-move, book-next, book-work}
+use Rattle.table.specs.Heading.{nextOf, workOf, mpidAt, entries, entryOf, modeOf, isListed, putNext, putWork, endWork}
+use Rattle.table.specs.Orders.{orderAt, filled, bookOf, termBytes, putId, putTerms, putAmounts, applied, withdrawn, replaced, accepted}
+use Rattle.table.specs.Market.{every, isPrintable, isEntry, hasList, hasSettings, hasWork, isCapacity, isClass}
+use Rattle.table.specs.Facts.{Market, Named}
+use Rattle.table.specs.Changes.{played, stepEvents, numbered, stepped, entered, renewed, taken}
+use Rattle.table.proofs.Searches.{first-holds}
+use Rattle.table.proofs.Same.{Same, same-in, same-then, put-below, put-above, next-same, work-same}
+use Rattle.table.proofs.Stores.{Terms, Sized, next-got, work-got}
+use Rattle.table.proofs.Books.{length-book, at-book}
+use Rattle.table.proofs.Frames.{Framed, framed-long, framed-filled, framed-listed, framed-self, framed-then, framed-heading, Formed, market-formed, formed-market, framed-formed}
+use Rattle.table.proofs.Applied.{Played, all-played, fits-move, heading-applied, framed-applied, book-applied, framed-terms, book-terms, book-next, book-work, sound-amounts}
+use Rattle.table.proofs.Naming.{named-formed, named-heading, named-book, named-order, named-filled, named-listed}
+use Rattle.table.proofs.Entering.{entered-formed, entered-heading, entered-filled, entered-book, entered-listed}
 use Rattle.table.proofs.Working.{work-low, has-work-kept, has-work-put, has-work-end, time-short}
 
 -- ---- the next number
@@ -41,8 +48,8 @@ framed-next t n = framed-heading t 28 (bytesOf 4 n) (lit≤ tt) (omega (arith, l
 work-next : (t : List ℕ) (n : ℕ) → Same (putNext t n) t 32 55
 work-next t n = put-above t 28 (bytesOf 4 n) 32 55 (omega (arith, length-bytesOf 4 n))
 
--- a table with a market's frame, numbers and work in order and its book held, once more with another next number
-module _ (t u : List ℕ) (m : Market t) (f : Framed t u) (w : hasWork u ≡ true) (n : ℕ) (low : 1 ≤ n)
+-- a table with the frame of a formed one, its work in order and its book held, once its next number is set
+module _ (t u : List ℕ) (m : Formed t) (f : Framed t u) (w : hasWork u ≡ true) (n : ℕ) (low : 1 ≤ n)
     (h : Held (isListed t) n (bookOf u) (workOf u)) where
   long : length u ≡ tableBytes
   long = framed-long t u (m .long) f
@@ -55,16 +62,17 @@ module _ (t u : List ℕ) (m : Market t) (f : Framed t u) (w : hasWork u ≡ tru
       let x : workOf v ≡ workOf u = work-same (same-in 32 33 (work-next u n) (lit≤ tt) (lit≤ tt)) in
       let b : bookOf v ≡ bookOf u = book-next u n z in
       let g : filled v ≡ filled u = framed-filled u v z (framed-next u n) in
-      framed-market t v (m .long) (framed-then t u v (m .long) f (framed-next u n)) m
-      (has-work-kept u v z (work-next u n) (omega arith) w) (omega arith) (rw (e, x, b) h)
+      let k : Framed t v = framed-then t u v (m .long) f (framed-next u n) in
+      formed-market v (framed-formed t v (m .long) k m) (has-work-kept u v z (work-next u n) (omega arith) w) (omega arith)
+      (rw (e, x, b, framed-listed t v (m .long) k) h)
 
 -- ---- the work ends
 
 framed-work : (t : List ℕ) (w : ℕ) (stamp : List ℕ) → length stamp ≤ 21 → Framed t (putWork t w stamp)
 framed-work t w stamp h = framed-heading t 32 (w ∷ textBytes 21 stamp) (lit≤ tt) (omega (arith, length-textBytes 21 stamp h))
 
--- the same table with another next number, and with another order in work or none
-module _ (t u : List ℕ) (m : Market t) (f : Framed t u) (n : ℕ) (low : 1 ≤ n) (w : ℕ) (stamp : List ℕ) (short : length stamp ≤ 21)
+-- the same, and with another order in work or none
+module _ (t u : List ℕ) (m : Formed t) (f : Framed t u) (n : ℕ) (low : 1 ≤ n) (w : ℕ) (stamp : List ℕ) (short : length stamp ≤ 21)
     (h : Held (isListed t) n (bookOf u) w) where
   numbered-long : length (putNext u n) ≡ tableBytes
   numbered-long = framed-long t (putNext u n) (m .long) (framed-then t u (putNext u n) (m .long) f (framed-next u n))
@@ -79,8 +87,8 @@ module _ (t u : List ℕ) (m : Market t) (f : Framed t u) (n : ℕ) (low : 1 ≤
       let e : nextOf v ≡ n = next-same s ∙ next-got u n (omega (arith, h .next-high)) (omega arith) in
       let d : workOf v ≡ w = work-got x w stamp (omega arith) short in
       let b : bookOf v ≡ bookOf u = book-work x w stamp y short ∙ book-next u n z in
-      framed-market t v (m .long) (framed-then t x v (m .long) (framed-then t u x (m .long) f (framed-next u n)) (framed-work x w stamp short)) m
-      work (omega arith) (rw (e, d, b) h)
+      let k : Framed t v = framed-then t x v (m .long) (framed-then t u x (m .long) f (framed-next u n)) (framed-work x w stamp short) in
+      formed-market v (framed-formed t v (m .long) k m) work (omega arith) (rw (e, d, b, framed-listed t v (m .long) k) h)
 
 -- ---- one step
 
@@ -109,12 +117,159 @@ stepped-kept t m l =
     let n : ℕ = nextOf t + length es in
     let low : 1 ≤ n = omega (arith, m .next-low) in
     let h : Held (isListed t) n (bookOf u) (workAfter b w) = rw c (step-held (isListed t) (modeOf t) (nextOf t) b w i (m .held)) in
-    let z : length (putNext u n) ≡ tableBytes = numbered-long t u m (p .framed) n low (workAfter b w) [] (lit≤ tt) h in
+    let z : length (putNext u n) ≡ tableBytes = numbered-long t u (market-formed t m) (p .framed) n low (workAfter b w) [] (lit≤ tt) h in
     split (eqb (workAfter b w) 0)
     (λ x.
     let q : workAfter b w ≡ 0 = eqb-true (workAfter b w) 0 x in
-    rw (x, e) (reworked t u m (p .framed) n low 0 [] (lit≤ tt) (subst (λ (v : ℕ). Held (isListed t) n (bookOf u) v) q h) (has-work-end (putNext u n) z)))
+    rw (x, e) (reworked t u (market-formed t m) (p .framed) n low 0 [] (lit≤ tt) (subst (λ (v : ℕ). Held (isListed t) n (bookOf u) v) q h) (has-work-end (putNext u n) z)))
     (λ x.
     let q : workAfter b w ≡ w = work-stays b w (eqb-false (workAfter b w) 0 x) in
     let g : hasWork u ≡ true = has-work-kept t u (m .long) (same-in 32 55 (p .heading) (lit≤ tt) (lit≤ tt)) (omega (arith, framed-filled t u (m .long) (p .framed))) (m .work) in
-    rw (x, e) (renumbered t u m (p .framed) g n low (subst (λ (v : ℕ). Held (isListed t) n (bookOf u) v) (q ∙ sym d) h)))
+    rw (x, e) (renumbered t u (market-formed t m) (p .framed) g n low (subst (λ (v : ℕ). Held (isListed t) n (bookOf u) v) (q ∙ sym d) h)))
+
+-- ---- a report about no order
+
+pub numbered-kept : (t : List ℕ) (n : ℕ) → Market t → workOf t ≡ 0 → nextOf t + n ≤ 1000000000 → Market (numbered t n)
+unfolding numbered
+numbered-kept t n m e h =
+    let held : Held (isListed t) (nextOf t) (bookOf t) 0 = rw e at (m .held) in
+    let later : Held (isListed t) (nextOf t + n) (bookOf t) (workOf t) =
+    rw e (later-held (isListed t) (nextOf t) (nextOf t + n) (bookOf t) held (omega arith) h) in
+    renumbered t t (market-formed t m) (framed-self t) (m .work) (nextOf t + n) (omega (arith, m .next-low)) later
+
+-- ---- a requested cancel
+
+module _ (t : List ℕ) (k : ℕ) (clOrdId : List ℕ) (m : Market t) (e : workOf t ≡ 0) (i : In (bookOf t) k) (g : Named t clOrdId) where
+  high : k ≤ filled t
+  high = omega (arith, i .high, length-book t)
+
+  formed : Formed (putId t k clOrdId)
+  formed = named-formed t k clOrdId (market-formed t m) (i .low) high g
+
+  heading : Same (putId t k clOrdId) t 0 128
+  heading = named-heading t k clOrdId (market-formed t m) (i .low) high g
+
+  book : bookOf (putId t k clOrdId) ≡ bookOf t
+  book = named-book t k clOrdId (market-formed t m) (i .low) high g
+
+  order : orderAt (putId t k clOrdId) k ≡ orderAt t k
+  order = named-order t k clOrdId (market-formed t m) (i .low) high g k
+
+  there : at (bookOf t) k ≡ orderAt t k
+  there = at-book t k (i .low) high
+
+  filled-there : filled (putId t k clOrdId) ≡ filled t
+  filled-there = named-filled t k clOrdId (market-formed t m) (i .low) high g
+
+  held : Held (isListed t) (nextOf t) (bookOf t) 0
+  held = rw e at (m .held)
+
+  -- what a market asks of the work, while nothing is in work
+  idle : (u : List ℕ) → Same u (putId t k clOrdId) 0 128 → filled u ≡ filled t → hasWork u ≡ true
+  idle u s z = has-work-kept t u (m .long) (same-in 32 55 (same-then s heading) (lit≤ tt) (lit≤ tt)) (omega arith) (m .work)
+
+  pub taken-kept : nextOf t ≤ 999998976 → Market (taken t clOrdId (Withdrawn k (openOf (at (bookOf t) k))))
+  unfolding taken withdrawn numbered applied
+  taken-kept low =
+      let v : Event = Withdrawn k (openOf (at (bookOf t) k)) in
+      let t1 : List ℕ = putId t k clOrdId in
+      let fit = withdrawn-fits (isListed t) (nextOf t) (bookOf t) k held i low in
+      let r : Ready (bookOf t1) v =
+      rw book (record { inside = i; sound = held .sound k i; may = record { enough = fit .enough; priced = lit≤ tt } }) in
+      let u : List ℕ = applied t1 v in
+      let f = framed-applied t1 v (formed .long) refl r in
+      let s = heading-applied t1 v (i .low) in
+      let b : bookOf u ≡ after (bookOf t) v = book-applied t1 v (formed .long) refl r ∙ ap (λ (c : Book). after c v) book in
+      let n : nextOf u ≡ nextOf t = next-same (same-in 28 32 (same-then s heading) (lit≤ tt) (lit≤ tt)) in
+      let w : workOf u ≡ 0 = work-same (same-in 32 33 (same-then s heading) (lit≤ tt) (lit≤ tt)) ∙ e in
+      let z : filled u ≡ filled t = framed-filled t1 u (formed .long) f ∙ filled-there in
+      let h : Held (isListed t1) (nextOf t + 1) (bookOf u) (workOf u) =
+      rw (b, w, named-listed t k clOrdId (market-formed t m) (i .low) high g) (withdrawn-held (isListed t) (nextOf t) (bookOf t) k held i low) in
+      let x : putAmounts t1 k (change v (orderAt t k)) ≡ u = rw order in
+      rw (x, n) (renumbered t1 u formed f (idle u s z) (nextOf t + 1) (omega arith) h)
+
+  -- ---- a replacement
+
+  pub renewed-kept : (l q p : ℕ) (stamp : List ℕ) → Renews (nextOf t) (bookOf t) k l q p → isTime stamp ≡ true
+      → Market (renewed t clOrdId (Replaced k l q p) stamp)
+  unfolding renewed replaced numbered change after
+  renewed-kept l q p stamp a time =
+      let v : Event = Replaced k l q p in
+      let t1 : List ℕ = putId t k clOrdId in
+      let c : Order = change v (orderAt t k) in
+      let u : List ℕ = putTerms t1 k c in
+      let long = formed .long in
+      let widths : Terms c =
+      record { level = omega (arith, a .level-high); qty = omega (arith, a .qty-high); place = omega (arith, a .newest, a .numbered) } in
+      let inside : k ≤ filled t1 = omega (arith, filled-there, high) in
+      let f = framed-terms t1 k c long (i .low) inside in
+      let s : Same u t1 0 128 = put-below t1 (128 * k + 48) (termBytes c) 0 128 (omega (arith, i .low)) in
+      let o : orderAt t1 k ≡ at (bookOf t) k = order ∙ sym there in
+      let b : bookOf u ≡ after (bookOf t) v = book-terms t1 k c long (i .low) inside widths ∙ rw (book, o) in
+      let n : nextOf u ≡ nextOf t = next-same (same-in 28 32 (same-then s heading) (lit≤ tt) (lit≤ tt)) in
+      let h : Held (isListed t1) (nextOf t + 1) (bookOf u) k =
+      rw (b, named-listed t k clOrdId (market-formed t m) (i .low) high g) (replaced-held (isListed t) (nextOf t) (bookOf t) k l q p held a) in
+      let x : List ℕ = putNext u (nextOf t + 1) in
+      let short = time-short stamp time in
+      let longer = numbered-long t1 u formed f (nextOf t + 1) (omega arith) k stamp short h in
+      let same : filled (putWork x k stamp) ≡ filled t =
+      framed-filled x (putWork x k stamp) longer (framed-work x k stamp short)
+      ∙ framed-filled u x (framed-long t1 u long f) (framed-next u (nextOf t + 1))
+      ∙ framed-filled t1 u long f ∙ filled-there in
+      rw n (reworked t1 u formed f (nextOf t + 1) (omega arith) k stamp short h (has-work-put x k stamp longer (i .low) (omega (arith, high)) time))
+
+-- ---- a new order
+
+-- a listed MPID is at most 999,999
+pub listed-small : (t : List ℕ) (m : ℕ) → hasSettings t ≡ true → isListed t m ≡ true → m ≤ 999999
+unfolding hasSettings hasList isListed entryOf isEntry
+listed-small t m h l =
+    let k : ℕ = entryOf t m in
+    let x : k < entries t = ltb-true _ _ l in
+    let e : eqb (mpidAt t k) m ≡ true = first-holds (λ j. eqb (mpidAt t j) m) 0 (entries t) (omega arith) in
+    let a : allUpTo (isEntry t) (entries t) ≡ true = search (both-l, both-r) in
+    let r : isEntry t k ≡ true = all-at (isEntry t) (entries t) a k x in
+    let s : mpidAt t k ≤ 999999 = leb-true _ _ (search both-l) in
+    omega (arith, eqb-true (mpidAt t k) m e)
+
+-- so an order that may enter is of its widths
+enters-sized : (t : List ℕ) (n : ℕ) (o : Order) → Market t → Enters (isListed t) (nextOf t) (bookOf t) n o → Sized o
+enters-sized t n o m a =
+    let s = a .sound in
+    record {
+      terms = record { level = omega (arith, s .level-high); qty = omega (arith, s .qty-high); place = omega (arith, a .newest, a .numbered) };
+      amounts = sound-amounts o s;
+      mpid =
+          split (eqb (o .mpid) 0)
+          (λ z. omega (arith, eqb-true (o .mpid) 0 z))
+          (λ z. omega (arith, listed-small t (o .mpid) (m .settings) (or-r (eqb (o .mpid) 0) (isListed t (o .mpid)) (a .owned) z)));
+    }
+
+pub entered-kept : (t clOrdId account : List ℕ) (capacity class : ℕ) (o : Order) (stamp : List ℕ) → Market t → workOf t ≡ 0 → Named t clOrdId
+    → length account ≤ 10 → every isPrintable account ≡ true → isCapacity capacity ≡ true → isClass class ≡ true
+    → Enters (isListed t) (nextOf t) (bookOf t) (filled t + 1) o → isTime stamp ≡ true → Market (entered t clOrdId account capacity class o stamp)
+unfolding entered numbered after change
+entered-kept t clOrdId account capacity class o stamp m e g few printable cap cls a time =
+    let f0 = market-formed t m in
+    let size = length-book t in
+    let free : filled t < 255 = omega (arith, a .free) in
+    let k : ℕ = filled t + 1 in
+    let u : List ℕ = accepted t k clOrdId account capacity class o in
+    let formed : Formed u = entered-formed t clOrdId account capacity class o f0 free g few printable cap cls in
+    let s : Same u t 0 128 = entered-heading t clOrdId account capacity class o f0 free g few printable cap cls in
+    let n : nextOf u ≡ nextOf t = next-same (same-in 28 32 s (lit≤ tt) (lit≤ tt)) in
+    let q : suc (length (bookOf t)) ≡ k = omega arith in
+    let b : bookOf u ≡ after (bookOf t) (Accepted k o) =
+    entered-book t clOrdId account capacity class o f0 free g few printable cap cls (enters-sized t k o m a)
+    ∙ ap (λ (j : ℕ). putOrder (bookOf t) j o) q in
+    let held : Held (isListed t) (nextOf t) (bookOf t) 0 = rw e at (m .held) in
+    let h : Held (isListed u) (nextOf t + 1) (bookOf u) k =
+    rw (b, entered-listed t clOrdId account capacity class o f0 free g few printable cap cls) (accepted-held (isListed t) (nextOf t) (bookOf t) k o held a) in
+    let x : List ℕ = putNext u (nextOf t + 1) in
+    let short = time-short stamp time in
+    let longer = numbered-long u u formed (framed-self u) (nextOf t + 1) (omega arith) k stamp short h in
+    let same : filled (putWork x k stamp) ≡ filled t + 1 =
+    framed-filled x (putWork x k stamp) longer (framed-work x k stamp short)
+    ∙ framed-filled u x (formed .long) (framed-next u (nextOf t + 1))
+    ∙ entered-filled t clOrdId account capacity class o f0 free g few printable cap cls in
+    rw n (reworked u u formed (framed-self u) (nextOf t + 1) (omega arith) k stamp short h (has-work-put x k stamp longer (omega arith) (omega arith) time))

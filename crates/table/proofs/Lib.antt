@@ -11,5 +11,7 @@ pub mod Frames
 pub mod Applied
 pub mod Texts
 pub mod Working
+pub mod Naming
+pub mod Entering
 pub mod Kept
 pub mod Computed

@@ -123,7 +123,7 @@ module _ (t : List ℕ) (i : ℕ) (xs : List ℕ) (short : length xs ≤ 32) (ro
 -- ---- a new record
 
 -- its texts, put one after the other
-abbrev putTexts : List ℕ → ℕ → List ℕ → List ℕ → List ℕ
+abbrev pub putTexts : List ℕ → ℕ → List ℕ → List ℕ → List ℕ
 putTexts t i clOrdId account = putText 10 (putId t i clOrdId) (128 * i + 33) account
 
 module _ (t : List ℕ) (i : ℕ) (clOrdId account : List ℕ) (capacity class : ℕ) (o : Order) (short : length clOrdId ≤ 32) (few : length account ≤ 10)
@@ -165,7 +165,7 @@ module _ (t : List ℕ) (i : ℕ) (clOrdId account : List ℕ) (capacity class :
   accepted-behind e = put-above t (128 * i) (recordOf clOrdId account capacity class o) (128 * i + 84) e (omega (arith, length-record))
 
   -- its texts stand as they do before the rest is put
-  accepted-texts : Same (accepted t i clOrdId account capacity class o) (putTexts t i clOrdId account) (128 * i) (128 * i + 44)
+  pub accepted-texts : Same (accepted t i clOrdId account capacity class o) (putTexts t i clOrdId account) (128 * i) (128 * i + 44)
   accepted-texts =
       rw (← accepted-parts)
       (put-below (putTexts t i clOrdId account) (128 * i + 44) (fieldBytes capacity class o) (128 * i) (128 * i + 44) (omega arith))

@@ -10,8 +10,9 @@ use Rattle.matching.specs.Held.{Held}
 use Rattle.table.specs.Places.{tableBytes}
 use Rattle.table.specs.Heading.{nextOf, workOf, isListed}
 use Rattle.table.specs.Orders.{clOrdIdAt, filled, bookOf}
-use Rattle.table.specs.Market.{hasSettings, hasWork, hasSpare, restZero, isRecord}
+use Rattle.table.specs.Market.{every, isPrintable, hasSettings, hasWork, hasSpare, restZero, isRecord}
 
+-- all of a market
 pub record Market (t : List ℕ) : Type 0 where
   pub long : length t ≡ tableBytes
   pub settings : hasSettings t ≡ true
@@ -22,3 +23,10 @@ pub record Market (t : List ℕ) : Type 0 where
   pub records : (i : ℕ) → 1 ≤ i → i ≤ filled t → isRecord t i ≡ true
   pub ids : (j k : ℕ) → 1 ≤ j → j < k → k ≤ filled t → sameBytes (clOrdIdAt t j) (clOrdIdAt t k) ≡ false
   pub held : Held (isListed t) (nextOf t) (bookOf t) (workOf t)
+
+-- a ClOrdID that an order of the table may take: 1 to 32 characters, and none has it
+pub record Named (t clOrdId : List ℕ) : Type 0 where
+  pub some : 1 ≤ length clOrdId
+  pub short : length clOrdId ≤ 32
+  pub printable : every isPrintable clOrdId ≡ true
+  pub fresh : (i : ℕ) → 1 ≤ i → i ≤ filled t → sameBytes (clOrdIdAt t i) clOrdId ≡ false

@@ -85,13 +85,20 @@ hasSpare t = allZero (partAt t spareByte 1) && allZero (partAt t headingEnd head
 unfoldable pub restZero : List ℕ → Bool
 restZero t = allZero (drop (recordAt (filled t + 1)) t)
 
--- each field is in range: the texts, capacity A or P, classification 1, 3, 4, 5 or 6, and zeros in the unused bytes
+-- a capacity, A or P, and a classification, 1, 3, 4, 5 or 6
+unfoldable pub isCapacity : ℕ → Bool
+isCapacity c = eqb c 65 || eqb c 80
+
+unfoldable pub isClass : ℕ → Bool
+isClass c = eqb c 1 || (leb 3 c && leb c 6)
+
+-- each field is in range: the texts, the capacity, the classification, and zeros in the unused bytes
 unfoldable pub isRecord : List ℕ → ℕ → Bool
 isRecord t i =
     isText isPrintable 1 clOrdIdRoom t (recordAt i)
     && isText isPrintable 0 accountRoom t (recordAt i + accountByte)
-    && (eqb (capacityAt t i) 65 || eqb (capacityAt t i) 80)
-    && (eqb (classificationAt t i) 1 || (leb 3 (classificationAt t i) && leb (classificationAt t i) 6))
+    && isCapacity (capacityAt t i)
+    && isClass (classificationAt t i)
     && allZero (partAt t (recordAt i + recordEnd) recordSpare)
 
 -- side 1 or 2, time in force 0 or 3, level 1 to 1,999,999,999 (a yield of at most 999,999.999 in size), OrderQty 1 to

@@ -1,0 +1,158 @@
+-- The frame of a report: what each answer of its readers rests on.
+use Prim.Native.Nat.{ℕ, zero, suc, _+_, _-_, _^_, _≤_, _<_}
+use mathlib.Core.Path.{_≡_, refl, sym, ap, _∙_}
+use mathlib.Core.Bool.{Bool, true, false, cond, _&&_, and-false, false≢true}
+use mathlib.Core.List.{List, [], _∷_, _++_}
+use native.Mathlib.Omega.{arith}
+use lib.Dec.{ltb, leb, eqb}
+use lib.ListN.{length, take, drop, getD, replicate, length-drop, length-take}
+use lib.Seq.{take-all}
+use mir.Syntax.{w64}
+use mir.Val.{Fits}
+use borrow.Author.Tests.{eq-eqb, ne-eqb, le-leb, lt-leb, leb-true}
+use Rattle.octets.specs.Octets.{partAt, sameBytes}
+use Rattle.octets.specs.Written.{Room, Wrote}
+use Rattle.octets.proofs.Runs.{wrote-front}
+use Rattle.octets.proofs.Bools.{split}
+use Rattle.report.specs.declared.Value.{Value}
+use Rattle.report.specs.declared.Value.the-variants.{Absent, Number, Char, Word, Sent, Stored, Level, Mean}
+use Rattle.report.specs.declared.Slot.{Slot}
+use Rattle.report.specs.declared.Row.{Row}
+use Rattle.report.specs.declared.Got.{Got}
+use Rattle.report.specs.declared.Got.the-variants.{Value as Found, Wrong}
+use Rattle.report.specs.declared.Frame.{Frame}
+use Rattle.report.specs.declared.Frame.the-variants.{Body, Not}
+use Rattle.report.specs.Fields.{label, written}
+use Rattle.report.specs.Frame.{version, trailer, checkSum}
+use Rattle.report.specs.Parse.{starts, fieldAt, Rows, row, bad, readRow, rowOf}
+use Rattle.report.specs.Reports.{lengthIn, lengthSlot, bodyAt, trailerAt, checked, readFramed}
+use Rattle.report.proofs.Bytes.{version-bytes, trailer-length}
+use Rattle.report.proofs.Labels.{starts-length}
+use Rattle.decimal.specs.Writing.{decimal}
+
+-- ---- 9
+module _ (g : Got) (len next n : ℕ) (e : g ≡ Found (Number len) next) where
+  pub length-past : n < next → Not ≡ lengthIn g n
+  length-past h = rw e (simp (lt-leb (next + len) n (omega arith)))
+
+  pub length-more : next ≤ n → n - next < len → Not ≡ lengthIn g n
+  length-more h l = rw e (simp (lt-leb (next + len) n (omega arith)))
+
+  pub length-yes : next ≤ n → len ≤ n - next → Body next len ≡ lengthIn g n
+  length-yes h l = rw e (simp (le-leb (next + len) n (omega arith)))
+
+-- the body ends within the bytes
+length-within : (g : Got) (n from len : ℕ) → lengthIn g n ≡ Body from len → from + len ≤ n
+length-within (Found Absent next) n from len e = let z : _≡_ {A = ℕ} 0 1 = cc in absurd (omega arith)
+length-within (Found (Number k) next) n from len e = by (leb (next + k) n) refl e
+  where
+    by : (t : Bool) → leb (next + k) n ≡ t → cond t (Body next k) Not ≡ Body from len → from + len ≤ n
+    by true p e =
+        let i : next ≡ from = cc in
+        let j : k ≡ len = cc in
+        omega (arith, leb-true (next + k) n p)
+    by false p e = let z : _≡_ {A = ℕ} 0 1 = cc in absurd (omega arith)
+length-within (Found (Char c) next) n from len e = let z : _≡_ {A = ℕ} 0 1 = cc in absurd (omega arith)
+length-within (Found (Word w x y k) next) n from len e = let z : _≡_ {A = ℕ} 0 1 = cc in absurd (omega arith)
+length-within (Found (Sent f l) next) n from len e = let z : _≡_ {A = ℕ} 0 1 = cc in absurd (omega arith)
+length-within (Found (Stored f l) next) n from len e = let z : _≡_ {A = ℕ} 0 1 = cc in absurd (omega arith)
+length-within (Found (Level l) next) n from len e = let z : _≡_ {A = ℕ} 0 1 = cc in absurd (omega arith)
+length-within (Found (Mean l) next) n from len e = let z : _≡_ {A = ℕ} 0 1 = cc in absurd (omega arith)
+length-within Wrong n from len e = let z : _≡_ {A = ℕ} 0 1 = cc in absurd (omega arith)
+
+-- ---- 8: the first bytes are the version's
+pub same-starts : (p s : List ℕ) → sameBytes (take (length p) s) p ≡ starts p s
+unfolding sameBytes
+same-starts [] s = refl
+same-starts (a ∷ p) [] = refl
+same-starts (a ∷ p) (b ∷ s) = let ih = same-starts p s in split (eqb b a) (λ e. rw (e, ih)) (λ e. rw e)
+
+module _ (s p : List ℕ) (pe : p ≡ partAt s 0 10) (t : Bool) (te : t ≡ sameBytes p (56 ∷ 61 ∷ 70 ∷ 73 ∷ 88 ∷ 46 ∷ 52 ∷ 46 ∷ 50 ∷ 1 ∷ [])) where
+  begins : t ≡ starts (written 8 version) s
+  unfolding partAt
+  begins =
+      te ∙ ap (λ (l : List ℕ). sameBytes l (56 ∷ 61 ∷ 70 ∷ 73 ∷ 88 ∷ 46 ∷ 52 ∷ 46 ∷ 50 ∷ 1 ∷ [])) pe
+      ∙ same-starts (56 ∷ 61 ∷ 70 ∷ 73 ∷ 88 ∷ 46 ∷ 52 ∷ 46 ∷ 50 ∷ 1 ∷ []) s ∙ ap (λ (l : List ℕ). starts l s) version-bytes
+
+  pub body-yes : t ≡ true → (g : Got) (f : Frame) → g ≡ fieldAt s 10 lengthSlot → f ≡ lengthIn g (length s) → f ≡ bodyAt s
+  unfolding bodyAt
+  body-yes y g f ge fe = rw (sym begins ∙ y) (fe ∙ ap (λ (x : Got). lengthIn x (length s)) ge)
+
+  pub body-not : t ≡ false → Not ≡ bodyAt s
+  unfolding bodyAt
+  body-not n = rw (sym begins ∙ n)
+
+  -- there are ten bytes
+  pub ten-within : t ≡ true → 10 ≤ length s
+  unfolding written label version decimal
+  ten-within y = starts-length (written 8 version) s (sym begins ∙ y)
+
+pub body-within : (s : List ℕ) (from len : ℕ) → bodyAt s ≡ Body from len → from + len ≤ length s
+unfolding bodyAt
+body-within s from len e =
+    split (starts (written 8 version) s)
+    (λ t. length-within (fieldAt s 10 lengthSlot) (length s) from len (rw t at e))
+    (λ t. let z : Not ≡ Body from len = rw t at e in let y : _≡_ {A = ℕ} 0 1 = cc in absurd (omega arith))
+
+-- ---- 10
+pub trailer-room : (sum : ℕ) → Room (replicate 8 0) 0 (trailer sum)
+trailer-room sum = record { fits = omega (arith, trailer-length sum) }
+
+-- the bytes behind the body against what was written
+module _ (s : List ℕ) (end : ℕ) (h : end ≤ length s) (sum : ℕ) (e : sum ≡ checkSum (take end s)) where
+  pub trailer-is : (t : Bool) (x : List ℕ) → x ≡ trailer sum → t ≡ sameBytes (take (length s - end) (drop end s)) x → t ≡ trailerAt s end
+  unfolding trailerAt
+  trailer-is t x xe te =
+      te ∙ ap (λ (l : List ℕ). sameBytes l x) (take-all (length s - end) (drop end s) (omega (arith, length-drop end s)))
+      ∙ ap (sameBytes (drop end s)) (xe ∙ ap trailer e)
+
+-- ---- the whole frame
+module _ (s : List ℕ) (slots : List Slot) (f : Frame) (fe : f ≡ bodyAt s) where
+  pub framed-not : f ≡ Not → (r : Row) → r ≡ rowOf bad → r ≡ rowOf (readFramed s slots)
+  unfolding readFramed
+  framed-not e r re = rw (sym fe ∙ e) re
+
+  module _ (from len : ℕ) (e : f ≡ Body from len) where
+    pub from-within : from ≤ length s
+    from-within = omega (arith, body-within s from len (sym fe ∙ e))
+
+    pub end-within : from + len ≤ length s
+    end-within = body-within s from len (sym fe ∙ e)
+
+    pub end-fits : length s < 2 ^ 64 → Fits w64 (from + len)
+    end-fits l = record { fits = omega (arith, end-within) }
+
+    framed : readFramed s slots ≡ checked s (from + len) (readRow s from slots)
+    unfolding readFramed
+    framed = rw (sym fe ∙ e)
+
+    module _ (r : Row) (re : r ≡ rowOf (readRow s from slots)) where
+      good : (q : Rows) → r ≡ rowOf q → r .ok ≡ true → r .next ≡ from + len → trailerAt s (from + len) ≡ true → rowOf (checked s (from + len) q) ≡ r
+      good (row fs n) e k m t =
+          let i : n ≡ from + len = ap (λ (w : Row). w .next) (sym e) ∙ m in
+          rw (eq-eqb n (from + len) i, t) (sym e)
+      good bad e k m t = absurd (false≢true (ap (λ (w : Row). w .ok) (sym e) ∙ k))
+
+      pub framed-good : r .ok ≡ true → r .next ≡ from + len → (t : Bool) → t ≡ trailerAt s (from + len) → t ≡ true → r ≡ rowOf (readFramed s slots)
+      framed-good k m t te y = sym (ap rowOf framed ∙ good (readRow s from slots) re k m (sym te ∙ y))
+
+      no-sum : (q : Rows) → trailerAt s (from + len) ≡ false → checked s (from + len) q ≡ bad
+      no-sum (row fs n) t = rw (t, and-false (eqb n (from + len)))
+      no-sum bad t = refl
+
+      pub framed-sum : (t : Bool) → t ≡ trailerAt s (from + len) → t ≡ false → (b : Row) → b ≡ rowOf bad → b ≡ rowOf (readFramed s slots)
+      framed-sum t te n b be = be ∙ sym (ap rowOf (framed ∙ no-sum (readRow s from slots) (sym te ∙ n)))
+
+      no-end : (q : Rows) → r ≡ rowOf q → r .ok ≡ true → (r .next ≡ from + len → ⊥) → checked s (from + len) q ≡ bad
+      no-end (row fs n) e k m = rw (ne-eqb n (from + len) (λ i. m (ap (λ (w : Row). w .next) e ∙ i)))
+      no-end bad e k m = refl
+
+      pub framed-end : r .ok ≡ true → (r .next ≡ from + len → ⊥) → (b : Row) → b ≡ rowOf bad → b ≡ rowOf (readFramed s slots)
+      framed-end k m b be = be ∙ sym (ap rowOf (framed ∙ no-end (readRow s from slots) re k m))
+
+      no-row : (q : Rows) → r ≡ rowOf q → r .ok ≡ false → checked s (from + len) q ≡ bad
+      no-row (row fs n) e k = absurd (false≢true (sym k ∙ ap (λ (w : Row). w .ok) e))
+      no-row bad e k = refl
+
+      pub framed-bad : r .ok ≡ false → (b : Row) → b ≡ rowOf bad → b ≡ rowOf (readFramed s slots)
+      framed-bad k b be = be ∙ sym (ap rowOf (framed ∙ no-row (readRow s from slots) re k))
