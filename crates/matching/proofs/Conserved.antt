@@ -2,7 +2,7 @@
 -- and what is open.
 use mathlib.Core.Path.{_≡_, refl, sym, ap, _∙_}
 use mathlib.Core.Bool.{true}
-use mathlib.Core.List.{List, [], _∷_}
+use mathlib.Core.List.{List, [], _∷_, _++_}
 use mathlib.Core.Logic.{_⊎_, inl, inr}
 use Prim.Native.Nat.{ℕ, zero, suc, _+_, _≤_, _<_}
 use native.Mathlib.Omega.{arith}
@@ -13,11 +13,12 @@ use Rattle.octets.proofs.Bools.{split, not-both}
 use Rattle.matching.specs.declared.Order.{Order}
 use Rattle.matching.specs.declared.Event.{Event}
 use Rattle.matching.specs.declared.Event.the-variants.{Accepted, Replaced, Withdrawn, Canceled, Decremented, Traded, Expired}
-use Rattle.matching.specs.Matching.{Book, none, at, openOf, who, change, after, play}
+use Rattle.matching.specs.Matching.{Book, none, at, openOf, who, change, after, play, run}
 use Rattle.matching.specs.Held.{Covered}
 use Rattle.matching.specs.Accounts.{tally, trades, decrements, cancels, inForce, accepted}
 use Rattle.matching.specs.Happens.{moves, Fit, Fits, Asked, Follow}
 use Rattle.matching.proofs.Books.{at-new}
+use Rattle.matching.proofs.Steps.{run-fits}
 use Rattle.matching.proofs.Events.{after-here, after-there, Terms, change-terms, change-executed, change-decremented, change-canceled, change-covered}
 
 -- what an event does to the accounts of an order
@@ -143,3 +144,13 @@ fits-accepted k q (e ∷ es) b f =
     split (eqb k (who e))
     (λ t. rw (t, in-force e q (f .0 .moving)) (fits-accepted k q es (after b e) (f .1)))
     (λ t. rw t (fits-accepted k q es (after b e) (f .1)))
+
+-- one list of events after another
+pub follow-append : (es fs : List Event) (b : Book) → Follow b es → Follow (play b es) fs → Follow b (es ++ fs)
+unfolding play
+follow-append [] fs b p q = q
+follow-append (e ∷ es) fs b p q = (p .0, follow-append es fs (after b e) (p .1) q)
+
+-- a run of steps
+pub run-follows : (modes : ℕ → ℕ) (n : ℕ) (b : Book) (w : ℕ) → w ≤ length b → Follow b (run modes n b w .events)
+run-follows modes n b w h = fits-follow (run modes n b w .events) b (run-fits modes n b w h)

@@ -14,8 +14,8 @@ use Rattle.matching.specs.declared.Event.{Event}
 use Rattle.matching.specs.declared.Prevention.the-variants.{CancelNewest, CancelOldest, Decrement}
 use Rattle.matching.specs.declared.Outcome.{Outcome}
 use Rattle.matching.specs.declared.Outcome.the-variants.{Trade, Prevented, Expires, Rests}
-use Rattle.matching.specs.Matching.{causes, preventing, reports, Book, at, openOf, isOpen, isBuy, meets, faces, opposed, countOf, metBy, opposedTo, mostReports, play, happens, workAfter, run}
-use Rattle.matching.specs.Held.{amount}
+use Rattle.matching.specs.Matching.{causes, preventing, reports, Book, at, openOf, isOpen, isBuy, meets, faces, opposed, countOf, metBy, opposedTo, mostReports, play, happens, bookAfter, workAfter, run}
+use Rattle.matching.specs.Held.{In, amount}
 use Rattle.matching.specs.Accounts.{tally}
 use Rattle.matching.specs.Runs.{Ended}
 use Rattle.matching.specs.Happens.{Fits}
@@ -191,6 +191,19 @@ step-reports b w v {es} f (matched {r = r} p m) =
     let h = ltb-true 0 (openOf (at (play b es) w)) u in
     omega (arith, meeting-two m, some-most b w (p .w-open), some-most (play b es) w h, fewer-opposed b w r f p m h))
     (λ u. omega (arith, meeting-two m, some-most b w (p .w-open), shut-most (play b es) w u, opposed-pos b w r p))
+
+-- the rule on numbers, kept by a step: the next number, raised by the reports, and those still to come
+pub rule-kept : (modes : ℕ → ℕ) (next most : ℕ) (b : Book) (w : ℕ) → In b w → next ≤ most → (0 < openOf (at b w) → next + 2 * opposedTo b w + 1 ≤ most)
+    → let c = bookAfter modes b w in
+    let later = next + length (happens modes b w) in
+    (later ≤ most) × (0 < openOf (at c (workAfter b w)) → later + 2 * opposedTo c (workAfter b w) + 1 ≤ most)
+rule-kept modes next most b w i h r =
+    let t = step-reports b w (workAfter b w) (happens-fits modes b w i) (step-is modes b w) in
+    let before : next + mostReports b w ≤ most =
+    split (isOpen (at b w))
+    (λ u. let o = ltb-true 0 (openOf (at b w)) u in omega (arith, some-most b w o, r o))
+    (λ u. omega (arith, shut-most b w u)) in
+    (omega arith, λ o. omega (arith, some-most (bookAfter modes b w) (workAfter b w) o))
 
 -- all reports of a run, and those still to come
 pub run-reports : (modes : ℕ → ℕ) (n : ℕ) (b : Book) (w : ℕ) → w ≤ length b

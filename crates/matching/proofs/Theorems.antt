@@ -6,20 +6,24 @@ use mathlib.Core.List.{List, []}
 use Prim.Native.Nat.{ℕ, suc, _+_, _*_, _≤_, _<_}
 use native.Mathlib.Omega.{arith}
 use lib.ListN.{length}
+use Rattle.matching.specs.declared.Order.{Order}
 use Rattle.matching.specs.declared.Event.{Event}
-use Rattle.matching.specs.Matching.{Book, at, openOf, buys, ahead, better, faces, partner, metBy, opposedTo, happens, bookAfter, workAfter, play, run}
+use Rattle.matching.specs.declared.Event.the-variants.{Accepted, Replaced, Withdrawn}
+use Rattle.matching.specs.Matching.{Book, at, openOf, isBuy, buys, ahead, better, faces, partner, metBy, opposedTo, happens, bookAfter, workAfter, after, play, run}
 use Rattle.matching.specs.Accounts.{tally, trades, decrements, cancels, accepted, bought, sold, SelfTradeFree}
 use Rattle.matching.specs.Runs.{Ended, GoesOn}
-use Rattle.matching.specs.Held.{Covered, Sound, In, Uncrossed, Held}
+use Rattle.matching.specs.Held.{Covered, Sound, In, Uncrossed, Held, Enters, Renews}
 use Rattle.matching.specs.Happens.{Follow}
 use Rattle.matching.specs.Depth.{stands, levelAt, totalOf, ordersOf, overLevels, openOn, ordersOn}
+use Rattle.matching.proofs.Books.{open-low}
 use Rattle.matching.proofs.Steps.{step-is, run-plays, run-fits, run-keeps, happens-fits}
 use Rattle.matching.proofs.Conserved.{accounts, conserved-from, fits-follow, fits-accepted}
 use Rattle.matching.proofs.Fair.{run-fair, fair-balanced, fair-owners}
 use Rattle.matching.proofs.Crossing.{step-uncrossed}
-use Rattle.matching.proofs.Ends.{left-most, run-ends, step-two, run-reports, most-reports}
+use Rattle.matching.proofs.Ends.{left-most, run-ends, step-two, run-reports, most-reports, rule-kept}
 use Rattle.matching.proofs.Sounds.{run-sound}
 use Rattle.matching.proofs.Holding.{step-held, run-held}
+use Rattle.matching.proofs.Requests.{opened-held, accepted-held, replaced-held, withdrawn-held}
 use Rattle.matching.proofs.Best.{partner-best, run-on}
 use Rattle.matching.proofs.Levels.{standing-high, totals-add-up, orders-add-up, no-more, levels-ahead, best-level}
 
@@ -47,10 +51,18 @@ module _ (modes : ℕ → ℕ) (n : ℕ) (b : Book) (w : ℕ) (in-book : w ≤ l
   pub no-self-trade : SelfTradeFree b (run modes n b w .events)
   no-self-trade = fair-owners b (run-fair modes n b w in-book)
 
-  -- uncrossed: apart from the order in work; and wholly once the work has ended, the order in work being then 0, which is none
+  -- uncrossed: apart from the order in work
   pub uncrossed : Uncrossed b w → Uncrossed (run modes n b w .book) (run modes n b w .work)
   uncrossed =
       run-keeps Uncrossed modes (λ c v i x. step-uncrossed c v _ (happens-fits modes c v i) x (step-is modes c v)) n b w in-book
+
+  -- and wholly once the work has ended
+  pub uncrossed-wholly : Uncrossed b w → run modes n b w .work ≡ 0
+      → let c = run modes n b w .book in
+      (i j : ℕ) → isBuy (at c i) ≡ true → isBuy (at c j) ≡ false → 0 < openOf (at c i) → 0 < openOf (at c j) → at c j .level < at c i .level
+  uncrossed-wholly x z i j bi bj oi oj =
+      let c = run modes n b w .book in
+      uncrossed x i j (λ e. omega (arith, open-low c i oi)) (λ e. omega (arith, open-low c j oj)) bi bj oi oj
 
   -- in range: every order keeps its ranges; executed ≤ sum ≤ executed × 1,999,999,999, and canceled above 0 means nothing open
   pub in-range : ((k : ℕ) → In b k → Sound (at b k)) → (k : ℕ) → In (run modes n b w .book) k → Sound (at (run modes n b w .book) k)
@@ -79,6 +91,14 @@ best = partner-best
 pub two-reports : (modes : ℕ → ℕ) (b : Book) (w : ℕ) → length (happens modes b w) ≤ 2
 two-reports modes b w = step-two b w _ (step-is modes b w)
 
+-- the rule on numbers is kept, up to any bound: the next number and, while the order in work has something open, two for each
+-- open opposite order and one more
+pub rule : (modes : ℕ → ℕ) (next most : ℕ) (b : Book) (w : ℕ) → In b w → next ≤ most → (0 < openOf (at b w) → next + 2 * opposedTo b w + 1 ≤ most)
+    → let c = bookAfter modes b w in
+    let later = next + length (happens modes b w) in
+    (later ≤ most) × (0 < openOf (at c (workAfter b w)) → later + 2 * opposedTo c (workAfter b w) + 1 ≤ most)
+rule = rule-kept
+
 -- held: a step keeps what a market asks of its book, the rule on numbers with it, the next number having grown by the reports
 pub step-holds : (listed : ℕ → Bool) (modes : ℕ → ℕ) (next : ℕ) (b : Book) (w : ℕ) → In b w → Held listed next b w
     → Held listed (next + length (happens modes b w)) (bookAfter modes b w) (workAfter b w)
@@ -88,6 +108,22 @@ step-holds = step-held
 pub run-holds : (listed : ℕ → Bool) (modes : ℕ → ℕ) (n next : ℕ) (b : Book) (w : ℕ) → Held listed next b w
     → Held listed (next + length (run modes n b w .events)) (run modes n b w .book) (run modes n b w .work)
 run-holds = run-held
+
+-- so do what Submit makes of a message, nothing being in work before it, and Open
+pub accepted-holds : (listed : ℕ → Bool) (next : ℕ) (b : Book) (n : ℕ) (o : Order) → Held listed next b 0 → Enters listed next b n o
+    → Held listed (next + 1) (after b (Accepted n o)) n
+accepted-holds = accepted-held
+
+pub replaced-holds : (listed : ℕ → Bool) (next : ℕ) (b : Book) (n l q p : ℕ) → Held listed next b 0 → Renews next b n l q p
+    → Held listed (next + 1) (after b (Replaced n l q p)) n
+replaced-holds = replaced-held
+
+pub withdrawn-holds : (listed : ℕ → Bool) (next : ℕ) (b : Book) (n : ℕ) → Held listed next b 0 → In b n → next ≤ 999_998_976
+    → Held listed (next + 1) (after b (Withdrawn n (openOf (at b n)))) 0
+withdrawn-holds = withdrawn-held
+
+pub opened-holds : (listed : ℕ → Bool) (next : ℕ) → next ≤ 1_000_000_000 → Held listed next [] 0
+opened-holds = opened-held
 
 -- ---- every list of events that can happen from an empty book on: acceptances, replacements, withdrawals and steps
 -- conserved: the quantity of the last acceptance or replacement of an order is what the events execute, decrement and cancel of

@@ -36,7 +36,7 @@ pub record In (b : Book) (k : ℕ) : Type 0 where
   pub low : 0 < k
   pub high : k ≤ length b
 
--- every open buy level is above every open sell level, apart from order w
+-- no open buy meets an open sell, order w left aside: the sell's level lies below the buy's
 abbrev pub Uncrossed : Book → ℕ → Type 0
 Uncrossed b w =
     (i j : ℕ) → i ≢ w → j ≢ w → isBuy (at b i) ≡ true → isBuy (at b j) ≡ false → 0 < openOf (at b i) → 0 < openOf (at b j)

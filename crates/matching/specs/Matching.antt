@@ -21,11 +21,11 @@ use Rattle.matching.specs.declared.Event.the-variants.{Accepted, Replace
 abbrev pub buys : ℕ → Bool
 buys side = eqb side 1
 
--- a buy at level b and a sell at level s meet: the sell's yield is at least the buy's
+-- the levels b of a buy and s of a sell meet: the seller offers the yield that the buyer wants, or more
 abbrev pub crosses : ℕ → ℕ → Bool
 crosses b s = leb b s
 
--- level x is better than level y: a lower yield for a buy, a higher one for a sell
+-- level x is better than level y: among buys the lower of the two, among sells the higher
 abbrev pub ahead : Bool → ℕ → ℕ → Bool
 ahead buy x y = cond buy (ltb x y) (ltb y x)
 
@@ -51,7 +51,7 @@ opposite o r = cond (isBuy o) (not (isBuy r)) (isBuy r)
 unfoldable pub meets : Order → Order → Bool
 meets o r = cond (isBuy o) (crosses (o .level) (r .level)) (crosses (r .level) (o .level))
 
--- a is better than c, of the same side: the better level first; among equal levels the smaller place
+-- a goes before c, of the same side: by the better level, and at one level by the earlier place
 unfoldable pub better : Order → Order → Bool
 better a c = cond (eqb (a .level) (c .level)) (ltb (a .place) (c .place)) (ahead (isBuy a) (a .level) (c .level))
 
@@ -113,14 +113,14 @@ unfoldable pub prevention : ℕ → ℕ → ℕ → Prevention
 prevention mode newest oldest =
     cond (eqb mode 1) (CancelNewest newest) (cond (eqb mode 2) (CancelOldest oldest) (Decrement newest oldest))
 
--- what becomes of the order in work, o, that is matched with r: of one owner, the mode of the MPID acts; else they trade the
--- smaller open quantity at the resting level
+-- what becomes of the order in work, o, that is matched with r: prevention, where both are of one owner; otherwise a trade of
+-- as much as both have open, at the level of r
 unfoldable pub meeting : Order → Order → ℕ → Outcome
 meeting o r mode =
     cond (sameOwner o r) (Prevented (prevention mode (openOf o) (openOf r)))
     (Trade (min (openOf o) (openOf r)) (r .level))
 
--- what becomes of one that is matched with none: an IOC with something open is canceled
+-- what becomes of one that is matched with none: what is left of an IOC expires, any other order rests
 unfoldable pub ending : Order → Outcome
 ending o = cond (eqb (o .tif) 3 && isOpen o) (Expires (openOf o)) Rests
 

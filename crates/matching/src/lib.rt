@@ -2,7 +2,7 @@
 // an order adds to a level. The book itself is the table's.
 ghost use mathlib.Core.Path.{_≡_};
 ghost use Prim.Native.Nat.{_+_, _*_, _≤_, min};
-ghost use Rattle.matching.specs.Matching.{openOf, isOpen, isBuy, opposite, sameOwner, opposed, meets, better, faces, prevention, meeting, ending, placeAfter, change, preventedReports, reports, buys, ahead};
+ghost use Rattle.matching.specs.Matching.{openOf, isOpen, isBuy, opposite, sameOwner, opposed, meets, better, faces, prevention, meeting, ending, placeAfter, change, preventedReports, reports, buys, crosses, ahead};
 ghost use Rattle.matching.specs.Depth.{onSide, stands, behind, nearer, onLevel, share};
 ghost use Rattle.matching.specs.Held.{Covered, Sound, May};
 
@@ -127,10 +127,8 @@ impl Order {
     {
         if self.level == other.level {
             self.place < other.place
-        } else if self.side == 1 {
-            self.level < other.level
         } else {
-            other.level < self.level
+            ahead(self.side, self.level, other.level)
         }
     }
 
@@ -325,6 +323,13 @@ pub fn reports(outcome: Outcome) -> u64
         Outcome::Expires { quantity: _ } => 1,
         Outcome::Rests => 0,
     }
+}
+
+// The levels of a buy and of a sell meet.
+pub fn crosses(buy: u64, sell: u64) -> bool
+    ensures { λ r. ⌜ r ≡ crosses buy sell ⌝ }
+{
+    buy <= sell
 }
 
 // Level x is better than level y on a side.

@@ -16,7 +16,7 @@ use base.Fml.{Lft, Share, GName, Fml, ftrue, fsep, flft, fat, fdead, flent}
 use prog.Wp.{Heap}
 use ghost.Atoms.{Atoms, sem}
 use contract.Lifetimes.{toks}
-use types.Kit.{Given, ‵, raw, _⊛_, some, later, _$_, _∵_, !, qed, by, move, use1, use2, drop, split, group, pick, fsplit, fjoin, fpick, fpack, feqL, feqI, frame, await, updating, now as at-once, show, done}
+use types.Kit.{Given, ‵, _⊛_, some, later, _$_, _∵_, !, qed, by, move, use1, use2, drop, split, group, pick, fsplit, fjoin, fpick, fpack, feqI, frame, await, updating, now as at-once, show, done}
 use types.Share.{arr-parts}
 use types.Tokens.{lent-back}
 use denote.RattleType.{RattleType}

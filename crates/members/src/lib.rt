@@ -1,9 +1,12 @@
 // The members of a market as a caller lends them to Open: a slice of MPIDs, each with its mode. Functions that touch the
 // slice of structs are few and thin: they read its length and its elements; everything else works on numbers.
 ghost use mathlib.Core.Path.{_≡_};
-ghost use Prim.Native.Nat.{_<_, min};
-ghost use lib.ListN.{length, getD};
+ghost use Prim.Native.Nat.{_<_, _≤_, min};
+ghost use lib.ListN.{length, getD, take};
+ghost use Rattle.members.specs.Members.{mpidsOf, modesOf};
 ghost use Rattle.members.specs.Apart.{nobody, empty, added, listedOf};
+ghost use Rattle.table.specs.Opened.{opened, openNumber};
+use table::opening::open_table;
 
 // One member of the market: its MPID, and its mode when its own orders meet.
 pub struct Member {
@@ -12,21 +15,21 @@ pub struct Member {
 }
 
 // The first nine members at most, taken apart: n of each array count, and zeros follow.
-pub struct Listed {
-    pub n: usize,
-    pub mpids: [u64; 9],
-    pub modes: [u64; 9],
+struct Listed {
+    n: usize,
+    mpids: [u64; 9],
+    modes: [u64; 9],
 }
 
 // How many members are lent.
-pub fn count(members: &[Member]) -> usize
+fn count(members: &[Member]) -> usize
     ensures { λ r. ⌜ r ≡ length (now (members .entry)) ⌝ }
 {
     members.len()
 }
 
 // The member at place i.
-pub fn member_at(members: &[Member], i: usize) -> Member
+fn member_at(members: &[Member], i: usize) -> Member
     requires { ⌜ i < length (now members) ⌝ }
     ensures { λ r. ⌜ r ≡ getD (now (members .entry)) i nobody ⌝ }
 {
@@ -65,7 +68,7 @@ fn looked_at(n: usize) -> usize
 }
 
 // The members taken apart.
-pub fn take_apart(members: &[Member]) -> Listed
+fn take_apart(members: &[Member]) -> Listed
     ensures { λ r. ⌜ r ≡ listedOf (now (members .entry)) ⌝ }
 {
     let n = looked_at(count(members));
@@ -76,4 +79,39 @@ pub fn take_apart(members: &[Member]) -> Listed
         i = i + 1;
     }
     list
+}
+
+// Opens a market for the members that were taken apart: 0, or refusal 9 with nothing changed.
+fn open_lists(
+    table: &mut [u8],
+    venue: &[u8],
+    port: &[u8],
+    code: &[u8],
+    first: u64,
+    list: Listed,
+) -> u64
+    requires { ⌜ (list .n ≤ 9) × (length (list .mpids) ≡ 9) × (length (list .modes) ≡ 9) ⌝ }
+    ensures { λ r. ⌜ (r ≡ openNumber (now (table .entry)) (now (venue .entry)) (now (port .entry)) (now (code .entry)) first (take (list .n) (list .mpids)) (take (list .n) (list .modes)))
+        × (now (table .exit) ≡ opened (now (table .entry)) (now (venue .entry)) (now (port .entry)) (now (code .entry)) first (take (list .n) (list .mpids)) (take (list .n) (list .modes))) ⌝ }
+{
+    let n = list.n;
+    let mpids = list.mpids;
+    let modes = list.modes;
+    open_table(table, venue, port, code, first, &mpids[..n], &modes[..n])
+}
+
+// Opens a market for the members lent: 0, or refusal 9 with nothing changed, as opening is defined for their MPIDs and modes.
+pub fn open(
+    table: &mut [u8],
+    venue: &[u8],
+    port: &[u8],
+    code: &[u8],
+    first: u64,
+    members: &[Member],
+) -> u64
+    ensures { λ r. ⌜ (r ≡ openNumber (now (table .entry)) (now (venue .entry)) (now (port .entry)) (now (code .entry)) first (mpidsOf (now (members .entry))) (modesOf (now (members .entry))))
+        × (now (table .exit) ≡ opened (now (table .entry)) (now (venue .entry)) (now (port .entry)) (now (code .entry)) first (mpidsOf (now (members .entry))) (modesOf (now (members .entry)))) ⌝ }
+{
+    let list = take_apart(members);
+    open_lists(table, venue, port, code, first, list)
 }

@@ -5,7 +5,7 @@ use mathlib.Core.List.{List, [], _∷_, _++_, append-nil}
 use mathlib.Core.Logic.{_⊎_, inl, inr}
 use Prim.Native.Nat.{ℕ, zero, suc, _+_, _*_, _/_, _%_, _^_, _-_, _≤_, _<_}
 use native.Mathlib.Decide.{decLt}
-use native.Mathlib.Nat.{add-zero, add-suc, zero-add, suc-add, sub-self, pow-le-pow-right, mod-add-div, pow-suc, add-assoc, not-suc-le-zero, div-lt-iff-lt-mul}
+use native.Mathlib.Nat.{add-zero, add-suc, zero-add, suc-add, sub-self, pow-le-pow-right, mod-add-div, pow-suc, add-assoc, not-suc-le-zero, div-lt-iff-lt-mul, one-mul}
 use native.Mathlib.Numerals.{add-one}
 use native.Mathlib.Omega.{arith}
 use lib.Dec.{lit<}
@@ -116,6 +116,18 @@ pub leAt-lt : (n : ℕ) (t : List ℕ) (p : ℕ) → Bytes t → leAt n t p < 25
 unfolding leAt
 leAt-lt zero t p b = omega arith
 leAt-lt (suc n) t p b = rw pow-suc (omega (arith, b p, leAt-lt n t (p + 1) b))
+
+-- a number of m + n bytes: the low m, and the high n
+pub leAt-add : (m n : ℕ) (t : List ℕ) (p : ℕ) → leAt (m + n) t p ≡ leAt m t p + 256 ^ m * leAt n t (p + m)
+unfolding leAt
+leAt-add zero n t p = simp (zero-add, add-zero, one-mul)
+leAt-add (suc m) n t p =
+    let h : leAt (m + n) t (p + 1) ≡ leAt m t (p + 1) + 256 ^ m * leAt n t (p + 1 + m) = leAt-add m n t (p + 1) in
+    let q : p + 1 + m ≡ p + suc m = omega arith in
+    rw (suc-add, pow-suc, h, q) (omega arith)
+
+pub leAt-halves : (t : List ℕ) (p x y : ℕ) → x ≡ leAt 4 t p → y ≡ leAt 4 t (p + 4) → x + 4294967296 * y ≡ leAt 8 t p
+leAt-halves t p x y e f = rw (e, f) (sym (leAt-add 4 4 t p))
 
 -- before a run that was put, behind it, and within it
 pub leAt-below : (n : ℕ) (t : List ℕ) (i : ℕ) (vs : List ℕ) (p : ℕ) → p + n ≤ i → leAt n (put t i vs) p ≡ leAt n t p

@@ -1,8 +1,8 @@
 -- Zero bytes: "every byte is zero" against the single bytes, in a row of lists, and by numbers of any width.
 use mathlib.Core.Path.{_≡_, refl, sym, ap, _∙_}
-use mathlib.Core.Bool.{true, false, _&&_, and-assoc, and-true}
+use mathlib.Core.Bool.{true, false, _&&_, and-assoc}
 use mathlib.Core.List.{List, [], _∷_, _++_, append-nil}
-use Prim.Native.Nat.{ℕ, zero, suc, _+_, _*_, _-_, _≤_, _<_}
+use Prim.Native.Nat.{ℕ, zero, suc, _+_, _-_, _≤_, _<_, zero-le}
 use native.Mathlib.Nat.{add-zero, add-assoc}
 use native.Mathlib.Numerals.{add-one}
 use native.Mathlib.Omega.{arith}
@@ -93,27 +93,31 @@ pub zero-number-not : (n : ℕ) (t : List ℕ) (i : ℕ) → i + n ≤ length t 
 zero-number-not n t i l h =
     split (allZero (drop i t)) (λ e. absurd (h (number-zero n t i e))) (λ e. e)
 
--- ---- eight bytes at once, by `|`: a test of `|`, and of a byte below a number, is the test of both
+-- ---- eight bytes a turn: a test of `|` is the test of both
 eqb-or : (a b : ℕ) → eqb (bitOr a b) 0 ≡ (eqb a 0 && eqb b 0)
 eqb-or a b =
     split (eqb a 0)
     (λ e. let z : a ≡ 0 = eqb-true a 0 e in rw (e, z, or-zero-l))
     (λ e. rw e (ne-eqb (bitOr a b) 0 (λ z. eqb-false a 0 e (omega (arith, or-add-and a b, and-le-r a b)))))
 
-eqb-byte : (a b : ℕ) → eqb (a + 256 * b) 0 ≡ (eqb a 0 && eqb b 0)
-eqb-byte a b =
-    split (eqb a 0)
-    (λ e. split (eqb b 0)
-    (λ f. let y : a ≡ 0 = eqb-true a 0 e in let z : b ≡ 0 = eqb-true b 0 f in rw (y, z))
-    (λ f. rw (e, f) (ne-eqb (a + 256 * b) 0 (λ z. eqb-false b 0 f (omega arith)))))
-    (λ e. rw e (ne-eqb (a + 256 * b) 0 (λ z. eqb-false a 0 e (omega arith))))
+-- a loop that has gathered the bytes before i: at the start, one turn on, and at the end
+pub record Gathered (t : List ℕ) (seen i : ℕ) : Type 0 where
+  pub within : i ≤ length t
+  pub left : (eqb seen 0 && allZero (drop i t)) ≡ allZero t
 
-pub zero-eight : (t : List ℕ) (p : ℕ)
-    → eqb
-    (bitOr (bitOr (bitOr (bitOr (bitOr (bitOr (bitOr (getD t p 0) (getD t (p + 1) 0)) (getD t (p + 2) 0)) (getD t (p + 3) 0)) (getD t (p + 4) 0)) (getD t (p + 5) 0)) (getD t (p + 6) 0)) (getD t (p + 7) 0))
-    0 ≡ eqb (leAt 8 t p) 0
-unfolding leAt
-zero-eight t p = simp (add-assoc, eqb-or, eqb-byte, and-assoc, and-true)
+pub gathered-none : {t : List ℕ} → Gathered t 0 0
+gathered-none = record { within = zero-le; left = refl }
+
+pub gathered-more : {t : List ℕ} {seen i : ℕ} (x : ℕ) → Gathered t seen i → i + 8 ≤ length t → x ≡ leAt 8 t i → Gathered t (bitOr seen x) (i + 8)
+gathered-more {t} {seen} {i} x g l e =
+    let turn : (eqb x 0 && allZero (drop (i + 8) t)) ≡ allZero (drop i t) =
+    split (eqb x 0)
+    (λ z. rw z (sym (zero-number 8 t i l (sym e ∙ eqb-true x 0 z))))
+    (λ z. rw z (sym (zero-number-not 8 t i l (λ h. eqb-false x 0 z (e ∙ h))))) in
+    record {
+      within = l;
+      left = rw (eqb-or seen x, and-assoc (eqb seen 0) (eqb x 0) (allZero (drop (i + 8) t)), turn) (g .left);
+    }
 
 -- ---- zeros written: a turn of the loop, and a whole list
 pub put-zero-more : (n k : ℕ) (t : List ℕ) (p : ℕ) → k < n

@@ -25,6 +25,14 @@ pub fn le_at(t: &[u8], p: usize, n: usize) -> u64
     r
 }
 
+// The number whose eight bytes start at place p: le_at(t, p, 8), as two halves that are read at once.
+pub fn eight_at(t: &[u8], p: usize) -> u64
+    requires { ⌜ p + 8 ≤ length (now t) ⌝ }
+    ensures { λ r. ⌜ r ≡ leAt 8 (now (t .entry)) p ⌝ }
+{
+    le_at(t, p, 4) + 4294967296 * le_at(t, p + 4, 4)
+}
+
 // Writes the n low bytes of v from place p on.
 pub fn put_le(t: &mut [u8], p: usize, n: usize, v: u64)
     requires { ⌜ p + n ≤ length (now t) ⌝ }

@@ -1,9 +1,9 @@
 // Zero bytes: whether there is nothing else, and writing them.
 ghost use mathlib.Core.Path.{_≡_};
 ghost use Prim.Native.Nat.{_+_, _≤_};
-ghost use lib.Dec.{eqb};
 ghost use lib.ListN.{length, drop, replicate};
-ghost use Rattle.octets.specs.Octets.{leAt, allZero, put};
+ghost use Rattle.octets.specs.Octets.{allZero, put};
+use crate::number::eight_at;
 
 // Whether every byte from place p on is zero, one byte a turn: the last few of a slice.
 fn few_zero(t: &[u8], p: usize) -> bool
@@ -20,26 +20,17 @@ fn few_zero(t: &[u8], p: usize) -> bool
     true
 }
 
-// Whether the eight bytes from place p on are zero.
-fn eight_zero(t: &[u8], p: usize) -> bool
-    requires { ⌜ p + 8 ≤ length (now t) ⌝ }
-    ensures { λ r. ⌜ r ≡ eqb (leAt 8 (now (t .entry)) p) 0 ⌝ }
-{
-    (t[p] | t[p + 1] | t[p + 2] | t[p + 3] | t[p + 4] | t[p + 5] | t[p + 6] | t[p + 7]) == 0
-}
-
-// Whether every byte is zero, eight bytes a turn.
+// Whether every byte is zero: eight bytes a turn, and then the last few.
 pub fn all_zero(t: &[u8]) -> bool
     ensures { λ r. ⌜ r ≡ allZero (now (t .entry)) ⌝ }
 {
+    let mut seen: u64 = 0;
     let mut i = 0;
     while 8 <= t.len() - i {
-        if !eight_zero(t, i) {
-            return false;
-        }
+        seen = seen | eight_at(t, i);
         i += 8;
     }
-    few_zero(t, i)
+    (seen == 0) & few_zero(t, i)
 }
 
 // Whether every byte from place p on is zero; p may lie past the end.

@@ -5,3 +5,7 @@ pub mod Walks
 pub mod Parses
 pub mod Frames
 pub mod Readings
+pub mod Taken
+pub mod Only
+pub mod Back
+pub mod Tables

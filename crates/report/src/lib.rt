@@ -1,5 +1,4 @@
 // Reports: rows of fields, their bytes, and reading them back.
-pub mod rows;
 pub mod parse;
 pub mod read;
 pub mod slots;

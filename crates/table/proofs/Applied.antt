@@ -1,26 +1,25 @@
 -- The book after a store is the book after the event, for every kind of event; heading stores leave the book alone.
 use mathlib.Core.Path.{_≡_, refl, sym, ap, _∙_}
-use mathlib.Core.Bool.{Bool, true, false, _||_}
+use mathlib.Core.Bool.{true}
 use mathlib.Core.List.{List, [], _∷_}
-use Prim.Native.Nat.{ℕ, zero, suc, _+_, _*_, _-_, _^_, _≤_, _<_}
+use Prim.Native.Nat.{ℕ, _+_, _*_, _≤_}
 use native.Mathlib.Nat.{mul-le-mul-left}
 use native.Mathlib.Omega.{arith}
-use lib.Dec.{lit≤, eqb}
-use lib.ListN.{length, getD}
+use lib.Dec.{lit≤}
+use lib.ListN.{length}
 use Rattle.octets.specs.Octets.{put, bytesOf, textBytes}
-use Rattle.octets.proofs.Places.{length-put, length-bytesOf}
+use Rattle.octets.proofs.Places.{length-bytesOf}
 use Rattle.octets.proofs.Parts.{length-textBytes}
 use Rattle.matching.specs.declared.Order.{Order}
 use Rattle.matching.specs.declared.Event.{Event}
-use Rattle.matching.specs.declared.Event.the-variants.{Accepted, Replaced, Withdrawn, Canceled, Decremented, Traded, Expired}
 use Rattle.matching.specs.Matching.{Book, at, put as putOrder, openOf, who, change, after, play, amounts, terms}
-use Rattle.matching.specs.Held.{Sound, In, May, Ready, Readies, amount, levelOf}
+use Rattle.matching.specs.Held.{Sound, May, Ready, Readies}
 use Rattle.matching.specs.Accounts.{trades}
 use Rattle.matching.specs.Happens.{moves, Fits}
 use Rattle.matching.proofs.Events.{change-is, amount-is, change-executed, change-decremented, change-canceled, change-sum}
 use Rattle.table.specs.Places.{tableBytes, recordAt}
 use Rattle.table.specs.Heading.{putNext, putWork}
-use Rattle.table.specs.Orders.{orderAt, filled, bookOf, termBytes, amountBytes, putId, putTerms, putAmounts, applied}
+use Rattle.table.specs.Orders.{orderAt, filled, bookOf, termBytes, amountBytes, putTerms, putAmounts, applied}
 use Rattle.table.specs.Changes.{played}
 use Rattle.table.proofs.Same.{Same, same-then, put-below, filled-few, book-same}
 use Rattle.table.proofs.Stores.{Amounts, Terms, length-amounts, length-terms, amounts-got, terms-got}

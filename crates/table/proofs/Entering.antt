@@ -1,30 +1,29 @@
 -- A new order is written as the next record: the table stays formed, and its book is the old one with the order added.
-use mathlib.Core.Path.{_≡_, refl, sym, ap, _∙_}
-use mathlib.Core.Bool.{Bool, true, false}
-use mathlib.Core.List.{List, [], _∷_}
+use mathlib.Core.Path.{_≡_, sym, ap, _∙_}
+use mathlib.Core.Bool.{true, false}
+use mathlib.Core.List.{List}
 use mathlib.Core.Logic.{⊎-elim}
-use Prim.Native.Nat.{ℕ, zero, suc, _+_, _*_, _-_, _≤_, _<_}
+use Prim.Native.Nat.{ℕ, suc, _+_, _*_, _-_, _≤_, _<_}
 use native.Mathlib.Omega.{arith}
-use lib.Dec.{eqb, lit≤}
-use lib.ListN.{length, getD, drop, length-take, length-drop}
+use lib.Dec.{lit≤}
+use lib.ListN.{length, getD, drop}
 use lib.Seq.{getD-drop}
-use Rattle.octets.specs.Octets.{put, partAt, textBytes, putText, sameBytes, allZero}
-use Rattle.octets.proofs.Bools.{split}
+use Rattle.octets.specs.Octets.{partAt, textBytes, sameBytes, allZero}
 use Rattle.octets.proofs.Places.{below-or, length-put}
-use Rattle.octets.proofs.Parts.{length-textBytes, text-put-first, getD-part, length-part}
+use Rattle.octets.proofs.Parts.{text-put-first, getD-part, length-part}
 use Rattle.octets.proofs.Zeros.{zero-at, zero-from}
 use Rattle.matching.specs.declared.Order.{Order}
-use Rattle.matching.specs.Matching.{Book, put as putOrder}
-use Rattle.table.specs.Places.{tableBytes, recordAt}
+use Rattle.matching.specs.Matching.{put as putOrder}
+use Rattle.table.specs.Places.{recordAt}
 use Rattle.table.specs.Heading.{isListed}
-use Rattle.table.specs.Orders.{clOrdIdAt, accountAt, capacityAt, classificationAt, orderAt, filled, bookOf, putId, accepted}
-use Rattle.table.specs.Market.{every, isPrintable, isText, restZero, isCapacity, isClass, isRecord}
+use Rattle.table.specs.Orders.{clOrdIdAt, filled, bookOf, putId, accepted}
+use Rattle.table.specs.Market.{every, isPrintable, restZero, isCapacity, isClass, isRecord}
 use Rattle.table.specs.Facts.{Named}
-use Rattle.table.proofs.Same.{Same, same-in, same-then, put-below, put-above, is-text-same, part-same, rest-same, record-parts, order-same, id-same, settings-same, spare-same, listed-same, filled-few}
+use Rattle.table.proofs.Same.{Same, same-in, same-then, put-below, is-text-same, part-same, rest-same, record-parts, order-same, id-same, settings-same, spare-same, listed-same}
 use Rattle.table.proofs.Stores.{Sized, putTexts, accepted-texts, accepted-before, accepted-behind, accepted-id, accepted-capacity, accepted-class, accepted-order}
-use Rattle.table.proofs.Books.{length-book, book-added}
+use Rattle.table.proofs.Books.{book-added}
 use Rattle.table.proofs.Texts.{is-text-put}
-use Rattle.table.proofs.Frames.{Formed, filled-byte, free-byte, filled-is, id-short}
+use Rattle.table.proofs.Frames.{Formed, filled-byte, filled-is, id-short}
 use Rattle.table.proofs.Naming.{rest-zero, zero-rest, parts-record}
 
 -- where the rest of a table is zero, so is each byte and each part of it

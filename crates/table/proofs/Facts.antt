@@ -1,10 +1,9 @@
 -- The test and the facts are the same: what isMarket says, as facts, and from the facts the test again.
-use mathlib.Core.Path.{_≡_, refl, sym, ap, _∙_}
-use mathlib.Core.Bool.{Bool, true, false, not, cond, _&&_, _||_}
+use mathlib.Core.Path.{_≡_, refl, sym}
+use mathlib.Core.Bool.{Bool, true, false, not, _&&_, _||_}
 use mathlib.Core.List.{List}
 use mathlib.Core.Logic.{⊎-elim}
 use Prim.Native.Nat.{ℕ, zero, suc, _+_, _*_, _-_, _≤_, _<_}
-use native.Mathlib.Numerals.{add-one}
 use native.Mathlib.Omega.{arith}
 use lib.Dec.{eqb, leb, ltb}
 use lib.ListN.{length, getD, List·getD-eq-default}
@@ -20,7 +19,7 @@ use Rattle.matching.specs.Held.{Sound, In, Held}
 use Rattle.matching.proofs.Books.{open-low, open-high}
 use Rattle.table.specs.Heading.{nextOf, workOf, isListed}
 use Rattle.table.specs.Orders.{clOrdIdAt, orderAt, filled, bookOf}
-use Rattle.table.specs.Market.{hasLength, hasSettings, hasNext, hasWork, hasSpare, restZero, isRecord, isRanged, isKnown, isWithin, isShut, isPriced, isOrder, hasOrders, isFreshId, hasIds, isFreshPlace, hasPlaces, isDone, noIoc, isClear, noCross, hasNumbers, isBook, isMarket}
+use Rattle.table.specs.Market.{hasLength, hasNext, hasWork, isRecord, isRanged, isKnown, isWithin, isShut, isPriced, isOrder, hasOrders, isFreshId, hasIds, isFreshPlace, hasPlaces, isDone, noIoc, isClear, noCross, hasNumbers, isBook, isMarket}
 use Rattle.table.specs.Facts.{Market}
 use Rattle.table.proofs.Books.{length-book, at-book}
 

@@ -1,24 +1,22 @@
 -- The frame of a table: all of it but the next number, what is in work, and the sides, terms and amounts of its filled
 -- records. A table with a market's frame is a market once its book is held and its work is in order.
-use mathlib.Core.Path.{_≡_, refl, sym, ap, _∙_}
-use mathlib.Core.Bool.{Bool, true, false, not, _&&_, _||_}
-use mathlib.Core.List.{List, [], _∷_}
+use mathlib.Core.Path.{_≡_, refl, sym, _∙_}
+use mathlib.Core.Bool.{true, false}
+use mathlib.Core.List.{List}
 use mathlib.Core.Logic.{⊎-elim}
-use Prim.Native.Nat.{ℕ, zero, suc, _+_, _*_, _-_, _≤_, _<_}
+use Prim.Native.Nat.{ℕ, _+_, _*_, _-_, _≤_, _<_}
 use native.Mathlib.Omega.{arith}
-use lib.Dec.{eqb, leb, lit≤}
-use lib.ListN.{length, getD, drop}
+use lib.Dec.{lit≤}
+use lib.ListN.{length, getD}
 use borrow.Author.Tests.{leb-true, eqb-true, eqb-false, eq-eqb, ne-eqb}
-use Rattle.octets.specs.Octets.{put, textBytes, sameBytes, allZero}
+use Rattle.octets.specs.Octets.{put, sameBytes}
 use Rattle.octets.proofs.Bools.{both-l, both-r}
 use Rattle.octets.proofs.Places.{below-or}
-use Rattle.octets.proofs.Zeros.{zero-at}
-use Rattle.matching.specs.declared.Order.{Order}
 use Rattle.matching.specs.Held.{Held}
 use Rattle.table.specs.Places.{tableBytes, recordAt}
 use Rattle.table.specs.Heading.{nextOf, workOf, isListed}
 use Rattle.table.specs.Orders.{clOrdIdAt, orderAt, isFree, filled, bookOf}
-use Rattle.table.specs.Market.{isPrintable, isText, hasSettings, hasWork, hasSpare, restZero, isRecord}
+use Rattle.table.specs.Market.{isText, hasSettings, hasWork, hasSpare, restZero, isRecord}
 use Rattle.table.specs.Facts.{Market}
 use Rattle.table.proofs.Searches.{first-before, first-is, first-holds}
 use Rattle.table.proofs.Same.{Same, same-in, same-then, put-below, put-above, order-same, record-parts, rest-same, id-same, settings-same, spare-same, listed-same, filled-few}

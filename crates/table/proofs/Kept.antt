@@ -1,31 +1,30 @@
 -- A market stays a market: one step of the order in work, a report about no order, a requested cancel, a replacement and a
 -- new order each leave a market, with the numbers that they use.
 use mathlib.Core.Path.{_≡_, refl, sym, ap, _∙_, subst}
-use mathlib.Core.Bool.{Bool, true, false, cond}
+use mathlib.Core.Bool.{true}
 use mathlib.Core.List.{List, [], _∷_}
-use Prim.Native.Nat.{ℕ, zero, suc, _+_, _*_, _^_, _≤_, _<_}
+use Prim.Native.Nat.{ℕ, suc, _+_, _*_, _≤_, _<_}
 use native.Mathlib.Omega.{arith}
 use lib.Dec.{eqb, lit≤}
-use lib.ListN.{length, getD}
+use lib.ListN.{length}
 use borrow.Author.Tests.{eqb-true, eqb-false, leb-true, ltb-true}
-use Rattle.octets.specs.Octets.{put, bytesOf, textBytes}
+use Rattle.octets.specs.Octets.{bytesOf, textBytes}
 use Rattle.octets.specs.Tests.{allUpTo}
 use Rattle.octets.proofs.Bools.{split, both-l, both-r, or-r}
 use Rattle.octets.proofs.Ranges.{all-at}
-use Rattle.octets.proofs.Places.{length-put, length-bytesOf}
+use Rattle.octets.proofs.Places.{length-bytesOf}
 use Rattle.octets.proofs.Parts.{length-textBytes}
 use Rattle.decimal.specs.Reading.{isTime}
 use Rattle.matching.specs.declared.Order.{Order}
 use Rattle.matching.specs.declared.Event.{Event}
 use Rattle.matching.specs.declared.Event.the-variants.{Accepted, Replaced, Withdrawn}
-use Rattle.matching.specs.Matching.{Book, at, put as putOrder, openOf, who, change, after, play, partner, happens, bookAfter, workAfter}
-use Rattle.matching.specs.Held.{Sound, In, Held, Ready, Readies, Enters, Renews}
-use Rattle.matching.specs.Happens.{moves, Fits}
+use Rattle.matching.specs.Matching.{Book, at, put as putOrder, openOf, change, after, partner, happens, bookAfter, workAfter}
+use Rattle.matching.specs.Held.{In, Held, Ready, Enters, Renews}
 use Rattle.matching.proofs.Steps.{happens-fits}
 use Rattle.matching.proofs.Holding.{step-ready, step-held}
 use Rattle.matching.proofs.Requests.{later-held, accepted-held, replaced-held, withdrawn-fits, withdrawn-held}
 use Rattle.table.specs.Places.{tableBytes}
-use Rattle.table.specs.Heading.{nextOf, workOf, mpidAt, entries, entryOf, modeOf, isListed, putNext, putWork, endWork}
+use Rattle.table.specs.Heading.{nextOf, workOf, mpidAt, entries, entryOf, modeOf, isListed, putNext, putWork}
 use Rattle.table.specs.Orders.{orderAt, filled, bookOf, termBytes, putId, putTerms, putAmounts, applied, withdrawn, replaced, accepted}
 use Rattle.table.specs.Market.{every, isPrintable, isEntry, hasList, hasSettings, hasWork, isCapacity, isClass}
 use Rattle.table.specs.Facts.{Market, Named}
@@ -38,7 +37,7 @@ use Rattle.table.proofs.Frames.{Framed, framed-long, framed-filled, fra
 use Rattle.table.proofs.Applied.{Played, all-played, fits-move, heading-applied, framed-applied, book-applied, framed-terms, book-terms, book-next, book-work, sound-amounts}
 use Rattle.table.proofs.Naming.{named-formed, named-heading, named-book, named-order, named-filled, named-listed}
 use Rattle.table.proofs.Entering.{entered-formed, entered-heading, entered-filled, entered-book, entered-listed}
-use Rattle.table.proofs.Working.{work-low, has-work-kept, has-work-put, has-work-end, time-short}
+use Rattle.table.proofs.Working.{has-work-kept, has-work-put, has-work-end, time-short}
 
 -- ---- the next number
 

@@ -10,8 +10,10 @@ pub mod Listed
 pub mod Frames
 pub mod Applied
 pub mod Texts
+pub mod Events
 pub mod Working
 pub mod Naming
 pub mod Entering
+pub mod Settings
 pub mod Kept
-pub mod Computed
+pub mod Opens

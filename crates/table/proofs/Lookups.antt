@@ -3,22 +3,21 @@
 use mathlib.Core.Path.{_≡_, refl, sym, ap, _∙_}
 use mathlib.Core.Bool.{Bool, true, false, cond, _&&_, _||_}
 use mathlib.Core.List.{List}
-use Prim.Native.Nat.{ℕ, zero, suc, _+_, _-_, _*_, _≤_, _<_}
+use Prim.Native.Nat.{ℕ, suc, _+_, _≤_, _<_}
 use native.Mathlib.Nat.{add-zero}
 use native.Mathlib.Numerals.{add-one}
 use native.Mathlib.Omega.{arith}
-use lib.Dec.{eqb, ltb}
-use lib.ListN.{length, getD}
-use borrow.Author.Tests.{eq-eqb, ne-eqb, lt-ltb, le-ltb, ltb-true, ltb-false}
+use lib.Dec.{eqb}
+use lib.ListN.{length}
+use borrow.Author.Tests.{ne-eqb, lt-ltb, le-ltb}
 use Rattle.octets.specs.Octets.{sameBytes}
 use Rattle.octets.specs.Tests.{firstFrom}
 use Rattle.octets.proofs.Bools.{split}
 use Rattle.octets.proofs.Ranges.{Sought, sought-here, sought-end}
 use Rattle.matching.specs.declared.Order.{Order}
 use Rattle.matching.specs.Matching.{Book, at, faces, better, choose, best, opposed, sumOver, countOf}
-use Rattle.matching.specs.Held.{Sound, In, Held, Covered}
-use Rattle.table.specs.Places.{tableBytes, recordAt}
-use Rattle.table.specs.Orders.{clOrdIdAt, orderAt, isFree, filled, bookOf, idIndex, recordWith}
+use Rattle.matching.specs.Held.{Sound, Covered}
+use Rattle.table.specs.Orders.{clOrdIdAt, orderAt, filled, bookOf, idIndex, recordWith}
 use Rattle.table.specs.Facts.{Market}
 use Rattle.table.proofs.Same.{filled-few}
 use Rattle.table.proofs.Books.{length-book, at-book}

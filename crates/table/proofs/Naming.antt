@@ -1,26 +1,26 @@
 -- A record takes a new ClOrdID: the table stays formed if the ClOrdID is good and no order has it.
-use mathlib.Core.Path.{_≡_, refl, sym, ap, _∙_}
-use mathlib.Core.Bool.{Bool, true, false, _&&_, _||_}
-use mathlib.Core.List.{List, [], _∷_}
+use mathlib.Core.Path.{_≡_, sym, ap, _∙_}
+use mathlib.Core.Bool.{true, false}
+use mathlib.Core.List.{List}
 use mathlib.Core.Logic.{⊎-elim}
-use Prim.Native.Nat.{ℕ, zero, suc, _+_, _*_, _≤_, _<_}
+use Prim.Native.Nat.{ℕ, _+_, _*_, _≤_, _<_}
 use native.Mathlib.Omega.{arith}
 use lib.Dec.{eqb, lit≤}
 use lib.ListN.{length, getD, drop}
-use borrow.Author.Tests.{eqb-true, eqb-false, ltb-true, ltb-false}
-use Rattle.octets.specs.Octets.{put, partAt, textBytes, putText, sameBytes, allZero}
+use borrow.Author.Tests.{eqb-true, eqb-false}
+use Rattle.octets.specs.Octets.{partAt, textBytes, sameBytes, allZero}
 use Rattle.octets.proofs.Bools.{split, both-i, both-l, both-r}
-use Rattle.octets.proofs.Places.{below-or, length-put}
-use Rattle.octets.proofs.Parts.{length-textBytes, text-put-first, same-is, same-not, not-same}
-use Rattle.table.specs.Places.{tableBytes, recordAt}
-use Rattle.table.specs.Heading.{nextOf, workOf, isListed}
+use Rattle.octets.proofs.Places.{below-or}
+use Rattle.octets.proofs.Parts.{length-textBytes, text-put-first, same-not, not-same}
+use Rattle.table.specs.Places.{recordAt}
+use Rattle.table.specs.Heading.{isListed}
 use Rattle.table.specs.Orders.{clOrdIdAt, capacityAt, classificationAt, orderAt, filled, bookOf, putId}
-use Rattle.table.specs.Market.{every, isPrintable, isText, restZero, isCapacity, isClass, isRecord}
+use Rattle.table.specs.Market.{isPrintable, isText, restZero, isCapacity, isClass, isRecord}
 use Rattle.table.specs.Facts.{Named}
 use Rattle.table.proofs.Same.{Same, same-in, put-below, put-above, is-text-same, part-same, rest-same, record-parts, order-same, id-same, settings-same, spare-same, listed-same, filled-few, book-same}
 use Rattle.table.proofs.Stores.{id-got, id-keeps}
 use Rattle.table.proofs.Texts.{is-text-put}
-use Rattle.table.proofs.Frames.{Formed, filled-byte, free-byte, filled-is, id-short, order-elsewhere}
+use Rattle.table.proofs.Frames.{Formed, filled-byte, free-byte, filled-is, id-short}
 
 -- the same bytes, either way round
 pub same-flip : (xs ys : List ℕ) → sameBytes xs ys ≡ false → sameBytes ys xs ≡ false

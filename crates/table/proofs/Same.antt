@@ -1,27 +1,24 @@
 -- What is read of a table depends on the bytes it is read from: two tables that agree on those bytes agree on it. From this
 -- and from what a put leaves alone, every law of the kind "this write does not touch that field" follows.
 use mathlib.Core.Path.{_≡_, refl, sym, ap, _∙_}
-use mathlib.Core.Bool.{Bool, true, false, not, cond, _&&_, _||_}
-use mathlib.Core.List.{List, [], _∷_}
-use mathlib.Core.Logic.{⊎-elim, _⊎_, inl, inr}
+use mathlib.Core.Bool.{Bool, true, false, not}
+use mathlib.Core.List.{List}
+use mathlib.Core.Logic.{⊎-elim}
 use Prim.Native.Nat.{ℕ, zero, suc, _+_, _*_, _-_, _≤_, _<_, min}
-use native.Mathlib.Nat.{add-assoc}
 use native.Mathlib.Omega.{arith}
-use lib.Dec.{eqb, leb, ltb, lit≤}
+use lib.Dec.{eqb, leb, lit≤}
 use lib.ListN.{length, getD, take, drop, length-take, length-drop}
 use lib.Seq.{ext-getD, getD-take, getD-drop}
-use borrow.Author.Tests.{leb-true, leb-false, ltb-true}
-use Rattle.octets.specs.Octets.{leAt, put, partAt, textAt, sameBytes, allZero}
-use Rattle.octets.specs.Tests.{allUpTo, firstFrom}
-use Rattle.octets.proofs.Bools.{split, both-not-l, both-not-r}
+use borrow.Author.Tests.{leb-true, ltb-true}
+use Rattle.octets.specs.Octets.{leAt, put, partAt, textAt}
+use Rattle.octets.specs.Tests.{allUpTo}
+use Rattle.octets.proofs.Bools.{split, both-not-r}
 use Rattle.octets.proofs.Places.{leAt-ext, getD-put-below, getD-put-above, below-or, length-put}
-use Rattle.decimal.specs.Reading.{isDigit, isTime}
-use Rattle.matching.specs.declared.Order.{Order}
-use Rattle.matching.specs.Matching.{Book}
-use Rattle.table.specs.Places.{tableBytes, recordAt}
-use Rattle.table.specs.Heading.{venueOf, portOf, codeOf, nextOf, workOf, stampOf, mpidAt, modeAt, entries, entryOf, isListed, modeOf}
-use Rattle.table.specs.Orders.{clOrdIdAt, accountAt, capacityAt, classificationAt, orderAt, isFree, filled, ordersFrom, bookOf}
-use Rattle.table.specs.Market.{every, isGraphic, isPrintable, isPadded, isText, hasNames, isEntry, hasList, hasSettings, hasWork, hasSpare, restZero, isRecord, isKnown}
+use Rattle.decimal.specs.Reading.{isDigit}
+use Rattle.table.specs.Places.{recordAt}
+use Rattle.table.specs.Heading.{nextOf, workOf, mpidAt, modeAt, entries, entryOf, isListed, modeOf}
+use Rattle.table.specs.Orders.{clOrdIdAt, orderAt, isFree, filled, ordersFrom, bookOf}
+use Rattle.table.specs.Market.{isGraphic, isPrintable, isPadded, isText, hasNames, isEntry, hasList, hasSettings, hasSpare, isRecord, isKnown}
 use Rattle.table.proofs.Searches.{all-ext, first-ext, first-high}
 
 -- two tables are of one length and agree on the bytes from p up to e

@@ -1,22 +1,19 @@
 -- What stands in a table after a store: what was stored, at its place, and everything else as it was.
 use mathlib.Core.Path.{_≡_, refl, sym, ap, _∙_}
-use mathlib.Core.Bool.{Bool, true, false}
 use mathlib.Core.List.{List, [], _∷_, _++_}
-use mathlib.Core.Logic.{⊎-elim, _⊎_, inl, inr}
-use Prim.Native.Nat.{ℕ, zero, suc, _+_, _*_, _-_, _^_, _≤_, _<_}
+use Prim.Native.Nat.{ℕ, _+_, _*_, _^_, _≤_, _<_}
 use native.Mathlib.Omega.{arith}
-use native.Mathlib.Nat.{add-assoc}
 use lib.Dec.{lit≤, lit<}
 use lib.ListN.{length, getD, length-append}
-use Rattle.octets.specs.Octets.{leAt, bytesOf, put, partAt, textAt, textBytes, putText}
-use Rattle.octets.proofs.Places.{length-put, length-bytesOf, get-part, get-put, put-put, getD-put-in, getD-put-below, getD-put-above, leAt-in, leAt-below, leAt-above, below-or}
-use Rattle.octets.proofs.Parts.{length-textBytes, text-put, text-put-first, text-put-padding}
+use Rattle.octets.specs.Octets.{leAt, bytesOf, put, textBytes, putText}
+use Rattle.octets.proofs.Places.{length-put, get-part, get-put, put-put, getD-put-in, getD-put-below, leAt-below, leAt-above}
+use Rattle.octets.proofs.Parts.{length-textBytes, text-put, text-put-first}
 use Rattle.matching.specs.declared.Order.{Order}
 use Rattle.matching.specs.Matching.{amounts, terms}
 use Rattle.table.specs.Places.{recordAt}
 use Rattle.table.specs.Heading.{nextOf, workOf, stampOf, putNext, putWork}
-use Rattle.table.specs.Orders.{clOrdIdAt, accountAt, capacityAt, classificationAt, orderAt, filled, bookOf, termBytes, amountBytes, fieldBytes, recordOf, accepted, putId, putTerms, putAmounts}
-use Rattle.table.proofs.Same.{Same, same-in, same-then, put-below, put-above, le-same, text-same, order-same, id-same}
+use Rattle.table.specs.Orders.{clOrdIdAt, accountAt, capacityAt, classificationAt, orderAt, termBytes, amountBytes, fieldBytes, recordOf, accepted, putId, putTerms, putAmounts}
+use Rattle.table.proofs.Same.{Same, same-in, same-then, put-below, put-above, text-same, order-same, id-same}
 
 -- the amounts are of their width, and so are the terms
 pub record Amounts (o : Order) : Type 0 where

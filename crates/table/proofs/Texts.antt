@@ -1,13 +1,12 @@
 -- A text that was put is a good text: of its length, with its characters, and zeros behind it.
-use mathlib.Core.Path.{_≡_, refl, sym, ap, _∙_}
-use mathlib.Core.Bool.{Bool, true, false, _&&_}
-use mathlib.Core.List.{List, [], _∷_}
-use Prim.Native.Nat.{ℕ, _+_, _-_, _≤_, _<_}
-use native.Mathlib.Omega.{arith}
+use mathlib.Core.Path.{_≡_}
+use mathlib.Core.Bool.{Bool, true}
+use mathlib.Core.List.{List}
+use Prim.Native.Nat.{ℕ, _+_, _-_, _≤_}
 use lib.Dec.{leb}
-use lib.ListN.{length, getD, replicate}
+use lib.ListN.{length, getD}
 use borrow.Author.Tests.{leb-true, le-leb}
-use Rattle.octets.specs.Octets.{put, partAt, textAt, putText, allZero}
+use Rattle.octets.specs.Octets.{textAt, putText}
 use Rattle.octets.proofs.Bools.{both-i, both-l, both-r}
 use Rattle.octets.proofs.Parts.{text-put, text-put-first, text-put-padding}
 use Rattle.octets.proofs.Zeros.{zero-replicate}

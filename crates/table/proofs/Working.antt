@@ -1,17 +1,17 @@
 -- What is in work: the clause of a market about it, kept by stores elsewhere and made by putting an order in work or ending
 -- the work.
-use mathlib.Core.Path.{_≡_, refl, sym, ap, _∙_}
-use mathlib.Core.Bool.{Bool, true, false, cond, _&&_}
-use mathlib.Core.List.{List, [], _∷_, _++_}
-use Prim.Native.Nat.{ℕ, zero, suc, _+_, _-_, _≤_, _<_, min}
+use mathlib.Core.Path.{_≡_, sym, _∙_}
+use mathlib.Core.Bool.{true, _&&_}
+use mathlib.Core.List.{List, [], _∷_}
+use Prim.Native.Nat.{ℕ, _≤_}
 use native.Mathlib.Omega.{arith}
 use lib.Dec.{eqb, leb, lit≤}
-use lib.ListN.{length, getD, drop, replicate, length-take, length-drop}
+use lib.ListN.{length, getD, drop, length-take, length-drop}
 use borrow.Author.Tests.{leb-true, le-leb, eqb-true, eqb-false, eq-eqb, ne-eqb}
 use Rattle.octets.specs.Octets.{put, partAt, textAt, textBytes, putText, allZero}
 use Rattle.octets.proofs.Bools.{split, both-i, both-l, both-r}
 use Rattle.octets.proofs.Places.{length-put, put-put}
-use Rattle.octets.proofs.Parts.{length-textBytes, text-put-first, text-put-padding, part-in}
+use Rattle.octets.proofs.Parts.{part-in}
 use Rattle.octets.proofs.Zeros.{zero-replicate}
 use Rattle.decimal.specs.Reading.{isTime, isTimeLength, timeShaped}
 use Rattle.table.specs.Places.{tableBytes}

@@ -1,17 +1,15 @@
 -- Parts of a record written one after the other are the record's bytes: one law for each function that writes them.
-use mathlib.Core.Path.{_≡_, refl, sym, ap, _∙_}
-use mathlib.Core.List.{List, [], _∷_, _++_, append-assoc}
+use mathlib.Core.Path.{_≡_, refl, ap, _∙_}
+use mathlib.Core.List.{List, [], _∷_, _++_}
 use Prim.Native.Nat.{ℕ, suc, _+_, _*_, _≤_, _<_}
 use native.Mathlib.Omega.{arith}
 use lib.ListN.{length, set, replicate, length-set}
 use Rattle.octets.specs.Octets.{bytesOf, put, textBytes, putText}
-use Rattle.octets.proofs.Places.{then-put, length-bytesOf, length-put, put-put}
-use Rattle.octets.proofs.Parts.{length-textBytes}
+use Rattle.octets.proofs.Places.{then-put, length-bytesOf, length-put}
 use Rattle.matching.specs.declared.Order.{Order}
-use Rattle.table.specs.Places.{recordAt}
 use Rattle.table.specs.Heading.{putWork, endWork}
-use Rattle.table.specs.Orders.{termBytes, amountBytes, fieldBytes, putId, accepted}
-use Rattle.table.proofs.Stores.{length-terms, length-amounts, length-fields, accepted-parts}
+use Rattle.table.specs.Orders.{termBytes, amountBytes, fieldBytes, accepted}
+use Rattle.table.proofs.Stores.{length-terms, accepted-parts}
 
 -- three runs of bytes, and four
 three : (t t1 t2 t3 : List ℕ) (p q r : ℕ) (xs ys zs : List ℕ) → t1 ≡ put t p xs → t2 ≡ put t1 q ys → t3 ≡ put t2 r zs

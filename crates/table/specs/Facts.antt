@@ -6,7 +6,9 @@ use mathlib.Core.List.{List}
 use Prim.Native.Nat.{ℕ, _≤_, _<_}
 use lib.ListN.{length}
 use Rattle.octets.specs.Octets.{sameBytes}
-use Rattle.matching.specs.Held.{Held}
+use Rattle.matching.specs.declared.Event.{Event}
+use Rattle.matching.specs.Matching.{who}
+use Rattle.matching.specs.Held.{Held, Ready}
 use Rattle.table.specs.Places.{tableBytes}
 use Rattle.table.specs.Heading.{nextOf, workOf, isListed}
 use Rattle.table.specs.Orders.{clOrdIdAt, filled, bookOf}
@@ -30,3 +32,9 @@ pub record Named (t clOrdId : List ℕ) : Type 0 where
   pub short : length clOrdId ≤ 32
   pub printable : every isPrintable clOrdId ≡ true
   pub fresh : (i : ℕ) → 1 ≤ i → i ≤ filled t → sameBytes (clOrdIdAt t i) clOrdId ≡ false
+
+-- event e can happen to record k of the table
+pub record Due (t : List ℕ) (k : ℕ) (e : Event) : Type 0 where
+  pub long : length t ≡ tableBytes
+  pub whose : k ≡ who e
+  pub ready : Ready (bookOf t) e

@@ -2,9 +2,9 @@
 -- The places that the paper leaves to the team are decided here: bytes that nothing uses are zero, and so is the room
 -- behind a text; the order in work is a filled record; while one is in work its 52 is a time, and otherwise zeros; OrderQty
 -- and place are at least 1. Assumes nothing: any list of bytes is a market or is not.
-use mathlib.Core.Bool.{Bool, true, false, not, cond, _&&_, _||_}
+use mathlib.Core.Bool.{Bool, true, not, cond, _&&_, _||_}
 use mathlib.Core.List.{List, [], _∷_}
-use Prim.Native.Nat.{ℕ, zero, suc, _+_, _*_, _-_}
+use Prim.Native.Nat.{ℕ, suc, _+_, _*_, _-_}
 use lib.Dec.{eqb, leb, ltb}
 use lib.ListN.{length, getD, drop}
 use Rattle.octets.specs.Octets.{partAt, textAt, sameBytes, allZero}
@@ -14,7 +14,7 @@ use Rattle.matching.specs.declared.Order.{Order}
 use Rattle.matching.specs.Matching.{Book, at, openOf, isOpen, isBuy, crosses, opposedTo}
 use Rattle.table.specs.Places.{tableBytes, venueByte, portByte, idRoom, codeByte, codeRoom, stampByte, stampRoom, spareByte, mpidsByte, modesByte, mostMpids, headingEnd, headingSpare, recordAt, clOrdIdRoom, accountByte, accountRoom, recordEnd, recordSpare}
 use Rattle.table.specs.Heading.{nextOf, workOf, stampOf, mpidAt, modeAt, entries, isListed}
-use Rattle.table.specs.Orders.{clOrdIdAt, accountAt, capacityAt, classificationAt, orderAt, filled, bookOf}
+use Rattle.table.specs.Orders.{clOrdIdAt, capacityAt, classificationAt, orderAt, filled, bookOf}
 
 -- ---- texts
 
@@ -23,12 +23,16 @@ unfoldable pub every : (ℕ → Bool) → List ℕ → Bool
 every f [] = true
 every f (x ∷ xs) = f x && every f xs
 
+-- a byte from low to high
+abbrev pub isBetween : ℕ → ℕ → ℕ → Bool
+isBetween low high x = leb low x && leb x high
+
 -- a character of a venue or port id, 21 to 7E hex, and one of a ClOrdID or an account, 20 to 7E hex
 abbrev pub isGraphic : ℕ → Bool
-isGraphic x = leb 33 x && leb x 126
+isGraphic x = isBetween 33 126 x
 
 abbrev pub isPrintable : ℕ → Bool
-isPrintable x = leb 32 x && leb x 126
+isPrintable x = isBetween 32 126 x
 
 -- zeros stand behind the text at place p, up to its room for n characters
 unfoldable pub isPadded : ℕ → List ℕ → ℕ → Bool

@@ -1,9 +1,9 @@
 -- What opening does (document 01, "The table and its calls", Open and refusal 9): the settings it takes, the table it
 -- writes, and its answer. The MPIDs and their modes are two lists of numbers, one entry of the one for one of the other. What
 -- was in the table before is not looked at. Assumes nothing.
-use mathlib.Core.Bool.{Bool, true, false, not, cond, _&&_}
-use mathlib.Core.List.{List, [], _∷_}
-use Prim.Native.Nat.{ℕ, _+_, _*_}
+use mathlib.Core.Bool.{Bool, not, cond, _&&_}
+use mathlib.Core.List.{List}
+use Prim.Native.Nat.{ℕ}
 use lib.Dec.{eqb, leb}
 use lib.ListN.{length, getD, replicate}
 use Rattle.octets.specs.Tests.{allUpTo}
@@ -12,15 +12,19 @@ use Rattle.table.specs.Places.{tableBytes, idRoom, codeRoom, mostMpids}
 use Rattle.table.specs.Heading.{putVenue, putPort, putCode, putNext, putMpids, putModes}
 use Rattle.table.specs.Market.{every, isGraphic}
 
--- low to high characters, of which each passes the test
+-- 1 to high characters, of which each passes the test
 unfoldable pub isName : (ℕ → Bool) → ℕ → List ℕ → Bool
 isName f high xs = leb 1 (length xs) && leb (length xs) high && every f xs
+
+-- the MPID of entry k is that of no entry before it
+unfoldable pub isNew : List ℕ → ℕ → Bool
+isNew mpids k = allUpTo (λ j. not (eqb (getD mpids j 0) (getD mpids k 0))) k
 
 -- entry k of the lists: an MPID 1 to 999,999 that none before it has, and a mode 1, 2 or 3
 unfoldable pub isGiven : List ℕ → List ℕ → ℕ → Bool
 isGiven mpids modes k =
     leb 1 (getD mpids k 0) && leb (getD mpids k 0) 999999 && leb 1 (getD modes k 0) && leb (getD modes k 0) 3
-    && allUpTo (λ j. not (eqb (getD mpids j 0) (getD mpids k 0))) k
+    && isNew mpids k
 
 -- 1 to 8 MPIDs, each with its mode
 unfoldable pub areGiven : List ℕ → List ℕ → Bool
@@ -28,16 +32,22 @@ areGiven mpids modes =
     leb 1 (length mpids) && leb (length mpids) mostMpids && eqb (length modes) (length mpids)
     && allUpTo (isGiven mpids modes) (length mpids)
 
--- venue and port have 1 to 8 characters from 21 to 7E hex, the code 1 to 9 digits, the first number is 1 to 999,999,999
+-- venue and port have 1 to 8 characters from 21 to 7E hex, the code 1 to 9 digits
+unfoldable pub areNames : List ℕ → List ℕ → List ℕ → Bool
+areNames venue port code = isName isGraphic idRoom venue && isName isGraphic idRoom port && isName isDigit codeRoom code
+
+-- the settings are good; the first number is 1 to 999,999,999
 unfoldable pub areSettings : List ℕ → List ℕ → List ℕ → ℕ → List ℕ → List ℕ → Bool
 areSettings venue port code first mpids modes =
-    isName isGraphic idRoom venue && isName isGraphic idRoom port && isName isDigit codeRoom code
-    && leb 1 first && leb first 999999999 && areGiven mpids modes
+    areNames venue port code && leb 1 first && leb first 999999999 && areGiven mpids modes
+
+-- a table of zeros with venue, port and code
+unfoldable pub namedTable : List ℕ → List ℕ → List ℕ → List ℕ
+namedTable venue port code = putCode (putPort (putVenue (replicate tableBytes 0) venue) port) code
 
 -- the whole table as it is opened: the settings and the first number, all else zero
 unfoldable pub freshTable : List ℕ → List ℕ → List ℕ → ℕ → List ℕ → List ℕ → List ℕ
-freshTable venue port code first mpids modes =
-    putModes (putMpids (putNext (putCode (putPort (putVenue (replicate tableBytes 0) venue) port) code) first) mpids) modes
+freshTable venue port code first mpids modes = putModes (putMpids (putNext (namedTable venue port code) first) mpids) modes
 
 module _ (t venue port code : List ℕ) (first : ℕ) (mpids modes : List ℕ) where
   -- opening is taken exactly if the table's length and every setting are right

@@ -1,5 +1,7 @@
 // The table of a market: its heading, its list of MPIDs, its orders, lookups in it, and opening.
 pub mod book;
 pub mod entries;
+pub mod event;
 pub mod heading;
+pub mod opening;
 pub mod record;

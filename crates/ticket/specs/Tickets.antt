@@ -12,23 +12,28 @@ use Rattle.table.specs.Places.{recordAt, venueByte, portByte, codeByte, stampBy
 use Rattle.table.specs.Heading.{workOf}
 use Rattle.table.specs.Orders.{capacityAt, classificationAt, orderAt}
 use Rattle.report.specs.declared.Place.{Place}
+use Rattle.report.specs.declared.Value.{Value}
+use Rattle.report.specs.declared.Value.the-variants.{Absent, Stored}
 use Rattle.report.specs.declared.Field.{Field}
-use Rattle.report.specs.declared.rows.Stamp.{Stamp}
-use Rattle.report.specs.declared.rows.Shown.{Shown}
-use Rattle.report.specs.declared.rows.Fill.{Fill}
-use Rattle.report.specs.declared.rows.Refused.{Refused}
-use Rattle.report.specs.declared.rows.Unchanged.{Unchanged}
-use Rattle.report.specs.declared.rows.Faulty.{Faulty}
+use Rattle.rows.specs.declared.Stamp.{Stamp}
+use Rattle.rows.specs.declared.Shown.{Shown}
+use Rattle.rows.specs.declared.Fill.{Fill}
+use Rattle.rows.specs.declared.Refused.{Refused}
+use Rattle.rows.specs.declared.Unchanged.{Unchanged}
+use Rattle.rows.specs.declared.Faulty.{Faulty}
 use Rattle.report.specs.Fields.{rowBytes}
 use Rattle.report.specs.Frame.{reportBytes}
-use Rattle.report.specs.Rows.{noText, requested, prevented, decremented, expired, statusOf, acceptedRow, replacedRow, canceledRow, tradeRow, rejectedRow, cancelRejectRow, sessionRejectRow}
+use Rattle.rows.specs.Rows.{text, requested, prevented, decremented, expired, statusOf, acceptedRow, replacedRow, canceledRow, tradeRow, rejectedRow, cancelRejectRow, sessionRejectRow}
 use Rattle.ticket.specs.declared.Cause.{Cause}
 
 -- ---- what the table keeps
 
--- where the text stands whose length byte is at place p of the table
-abbrev pub textPlace : List ℕ → ℕ → Place
-textPlace t p = record { sent = false; start = p + 1; length = getD t p 0 }
+-- the text whose length byte is at place p of the table; no value where it is empty
+abbrev pub storedAt : List ℕ → ℕ → Value
+storedAt t p = Stored (p + 1) (getD t p 0)
+
+unfoldable pub orStoredAt : List ℕ → ℕ → Value
+orStoredAt t p = cond (eqb (getD t p 0) 0) Absent (storedAt t p)
 
 -- what 37 calls the order of record i: its number
 abbrev pub orderIdAt : List ℕ → ℕ → ℕ
@@ -36,7 +41,7 @@ orderIdAt t i = i
 
 -- what report number n starts with, caused by a message with this 52
 unfoldable pub stampOn : List ℕ → ℕ → Place → Stamp
-stampOn t n time = record { number = n; time = time; venue = textPlace t venueByte; port = textPlace t portByte }
+stampOn t n time = record { number = n; time = text time; venue = storedAt t venueByte; port = storedAt t portByte }
 
 -- the order of record i as it is reported
 unfoldable pub shownOn : List ℕ → ℕ → Shown
@@ -46,16 +51,17 @@ shownOn t i =
       order = orderAt t i;
       capacity = capacityAt t i;
       class = classificationAt t i;
-      code = textPlace t codeByte;
-      id = textPlace t (recordAt i);
-      account = textPlace t (recordAt i + accountByte);
+      code = storedAt t codeByte;
+      id = storedAt t (recordAt i);
+      account = orStoredAt t (recordAt i + accountByte);
     }
 
 -- ---- the causing message: where its 52 and its 41 stand
 
 -- while Run works: the 52 that the heading keeps; no message is at hand
 abbrev pub keptCause : List ℕ → Cause
-keptCause t = record { time = textPlace t stampByte; orig = noText }
+keptCause t =
+    record { time = record { sent = false; start = stampByte + 1; length = getD t stampByte 0 }; orig = record { sent = false; start = 0; length = 0 } }
 
 -- ---- a trade
 
@@ -74,8 +80,8 @@ fillOn t n i other quantity level =
 
 unfoldable pub rowOf : List ℕ → ℕ → Cause → Event → List Field
 rowOf t n c (Accepted i o) = acceptedRow (stampOn t n (c .time)) (shownOn t i)
-rowOf t n c (Replaced i l q p) = replacedRow (stampOn t n (c .time)) (shownOn t i) (requested (c .orig))
-rowOf t n c (Withdrawn i q) = canceledRow (stampOn t n (c .time)) (shownOn t i) (requested (c .orig))
+rowOf t n c (Replaced i l q p) = replacedRow (stampOn t n (c .time)) (shownOn t i) (requested (text (c .orig)))
+rowOf t n c (Withdrawn i q) = canceledRow (stampOn t n (c .time)) (shownOn t i) (requested (text (c .orig)))
 rowOf t n c (Canceled i q) = canceledRow (stampOn t n (c .time)) (shownOn t i) prevented
 rowOf t n c (Decremented i q) = replacedRow (stampOn t n (c .time)) (shownOn t i) (decremented (shownOn t i))
 rowOf t n c (Traded i m q l) = tradeRow (stampOn t n (c .time)) (shownOn t i) (fillOn t n i m q l)

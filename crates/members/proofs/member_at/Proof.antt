@@ -1,7 +1,7 @@
 -- `members::member_at` meets its contract: a walk of its MIR, by hand. The place of `members[i]` is 16 bytes for each member before it past the slice's pointer; the slice is looked into, the member there is copied, and the slice is shut again.
 -- The code has no check of the bound: it is the contract's to ask.
 -- Assumes nothing.
-use mathlib.Core.Path.{_≡_, refl, sym}
+use mathlib.Core.Path.{refl, sym}
 use Prim.Native.Nat.{ℕ, _*_, _<_, _^_}
 use native.Mathlib.Omega.{arith}
 use mathlib.Core.List.{List, [], _∷_}
@@ -24,7 +24,7 @@ use types.Run.{look, look-raw, init, forget, stop, hop, fld, from, load, lit, of
 use sound.WpLaws.{WpFn-mono}
 use denote.RattleType.{owns}
 use denote.Laws.{Is, shows}
-use denote.Plain.{uint-vals, uint-tells, uint-makes}
+use denote.Plain.{uint-vals, uint-tells}
 use denote.Builtin.{usize}
 use denote.Ref.{RefT}
 use denote.Slice.{sliceVal, ShrSlice, Room, slice-vals, shr-slice-tells}

@@ -3,7 +3,6 @@
 -- Assumes nothing.
 use mathlib.Core.Path.{_≡_, refl, sym, ap, _∙_, subst}
 use Prim.Native.Nat.{ℕ, zero, suc, _+_, _<_, _^_, min}
-use native.Mathlib.Nat.{lt-irrefl}
 use native.Mathlib.Omega.{arith}
 use mathlib.Core.Bool.{Bool, true, false}
 use mathlib.Core.List.{List, [], _∷_}
@@ -39,7 +38,7 @@ use denote.Steps.{only, owned, nothing}
 use denote.Struct.Laws as LL
 use denote.Triple.Entry.{alive, onEntry}
 use denote.Triple.Spec.{Meets, tripleOf}
-use denote.Triple.Statement.{Contract, Triple}
+use denote.Triple.Statement.{Triple}
 use denote.Triple.Table.{entered, cited}
 use denote.Triple.Walked.{says, Stays, stay-none-slice, walkOf, goes-none-slice, Walks, ends-at, walked, walk-meets}
 use Rattle.members.specs.Apart.{nobody, empty, added, listedOf}

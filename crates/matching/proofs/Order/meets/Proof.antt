@@ -1,4 +1,4 @@
--- Each side compares the two levels the definition's way round.
+-- Each side hands on its level and the other's the definition's way round.
 use borrow.Author.Needs.{needs}
 use borrow.Author.Tests.{eq-eqb, ne-eqb}
 use Rattle.matching.specs.Matching.{meets}

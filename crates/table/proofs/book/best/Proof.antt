@@ -1,8 +1,7 @@
 -- `table::book::best` meets its contract: after i records the candidate is the best of the first i.
-use mathlib.Core.Path.{_≡_, refl, sym, _∙_}
-use Prim.Native.Nat.{ℕ, _+_, _-_, _≤_, _<_}
+use mathlib.Core.Path.{_≡_}
+use Prim.Native.Nat.{_-_, _≤_}
 use native.Mathlib.Omega.{arith}
-use borrow.Author.Needs.{needs}
 use Rattle.matching.specs.Matching.{best}
 use Rattle.table.specs.Orders.{bookOf}
 use Rattle.table.proofs.Lookups.{best-none, best-next, best-end, choose-le}

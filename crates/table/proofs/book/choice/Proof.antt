@@ -1,6 +1,4 @@
 -- `table::book::choice` meets its contract: each way that it goes is a way of the definition.
-use mathlib.Core.Path.{_≡_, refl, sym, _∙_}
-use native.Mathlib.Omega.{arith}
 use Rattle.table.proofs.Lookups.{choose-none, choose-first, choose-better, choose-worse, loaded-covered, record-below}
 use borrow.Author.Needs.{needs}
 use Rattle.table.proofs.book.choice.Statement.{statement}

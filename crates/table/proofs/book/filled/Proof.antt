@@ -1,5 +1,5 @@
 -- `table::book::filled` meets its contract: at each turn the search from k on gives the whole search's answer.
-use Prim.Native.Nat.{ℕ, _+_, _-_}
+use Prim.Native.Nat.{_+_, _-_}
 use native.Mathlib.Omega.{arith}
 use borrow.Author.Tests.{eq-eqb, ne-eqb}
 use Rattle.table.specs.Orders.{isFree, filled}

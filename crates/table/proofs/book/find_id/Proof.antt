@@ -1,6 +1,6 @@
 -- `table::book::find_id` meets its contract: at each turn the search from k on gives the whole search's answer.
-use mathlib.Core.Path.{_≡_, refl, sym, _∙_}
-use Prim.Native.Nat.{ℕ, _+_, _-_, _≤_, _<_}
+use mathlib.Core.Path.{sym, _∙_}
+use Prim.Native.Nat.{_+_, _-_}
 use native.Mathlib.Omega.{arith}
 use Rattle.octets.specs.Octets.{sameBytes}
 use Rattle.table.specs.Orders.{clOrdIdAt}

@@ -1,0 +1,196 @@
+-- What the passes over the book come to, in the words of Market and of matching: one order more, and at the end.
+use mathlib.Core.Path.{_≡_, refl, sym, _∙_}
+use mathlib.Core.Bool.{Bool, true, false, not, cond, _&&_, _||_}
+use mathlib.Core.List.{List}
+use mathlib.Core.Logic.{⊎-elim}
+use Prim.Native.Nat.{ℕ, zero, suc, _+_, _*_, _≤_, _<_, zero-le}
+use native.Mathlib.Numerals.{add-one}
+use native.Mathlib.Omega.{arith}
+use borrow.Author.Tests.{eq-eqb, ne-eqb}
+use lib.Dec.{eqb, leb, ltb}
+use lib.ListN.{length, getD, drop, List·getD-eq-default}
+use Rattle.octets.specs.Octets.{allZero, Bytes}
+use Rattle.octets.specs.Tests.{allUpTo}
+use Rattle.octets.proofs.Places.{below-or}
+use Rattle.matching.specs.declared.Order.{Order}
+use Rattle.matching.specs.Matching.{none, at, openOf, isOpen, opposite, opposed, opposedTo, sumOver, countOf}
+use Rattle.table.specs.Heading.{nextOf, workOf}
+use Rattle.table.specs.Orders.{orderAt, filled, bookOf}
+use Rattle.table.specs.Market.{hasLength, hasSettings, hasNext, hasWork, hasSpare, restZero, hasOrders, hasIds, isDone, noIoc, noCross, hasNumbers, isBook, isMarket}
+use Rattle.table.proofs.Books.{length-book, at-book}
+use Rattle.audit.specs.Checking.{top, lowWith, highWith, lowBuy, highSell}
+use Rattle.audit.proofs.Amounts.{narrow-order}
+use Rattle.audit.proofs.Marked.{at-record, book-length}
+use Rattle.audit.proofs.Bounds.{uncrossed-is}
+
+-- ---- one order, by the tests that the code makes of it
+module _ (had : ℕ) (apart x : Bool) (o : Order) (e : x ≡ isOpen o) where
+  pub low-yes : (not apart && x && eqb (o .side) 1 && ltb (o .level) had) ≡ true → o .level ≡ lowWith had apart o
+  unfolding lowWith
+  low-yes h =
+      let g = rw e at h in
+      rw g
+
+  pub low-no : (not apart && x && eqb (o .side) 1 && ltb (o .level) had) ≡ false → had ≡ lowWith had apart o
+  unfolding lowWith
+  low-no h =
+      let g = rw e at h in
+      rw g
+
+  pub high-yes : (not apart && x && not (eqb (o .side) 1) && ltb had (o .level + 1)) ≡ true → o .level + 1 ≡ highWith had apart o
+  unfolding highWith
+  high-yes h =
+      let g = rw e at h in
+      rw g
+
+  pub high-no : (not apart && x && not (eqb (o .side) 1) && ltb had (o .level + 1)) ≡ false → had ≡ highWith had apart o
+  unfolding highWith
+  high-no h =
+      let g = rw e at h in
+      rw g
+
+module _ (had : ℕ) (x y : Bool) (o r : Order) (e : x ≡ isOpen r) (f : y ≡ opposite o r) where
+  pub count-yes : (x && y) ≡ true → had + 1 ≡ had + cond (opposed o r) 1 0
+  unfolding opposed
+  count-yes h =
+      let g = rw (e, f) at h in
+      rw g
+
+  pub count-no : (x && y) ≡ false → had ≡ had + cond (opposed o r) 1 0
+  unfolding opposed
+  count-no h =
+      let g = rw (e, f) at h in
+      rw g (omega arith)
+
+pub done-is : (o : Order) (x : Bool) → x ≡ isOpen o → not (eqb (o .tif) 3 && x) ≡ isDone o
+unfolding isDone
+done-is o x e = rw e
+
+pub not-ioc : (t : List ℕ) (i : ℕ) → (getD t (128 * i + 45) 0 ≡ 3 → ⊥) → true ≡ isDone (orderAt t i)
+unfolding isDone orderAt
+not-ioc t i h = rw (ne-eqb (getD t (128 * i + 45) 0) 3 h)
+
+-- ---- no IOC is open: the test of record k + 1, and of all
+module _ (t : List ℕ) (n w : ℕ) (e : n ≡ filled t) where
+  pub ioc-at : (k : ℕ) (o : Order) (x : Bool) → k < n → o ≡ orderAt t (k + 1) → x ≡ isDone o
+      → (eqb (k + 1) w || x) ≡ (eqb (suc k) w || isDone (at (bookOf t) (suc k)))
+  ioc-at k o x l f g = rw (g, f, at-record t n k e l, add-one)
+
+  pub ioc-all : (r : Bool) → allUpTo (λ k. eqb (suc k) w || isDone (at (bookOf t) (suc k))) n ≡ r → r ≡ noIoc (bookOf t) w
+  unfolding noIoc
+  ioc-all r h = sym h ∙ rw (book-length t n e)
+
+-- ---- the lowest buy and the highest sell, of the k records passed
+pub record Scanned (t : List ℕ) (w n low high k : ℕ) : Type 0 where
+  pub within : k ≤ n
+  pub low-is : low ≡ lowBuy (bookOf t) w k
+  pub high-is : high ≡ highSell (bookOf t) w k
+  pub low-small : low < 4294967297
+  pub high-small : high < 4294967297
+
+pub scanned-none : {t : List ℕ} {w n : ℕ} → Scanned t w n 4294967296 0 0
+unfolding lowBuy highSell
+scanned-none = record { within = zero-le; low-is = refl; high-is = refl; low-small = omega arith; high-small = omega arith }
+
+pub scanned-more : {t : List ℕ} {w n low high k : ℕ} (o : Order) (x y : ℕ) → Scanned t w n low high k → n ≡ filled t → k < n → o ≡ orderAt t (k + 1)
+    → (x ≡ lowWith low (eqb (k + 1) w) o) × (x < 4294967297) → (y ≡ highWith high (eqb (k + 1) w) o) × (y < 4294967297)
+    → Scanned t w n x y (k + 1)
+unfolding lowBuy highSell
+scanned-more {t} {w} {n} {low} {high} {k} o x y s e l f p q =
+    let g : o ≡ at (bookOf t) (suc k) = f ∙ sym (at-record t n k e l) in
+    record {
+      within = omega arith;
+      low-is = p .0 ∙ rw (add-one k, g, s .low-is);
+      high-is = q .0 ∙ rw (add-one k, g, s .high-is);
+      low-small = p .1;
+      high-small = q .1;
+    }
+
+-- levels are of their width, whatever the bytes are
+level-small : (t : List ℕ) → Bytes t → (k : ℕ) → at (bookOf t) k .level < top
+level-small t b zero = omega arith
+level-small t b (suc k) =
+    ⊎-elim
+    (λ (l : k < filled t). rw (at-book t (suc k) (omega arith) l) (narrow-order t (suc k) b .level))
+    (λ (l : filled t ≤ k).
+    let e : at (bookOf t) (suc k) ≡ none = List·getD-eq-default (bookOf t) none (rw length-book l) in
+    rw e (omega arith))
+    (below-or k (filled t))
+
+pub scanned-end : {t : List ℕ} {w n low high k : ℕ} → Scanned t w n low high k → n ≡ filled t → n ≤ k → Bytes t → leb high low ≡ noCross (bookOf t) w
+scanned-end {t} {w} {n} {low} {high} {k} s e l b =
+    let q : k ≡ n = omega (arith, s .within) in
+    rw (s .high-is, s .low-is, q) (uncrossed-is (bookOf t) w (level-small t b) n (sym (book-length t n e)))
+
+-- ---- open opposite orders, of the k records passed
+pub record Counted (t : List ℕ) (o : Order) (n c k : ℕ) : Type 0 where
+  pub within : k ≤ n
+  pub count-is : c ≡ countOf (opposed o) (bookOf t) k
+  pub few : c ≤ k
+
+pub counted-none : {t : List ℕ} {o : Order} {n : ℕ} → Counted t o n 0 0
+unfolding countOf sumOver
+counted-none = record { within = zero-le; count-is = refl; few = zero-le }
+
+one-or-none : (x : Bool) → cond x 1 0 ≤ 1
+one-or-none true = omega arith
+one-or-none false = omega arith
+
+pub counted-more : {t : List ℕ} {o : Order} {n c k : ℕ} (r : Order) (x : ℕ) → Counted t o n c k → n ≡ filled t → k < n → r ≡ orderAt t (k + 1)
+    → x ≡ c + cond (opposed o r) 1 0 → Counted t o n x (k + 1)
+unfolding countOf sumOver
+counted-more {t} {o} {n} {c} {k} r x s e l f h =
+    let g : r ≡ at (bookOf t) (suc k) = f ∙ sym (at-record t n k e l) in
+    record {
+      within = omega arith;
+      count-is = h ∙ rw (add-one k, g, s .count-is);
+      few = omega (arith, h, one-or-none (opposed o r), s .few);
+    }
+
+pub counted-end : {t : List ℕ} {o : Order} {n c k : ℕ} → Counted t o n c k → n ≤ k → c ≡ countOf (opposed o) (bookOf t) n
+counted-end {t} {o} {n} {c} {k} s l =
+    let q : k ≡ n = omega (arith, s .within) in
+    s .count-is ∙ rw q
+
+-- ---- the numbers that the order in work may need
+module _ (t : List ℕ) (n w next : ℕ) (e : n ≡ filled t) where
+  pub numbers-none : w ≡ 0 → true ≡ hasNumbers (bookOf t) w next
+  unfolding hasNumbers openOf
+  numbers-none z = rw z
+
+  pub numbers-past : n < w → true ≡ hasNumbers (bookOf t) w next
+  unfolding hasNumbers openOf
+  numbers-past l = go w refl
+    where
+      go : (v : ℕ) → v ≡ w → true ≡ (not (isOpen (at (bookOf t) w)) || leb (next + 2 * opposedTo (bookOf t) w + 1) 1000000000)
+      go zero q = absurd (omega arith)
+      go (suc v) q =
+          let d : at (bookOf t) (suc v) ≡ none = List·getD-eq-default (bookOf t) none (rw (length-book t) (omega arith)) in
+          rw (← q, d)
+
+  pub numbers-shut : (o : Order) (x : Bool) → (w ≡ 0 → ⊥) → w ≤ n → o ≡ orderAt t w → x ≡ isOpen o → x ≡ false → true ≡ hasNumbers (bookOf t) w next
+  unfolding hasNumbers
+  numbers-shut o x z l f g h =
+      let d : at (bookOf t) w ≡ o = at-book t w (omega (arith, z)) (omega arith) ∙ sym f in
+      let i : isOpen (at (bookOf t) w) ≡ false = rw d (sym g ∙ h) in
+      rw i
+
+  pub numbers-is : (o : Order) (x : Bool) (c : ℕ) → (w ≡ 0 → ⊥) → w ≤ n → o ≡ orderAt t w → x ≡ isOpen o → x ≡ true
+      → c ≡ countOf (opposed o) (bookOf t) n → leb (next + 2 * c + 1) 1000000000 ≡ hasNumbers (bookOf t) w next
+  unfolding hasNumbers opposedTo
+  numbers-is o x c z l f g h i =
+      let d : at (bookOf t) w ≡ o = at-book t w (omega (arith, z)) (omega arith) ∙ sym f in
+      let j : isOpen (at (bookOf t) w) ≡ true = rw d (sym g ∙ h) in
+      rw (j, i, book-length t n e, d)
+
+-- ---- a market, by its clauses
+pub not-long : (t : List ℕ) → (length t ≡ 32768 → ⊥) → false ≡ isMarket t
+unfolding isMarket hasLength
+not-long t h = rw (ne-eqb (length t) 32768 h)
+
+pub market-is : (t : List ℕ) (n w next : ℕ) (a b c d e f g h : Bool) → length t ≡ 32768 → n ≡ filled t → w ≡ workOf t → next ≡ nextOf t
+    → a ≡ hasSettings t → b ≡ hasNext t → c ≡ hasWork t → d ≡ hasSpare t → e ≡ allZero (drop (128 * (n + 1)) t) → f ≡ hasOrders t
+    → g ≡ hasIds t → h ≡ isBook (bookOf t) w next → (a && b && c && d && e && f && g && h) ≡ isMarket t
+unfolding isMarket hasLength restZero
+market-is t n w next a b c d e f g h l pn pw px pa pb pc pd pe pf pg ph =
+    rw (eq-eqb (length t) 32768 l, pa, pb, pc, pd, pe, pf, pg, ph, pw, px, pn)

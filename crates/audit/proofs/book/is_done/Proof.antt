@@ -1,0 +1,14 @@
+-- `audit::is_done` meets its contract.
+use Rattle.audit.proofs.Walked.{done-is}
+use borrow.Author.Needs.{needs}
+use Rattle.audit.proofs.book.is_done.Statement.{statement}
+use Rattle.audit.proofs.book.is_done.Tie as tie
+
+has-open-requires : tie.Need-has-open-requires
+has-open-requires c κs = search needs
+
+returns : tie.Need-returns
+returns c = done-is _ _ (c .has-open .ensures)
+
+pub is-done-spec : {M : Type 1} → statement M
+is-done-spec = tie.close (tie.spec has-open-requires returns)

@@ -1,0 +1,15 @@
+-- The widths of an order's numbers in a record: what any record read gives. Assumes nothing.
+use Prim.Native.Nat.{_<_}
+use Rattle.matching.specs.declared.Order.{Order}
+
+-- each number fits the bytes that it has
+pub record Narrow (o : Order) : Type 0 where
+  pub side : o .side < 256
+  pub tif : o .tif < 256
+  pub level : o .level < 4294967296
+  pub qty : o .qty < 4294967296
+  pub executed : o .executed < 4294967296
+  pub decremented : o .decremented < 4294967296
+  pub canceled : o .canceled < 4294967296
+  pub place : o .place < 4294967296
+  pub mpid : o .mpid < 4294967296

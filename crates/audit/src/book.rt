@@ -1,0 +1,142 @@
+// Whether a table is a market: the clauses on the book and the order in work.
+ghost use mathlib.Core.Path.{_≡_};
+ghost use mathlib.Core.Bool.{cond};
+ghost use Prim.Native.Nat.{_+_, _≤_, _<_};
+ghost use lib.ListN.{length};
+ghost use Rattle.matching.specs.Matching.{countOf, opposed};
+ghost use Rattle.table.specs.Places.{tableBytes};
+ghost use Rattle.table.specs.Orders.{orderAt, filled, bookOf};
+ghost use Rattle.audit.specs.Widths.{Narrow};
+ghost use Rattle.table.specs.Market.{isDone, noIoc, noCross, hasNumbers, isBook};
+ghost use Rattle.audit.specs.Checking.{lowWith, highWith};
+use crate::marks::has_places;
+use crate::sound::has_open;
+use matching::Order;
+use table::record::load;
+
+// Whether an order is no open IOC.
+fn is_done(o: Order) -> bool
+    requires { ⌜ Narrow o ⌝ }
+    ensures { λ r. ⌜ r ≡ isDone o ⌝ }
+{
+    !((o.tif == 3) & has_open(o))
+}
+
+// Whether record i is no open IOC; what is open is asked of an IOC alone.
+fn is_done_at(t: &[u8], i: usize) -> bool
+    requires { ⌜ (length (now t) ≡ tableBytes) × (i < 256) ⌝ }
+    ensures { λ r. ⌜ r ≡ isDone (orderAt (now (t .entry)) i) ⌝ }
+{
+    if t[128 * i + 45] != 3 {
+        return true;
+    }
+    is_done(load(t, i))
+}
+
+// Whether no IOC among the n filled records is open, apart from order w.
+fn no_ioc(t: &[u8], n: usize, w: usize) -> bool
+    requires { ⌜ (length (now t) ≡ tableBytes) × (n ≡ filled (now t)) × (n ≤ 255) ⌝ }
+    ensures { λ r. ⌜ r ≡ noIoc (bookOf (now (t .entry))) w ⌝ }
+{
+    let mut k = 0;
+    while k < n {
+        if !((k + 1 == w) | is_done_at(t, k + 1)) {
+            return false;
+        }
+        k += 1;
+    }
+    true
+}
+
+// The lowest open buy level so far, with order o unless it is set apart.
+fn low_with(low: u64, apart: bool, o: Order) -> u64
+    requires { ⌜ (low < 4294967297) × Narrow o ⌝ }
+    ensures { λ r. ⌜ (r ≡ lowWith low apart o) × (r < 4294967297) ⌝ }
+{
+    if !apart & has_open(o) & (o.side == 1) & (o.level < low) {
+        o.level
+    } else {
+        low
+    }
+}
+
+// One more than the highest open sell level so far, with order o unless it is set apart.
+fn high_with(high: u64, apart: bool, o: Order) -> u64
+    requires { ⌜ (high < 4294967297) × Narrow o ⌝ }
+    ensures { λ r. ⌜ (r ≡ highWith high apart o) × (r < 4294967297) ⌝ }
+{
+    if !apart & has_open(o) & !(o.side == 1) & (high < o.level + 1) {
+        o.level + 1
+    } else {
+        high
+    }
+}
+
+// Whether every open buy level is above every open sell level among the n filled records, apart from order w.
+fn no_cross(t: &[u8], n: usize, w: usize) -> bool
+    requires { ⌜ (length (now t) ≡ tableBytes) × (n ≡ filled (now t)) × (n ≤ 255) ⌝ }
+    ensures { λ r. ⌜ r ≡ noCross (bookOf (now (t .entry))) w ⌝ }
+{
+    let mut low: u64 = 4294967296;
+    let mut high: u64 = 0;
+    let mut k = 0;
+    while k < n {
+        let o = load(t, k + 1);
+        low = low_with(low, k + 1 == w, o);
+        high = high_with(high, k + 1 == w, o);
+        k += 1;
+    }
+    high <= low
+}
+
+// One more than had if r is open and opposite to o, else had.
+fn count_with(had: u64, o: Order, r: Order) -> u64
+    requires { ⌜ (had < 1000) × Narrow r ⌝ }
+    ensures { λ c. ⌜ c ≡ had + cond (opposed o r) 1 0 ⌝ }
+{
+    if has_open(r) & o.opposite(r) {
+        had + 1
+    } else {
+        had
+    }
+}
+
+// How many of the n filled records are open and opposite to o.
+pub fn opposed_to(t: &[u8], n: usize, o: Order) -> u64
+    requires { ⌜ (length (now t) ≡ tableBytes) × (n ≡ filled (now t)) × (n ≤ 255) ⌝ }
+    ensures { λ r. ⌜ (r ≡ countOf (opposed o) (bookOf (now (t .entry))) n) × (r ≤ n) ⌝ }
+{
+    let mut c: u64 = 0;
+    let mut k = 0;
+    while k < n {
+        c = count_with(c, o, load(t, k + 1));
+        k += 1;
+    }
+    c
+}
+
+// Whether the numbers that the order in work, w, can still need are there.
+fn has_numbers(t: &[u8], n: usize, w: usize, next: u64) -> bool
+    requires { ⌜ (length (now t) ≡ tableBytes) × (n ≡ filled (now t)) × (n ≤ 255) × (next < 4294967296) ⌝ }
+    ensures { λ r. ⌜ r ≡ hasNumbers (bookOf (now (t .entry))) w next ⌝ }
+{
+    if w == 0 {
+        return true;
+    }
+    if n < w {
+        return true;
+    }
+    let o = load(t, w);
+    if !has_open(o) {
+        return true;
+    }
+    next + 2 * opposed_to(t, n, o) + 1 <= 1000000000
+}
+
+// Whether the book of the n filled records is one of a market, with order w in work and this next number.
+pub fn is_book(t: &[u8], n: usize, w: usize, next: u64) -> bool
+    requires { ⌜ (length (now t) ≡ tableBytes) × (n ≡ filled (now t)) × (n ≤ 255) × (next < 4294967296) ⌝ }
+    ensures { λ r. ⌜ r ≡ isBook (bookOf (now (t .entry))) w next ⌝ }
+{
+    has_places(t, n, next) & no_ioc(t, n, w) & no_cross(t, n, w) & has_numbers(t, n, w, next)
+}

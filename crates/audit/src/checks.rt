@@ -1,0 +1,153 @@
+// Whether a table is a market: texts, and the clauses on the heading.
+ghost use mathlib.Core.Path.{_≡_};
+ghost use mathlib.Core.Bool.{not, _&&_};
+ghost use Prim.Native.Nat.{_+_, _-_, _≤_, _<_};
+ghost use lib.Dec.{eqb, leb};
+ghost use lib.ListN.{length};
+ghost use Rattle.octets.specs.Tests.{allUpTo};
+ghost use Rattle.table.specs.Places.{tableBytes};
+ghost use Rattle.table.specs.Heading.{mpidAt, entries};
+ghost use Rattle.table.specs.Orders.{filled};
+ghost use Rattle.table.specs.Market.{every, isText, hasNames, isEntry, hasList, hasSettings, hasNext, hasWork, hasSpare};
+use table::entries::mode_at;
+use table::entries::mpid_at;
+use table::heading::next;
+use table::heading::stamp;
+use table::heading::work;
+
+// Whether every byte is from low to high.
+pub fn all_within(s: &[u8], low: u8, high: u8) -> bool
+    ensures { λ r. ⌜ r ≡ every (λ x. leb low x && leb x high) (now (s .entry)) ⌝ }
+{
+    let mut i = 0;
+    while i < s.len() {
+        let x = s[i];
+        if !((low <= x) & (x <= high)) {
+            return false;
+        }
+        i += 1;
+    }
+    true
+}
+
+// The room that a text of n bytes leaves free.
+pub fn room_left(room: usize, n: usize) -> usize
+    ensures { λ r. ⌜ r ≡ room - n ⌝ }
+{
+    if n < room { room - n } else { 0 }
+}
+
+// Whether a text of least to room bytes, each from low to high, stands at place p, and zeros behind it.
+pub fn is_text(t: &[u8], p: usize, least: usize, room: usize, low: u8, high: u8) -> bool
+    requires { ⌜ (p + 1 + room ≤ length (now t)) × (room < 256) ⌝ }
+    ensures { λ r. ⌜ r ≡ isText (λ x. leb low x && leb x high) least room (now (t .entry)) p ⌝ }
+{
+    let n = octets::wide(t[p]) as usize;
+    if n < least {
+        return false;
+    }
+    if room < n {
+        return false;
+    }
+    let q = p + 1 + n;
+    all_within(octets::text_at(t, p), low, high) & octets::all_zero(octets::part_at(t, q, room - n))
+}
+
+// Whether venue, port and code are such.
+fn has_names(t: &[u8]) -> bool
+    requires { ⌜ length (now t) ≡ tableBytes ⌝ }
+    ensures { λ r. ⌜ r ≡ hasNames (now (t .entry)) ⌝ }
+{
+    is_text(t, 0, 1, 8, 33, 126) & is_text(t, 9, 1, 8, 33, 126) & is_text(t, 18, 1, 9, 48, 57)
+}
+
+// Whether none of the entries before entry k has its MPID.
+fn is_fresh_mpid(t: &[u8], k: usize) -> bool
+    requires { ⌜ (length (now t) ≡ tableBytes) × (k < 8) ⌝ }
+    ensures { λ r. ⌜ r ≡ allUpTo (λ j. not (eqb (mpidAt (now (t .entry)) j) (mpidAt (now (t .entry)) k))) k ⌝ }
+{
+    let m = mpid_at(t, k);
+    let mut j = 0;
+    while j < k {
+        if mpid_at(t, j) == m {
+            return false;
+        }
+        j += 1;
+    }
+    true
+}
+
+// Whether entry k is in its ranges, and its MPID not listed before.
+fn is_entry(t: &[u8], k: usize) -> bool
+    requires { ⌜ (length (now t) ≡ tableBytes) × (k < 8) ⌝ }
+    ensures { λ r. ⌜ r ≡ isEntry (now (t .entry)) k ⌝ }
+{
+    let d = mode_at(t, k);
+    (mpid_at(t, k) <= 999999) & (1 <= d) & (d <= 3) & is_fresh_mpid(t, k)
+}
+
+// Whether each of the n entries is.
+fn are_entries(t: &[u8], n: usize) -> bool
+    requires { ⌜ (length (now t) ≡ tableBytes) × (n ≤ 8) ⌝ }
+    ensures { λ r. ⌜ r ≡ allUpTo (isEntry (now (t .entry))) n ⌝ }
+{
+    let mut k = 0;
+    while k < n {
+        if !is_entry(t, k) {
+            return false;
+        }
+        k += 1;
+    }
+    true
+}
+
+// Whether the list of n MPIDs is one, with zeros behind it.
+fn has_list(t: &[u8], n: usize) -> bool
+    requires { ⌜ (length (now t) ≡ tableBytes) × (n ≡ entries (now t)) × (n ≤ 8) ⌝ }
+    ensures { λ r. ⌜ r ≡ hasList (now (t .entry)) ⌝ }
+{
+    (1 <= n)
+        & are_entries(t, n)
+        & octets::all_zero(octets::part_at(t, 56 + 4 * n, 4 * (8 - n)))
+        & octets::all_zero(octets::part_at(t, 88 + n, 8 - n))
+}
+
+// Whether the settings keep the ranges of opening; n is the number of MPIDs.
+pub fn has_settings(t: &[u8], n: usize) -> bool
+    requires { ⌜ (length (now t) ≡ tableBytes) × (n ≡ entries (now t)) × (n ≤ 8) ⌝ }
+    ensures { λ r. ⌜ r ≡ hasSettings (now (t .entry)) ⌝ }
+{
+    has_names(t) & has_list(t, n)
+}
+
+// Whether the next number is in its range.
+pub fn has_next(t: &[u8]) -> bool
+    requires { ⌜ length (now t) ≡ tableBytes ⌝ }
+    ensures { λ r. ⌜ r ≡ hasNext (now (t .entry)) ⌝ }
+{
+    let n = next(t);
+    (1 <= n) & (n <= 1000000000)
+}
+
+// Whether nothing is in work, or one of the n filled records with a time.
+pub fn has_work(t: &[u8], n: usize) -> bool
+    requires { ⌜ (length (now t) ≡ tableBytes) × (n ≡ filled (now t)) ⌝ }
+    ensures { λ r. ⌜ r ≡ hasWork (now (t .entry)) ⌝ }
+{
+    let w = work(t);
+    if w == 0 {
+        return octets::all_zero(octets::part_at(t, 33, 22));
+    }
+    let m = octets::wide(t[33]) as usize;
+    (w <= n)
+        & decimal::read::is_time(stamp(t))
+        & octets::all_zero(octets::part_at(t, 34 + m, room_left(21, m)))
+}
+
+// Whether the bytes of the heading that nothing uses are zero.
+pub fn has_spare(t: &[u8]) -> bool
+    requires { ⌜ length (now t) ≡ tableBytes ⌝ }
+    ensures { λ r. ⌜ r ≡ hasSpare (now (t .entry)) ⌝ }
+{
+    octets::all_zero(octets::part_at(t, 55, 1)) & octets::all_zero(octets::part_at(t, 96, 32))
+}

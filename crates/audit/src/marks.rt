@@ -1,0 +1,111 @@
+// Whether ClOrdIDs and places are distinct: marks for the keys seen, and a comparison with all before only where the marks
+// of a key are there already.
+ghost use mathlib.Core.Path.{_≡_};
+ghost use Prim.Native.Nat.{_+_, _≤_, _<_};
+ghost use lib.ListN.{length};
+ghost use Rattle.table.specs.Places.{tableBytes};
+ghost use Rattle.table.specs.Orders.{filled, bookOf, orderAt};
+ghost use Rattle.table.specs.Market.{isFreshId, hasIds, isFreshPlace, hasPlaces};
+ghost use Rattle.audit.specs.Checking.{keyOf};
+use table::record::clordid;
+
+// The key of a ClOrdID.
+fn key_of(s: &[u8]) -> usize
+    ensures { λ r. ⌜ (r ≡ keyOf (now (s .entry))) × (r < 4194304) ⌝ }
+{
+    let mut h = 0;
+    let mut i = 0;
+    while i < s.len() {
+        h = (h * 10 + (octets::wide(s[i]) as usize)) % 4194304;
+        i += 1;
+    }
+    h
+}
+
+// Whether the ClOrdID of record j + 1 is that of no record before it.
+fn is_fresh_id(t: &[u8], j: usize) -> bool
+    requires { ⌜ (length (now t) ≡ tableBytes) × (j < 255) ⌝ }
+    ensures { λ r. ⌜ r ≡ isFreshId (now (t .entry)) j ⌝ }
+{
+    let id = clordid(t, j + 1);
+    let mut i = 0;
+    while i < j {
+        if octets::same(clordid(t, i + 1), id) {
+            return false;
+        }
+        i += 1;
+    }
+    true
+}
+
+// Whether the ClOrdIDs of the n filled records are distinct.
+pub fn has_ids(t: &[u8], n: usize) -> bool
+    requires { ⌜ (length (now t) ≡ tableBytes) × (n ≡ filled (now t)) × (n ≤ 255) ⌝ }
+    ensures { λ r. ⌜ r ≡ hasIds (now (t .entry)) ⌝ }
+{
+    let mut low = [0u8; 2048];
+    let mut high = [0u8; 2048];
+    let mut j = 0;
+    while j < n {
+        let key = key_of(clordid(t, j + 1));
+        let a = key % 2048;
+        let b = key / 2048;
+        if (low[a] != 0) & (high[b] != 0) {
+            if !is_fresh_id(t, j) {
+                return false;
+            }
+        }
+        low[a] = 1;
+        high[b] = 1;
+        j += 1;
+    }
+    true
+}
+
+// The place of record i.
+pub fn place(t: &[u8], i: usize) -> u64
+    requires { ⌜ (length (now t) ≡ tableBytes) × (i < 256) ⌝ }
+    ensures { λ r. ⌜ (r ≡ orderAt (now (t .entry)) i .place) × (r < 4294967296) ⌝ }
+{
+    octets::le_at(t, 128 * i + 56, 4)
+}
+
+// Whether the place of record j + 1 is that of no record before it; n records are filled.
+fn is_fresh_place(t: &[u8], n: usize, j: usize) -> bool
+    requires { ⌜ (length (now t) ≡ tableBytes) × (n ≡ filled (now t)) × (n ≤ 255) × (j < n) ⌝ }
+    ensures { λ r. ⌜ r ≡ isFreshPlace (bookOf (now (t .entry))) j ⌝ }
+{
+    let p = place(t, j + 1);
+    let mut i = 0;
+    while i < j {
+        if place(t, i + 1) == p {
+            return false;
+        }
+        i += 1;
+    }
+    true
+}
+
+// Whether the places of the n filled records are distinct and below the next number.
+pub fn has_places(t: &[u8], n: usize, next: u64) -> bool
+    requires { ⌜ (length (now t) ≡ tableBytes) × (n ≡ filled (now t)) × (n ≤ 255) ⌝ }
+    ensures { λ r. ⌜ r ≡ hasPlaces (bookOf (now (t .entry))) next ⌝ }
+{
+    let mut mark = [0u8; 2048];
+    let mut j = 0;
+    while j < n {
+        let p = place(t, j + 1);
+        if next <= p {
+            return false;
+        }
+        let key = (p % 2048) as usize;
+        if mark[key] != 0 {
+            if !is_fresh_place(t, n, j) {
+                return false;
+            }
+        }
+        mark[key] = 1;
+        j += 1;
+    }
+    true
+}

@@ -1,0 +1,376 @@
+-- What a value that a shape takes is like: it has no SOH and at most so many bytes, and writing what was read gives it again.
+use Prim.Native.Nat.{ℕ, zero, suc, _+_, _-_, _*_, _/_, _^_, _≤_, _<_, zero-le}
+use mathlib.Core.Path.{_≡_, refl, sym, ap, _∙_, subst}
+use mathlib.Core.Bool.{Bool, true, false, cond, _&&_, _||_, false≢true}
+use mathlib.Core.List.{List, [], _∷_, _++_}
+use native.Mathlib.Omega.{arith}
+use native.Mathlib.Nat.{pow-le-pow-right, div-le-self}
+use lib.Dec.{ltb, leb, eqb, lit<}
+use mathlib.Core.Logic.{_⊎_, inl, inr, ⊎-elim}
+use lib.ListN.{length, take, drop, getD, length-append}
+use borrow.Author.Tests.{eqb-true, ltb-true, ltb-false, eqb-false, leb-true}
+use Rattle.octets.specs.Octets.{partAt, sameBytes}
+use Rattle.octets.proofs.Bools.{split, both-l, both-r}
+use Rattle.decimal.specs.declared.Said.{Said}
+use Rattle.decimal.specs.declared.Said.the-variants.{Value as Says, Wrong as Says-not}
+use Rattle.decimal.specs.Reading.{isDigit, digitOf, digitRun, runOf, number, isNumber, numOf, isTime, twoAt, timeShaped, timeRanged, isTimeLength}
+use Rattle.decimal.specs.Writing.{decimal, places, plain, fixed, zeroOf}
+use Rattle.decimal.specs.Canonical.{bareOf, within, fixedOf}
+use Rattle.decimal.proofs.Numbers.{digit-low, digit-high, digit-is, digit-not, let-through}
+use Rattle.decimal.proofs.Afters.{digits-head, digits-tail, digits-decimal, digits-places}
+use Rattle.decimal.proofs.Digits.{decimal-few}
+use Rattle.decimal.proofs.RoundTrip.{bare-only, bare-small, fixed-only, fixed-range, fixed-length}
+use Rattle.report.specs.declared.Value.{Value}
+use Rattle.report.specs.declared.Value.the-variants.{Absent, Number, Char, Word, Sent, Stored, Level, Mean}
+use Rattle.report.specs.declared.Shape.{Shape}
+use Rattle.report.specs.declared.Shape.the-variants as shape
+use Rattle.report.specs.declared.Pick.{Pick}
+use Rattle.report.specs.declared.Pick.the-variants.{Is, No}
+use Rattle.report.specs.Fields.{isAbsent, valueBytes}
+use Rattle.report.specs.Shapes.{oneIn, numberIn, listedIn, wordIn, recordIn, allFrom, textIn, placeIn, timeIn, yieldIn, averageIn, valueIn}
+
+-- ---- no byte is SOH
+abbrev pub NoSoh : List ℕ → Type 0
+NoSoh [] = Unit {0}
+NoSoh (b ∷ s) = (b ≡ 1 → ⊥) × NoSoh s
+
+pub clean-append : (xs ys : List ℕ) → NoSoh xs → NoSoh ys → NoSoh (xs ++ ys)
+clean-append [] ys p q = q
+clean-append (x ∷ xs) ys p q = (p .0, clean-append xs ys (p .1) q)
+
+pub clean-digits : (s : List ℕ) → digitRun s ≡ length s → NoSoh s
+clean-digits [] e = tt
+clean-digits (b ∷ s) e = ((λ q. omega (arith, digit-low b (digits-head b s e))), clean-digits s (digits-tail b s e))
+
+clean-plain : (k m : ℕ) → m < 2 ^ 64 → NoSoh (plain k m)
+unfolding plain
+clean-plain k m f =
+    clean-append (decimal (m / 10 ^ k) ++ (46 ∷ [])) (places k m)
+    (clean-append (decimal (m / 10 ^ k)) (46 ∷ []) (clean-digits (decimal (m / 10 ^ k)) (digits-decimal (m / 10 ^ k) (omega (arith, div-le-self m (10 ^ k))))) ((λ q. omega (arith, q)), tt))
+    (clean-digits (places k m) (digits-places k m))
+
+pub clean-fixed : (k v : ℕ) → zeroOf k ≤ 2 ^ 62 → v < zeroOf k + zeroOf k → NoSoh (fixed k v)
+unfolding fixed
+clean-fixed k v z h =
+    split (ltb v (zeroOf k))
+    (λ e. rw e ((λ q. omega (arith, q)), clean-plain k (zeroOf k - v) (omega arith)))
+    (λ e. rw e (clean-plain k (v - zeroOf k) (omega arith)))
+
+from-turn : (t u r : Bool) → cond t false (cond u false r) ≡ true → (t ≡ false) × (r ≡ true)
+from-turn true u r e = absurd (false≢true e)
+from-turn false true r e = absurd (false≢true e)
+from-turn false false r e = (refl, e)
+
+clean-from : (low : ℕ) (s : List ℕ) → 1 < low → allFrom low s ≡ true → NoSoh s
+clean-from low [] h e = tt
+clean-from low (b ∷ s) h e =
+    let p = from-turn (ltb b low) (ltb 126 b) (allFrom low s) e in
+    ((λ q. omega (arith, q, ltb-false b low (p .0))), clean-from low s h (p .1))
+
+-- ---- the same bytes are the same list
+pub same-is : (a b : List ℕ) → sameBytes a b ≡ true → a ≡ b
+unfolding sameBytes
+same-is [] [] e = refl
+same-is [] (y ∷ ys) e = absurd (false≢true e)
+same-is (x ∷ xs) [] e = absurd (false≢true e)
+same-is (x ∷ xs) (y ∷ ys) e =
+    let p = eqb-true x y (both-l (eqb x y) (sameBytes xs ys) e) in
+    rw (p, same-is xs ys (both-r (eqb x y) (sameBytes xs ys) e))
+
+-- ---- what a value that was taken is like
+pub record Taken (v : List ℕ) (most : ℕ) (from : ℕ) (x : Value) : Type 0 where
+  pub clean : NoSoh v
+  pub few : length v ≤ most
+  pub here : isAbsent x ≡ false
+  pub bytes : (s stored : List ℕ) → partAt s from (length v) ≡ v → valueBytes s stored x ≡ v
+
+-- how many bytes a shape takes at most
+abbrev pub widthOf : Shape → ℕ
+widthOf shape.Nothing = 0
+widthOf (shape.OneOf a b c d e) = 1
+widthOf (shape.Range least most) = 9
+widthOf (shape.Listed a b c d e f g h) = 9
+widthOf (shape.Exact w x y z) = 4
+widthOf shape.Record = 9
+widthOf (shape.Text most low) = most
+widthOf shape.Digits = 9
+widthOf shape.Time = 17
+widthOf shape.Yield = 11
+widthOf shape.Average = 14
+
+is-injective : (x y : Value) → Is x ≡ Is y → x ≡ y
+is-injective x y e = cc
+
+no-never : (x : Value) → No ≡ Is x → ⊥
+no-never x e = let z : _≡_ {A = ℕ} 0 1 = cc in omega arith
+
+cond-is : (t : Bool) (y x : Value) → cond t (Is y) No ≡ Is x → (t ≡ true) × (y ≡ x)
+cond-is true y x e = (refl, is-injective y x e)
+cond-is false y x e = absurd (no-never x e)
+
+-- numbers
+taken-bare : (v : List ℕ) (from n : ℕ) → bareOf 9 v ≡ Says n → Taken v 9 from (Number n)
+taken-bare v from n e =
+    let w = bare-only 9 v n (omega arith) e in
+    let m : n < 10 ^ 9 = bare-small 9 v n (omega arith) e in
+    record {
+      clean = rw w (clean-digits (decimal n) (digits-decimal n (omega (arith, m))));
+      few = rw w (decimal-few 8 n m);
+      here = refl;
+      bytes = λ s stored p. sym w;
+    }
+
+within-says : (low high n : ℕ) (q : Said) → within low high q ≡ Says n → q ≡ Says n
+within-says low high n (Says m) e = by (leb low m && leb m high) e
+  where
+    by : (t : Bool) → cond t (Says m) Says-not ≡ Says n → Says m ≡ Says n
+    by true e = e
+    by false e = let z : _≡_ {A = ℕ} 0 1 = cc in absurd (omega arith)
+within-says low high n Says-not e = let z : _≡_ {A = ℕ} 0 1 = cc in absurd (omega arith)
+
+record Said-so (q : Said) (x : Value) (f : ℕ → Value) : Type 0 where
+  pub said : ℕ
+  pub says : q ≡ Says said
+  pub is : f said ≡ x
+
+number-says : (q : Said) (x : Value) → numberIn q ≡ Is x → Said-so q x Number
+number-says (Says n) x e = record { said = n; says = refl; is = is-injective (Number n) x e }
+number-says Says-not x e = absurd (no-never x e)
+
+taken-number : (v : List ℕ) (from : ℕ) (x : Value) (low high : ℕ) → numberIn (within low high (bareOf 9 v)) ≡ Is x → Taken v 9 from x
+taken-number v from x low high e =
+    let n = number-says (within low high (bareOf 9 v)) x e in
+    rw (← n .is) (taken-bare v from (n .said) (within-says low high (n .said) (bareOf 9 v) (n .says)))
+
+listed-says : (a b c d e f g h : ℕ) (q : Said) (x : Value) → listedIn a b c d e f g h q ≡ Is x → Said-so q x Number
+listed-says a b c d e f g h (Says n) x q =
+    record { said = n; says = refl; is = cond-is (eqb n a || eqb n b || eqb n c || eqb n d || eqb n e || eqb n f || eqb n g || eqb n h) (Number n) x q .1 }
+listed-says a b c d e f g h Says-not x q = absurd (no-never x q)
+
+-- one character
+one-byte : (v : List ℕ) → length v ≡ 1 → v ≡ getD v 0 0 ∷ []
+one-byte (b ∷ []) e = refl
+one-byte [] e = absurd (omega (arith, e))
+one-byte (b ∷ c ∷ v) e = absurd (omega (arith, e))
+
+five : (x a b c d e : ℕ) → (eqb x a || eqb x b || eqb x c || eqb x d || eqb x e) ≡ true → (a ≡ 1 → ⊥) × (b ≡ 1 → ⊥) × (c ≡ 1 → ⊥) × (d ≡ 1 → ⊥) × (e ≡ 1 → ⊥) → x ≡ 1 → ⊥
+five x a b c d e t n q =
+    either (eqb x a || eqb x b || eqb x c || eqb x d) (eqb x e) t
+    (λ t. either (eqb x a || eqb x b || eqb x c) (eqb x d) t
+    (λ t. either (eqb x a || eqb x b) (eqb x c) t
+    (λ t. either (eqb x a) (eqb x b) t (λ t. n .0 (sym (eqb-true x a t) ∙ q)) (λ t. n .1 (sym (eqb-true x b t) ∙ q)))
+    (λ t. n .2 (sym (eqb-true x c t) ∙ q)))
+    (λ t. n .3 (sym (eqb-true x d t) ∙ q)))
+    (λ t. n .4 (sym (eqb-true x e t) ∙ q))
+  where
+    either : (p r : Bool) → (p || r) ≡ true → (p ≡ true → ⊥) → (r ≡ true → ⊥) → ⊥
+    either true r e f g = f refl
+    either false r e f g = g e
+
+-- what a table may have as a shape: no SOH among its characters
+abbrev pub Proper : Shape → Type 0
+Proper shape.Nothing = Unit {0}
+Proper (shape.OneOf a b c d e) = (a ≡ 1 → ⊥) × (b ≡ 1 → ⊥) × (c ≡ 1 → ⊥) × (d ≡ 1 → ⊥) × (e ≡ 1 → ⊥)
+Proper (shape.Range least most) = Unit {0}
+Proper (shape.Listed a b c d e f g h) = Unit {0}
+Proper (shape.Exact w x y z) = NoSoh (w ∷ x ∷ y ∷ z ∷ [])
+Proper shape.Record = Unit {0}
+Proper (shape.Text most low) = 1 < low
+Proper shape.Digits = Unit {0}
+Proper shape.Time = Unit {0}
+Proper shape.Yield = Unit {0}
+Proper shape.Average = Unit {0}
+
+taken-one : (v : List ℕ) (from : ℕ) (x : Value) (a b c d e : ℕ) → (a ≡ 1 → ⊥) × (b ≡ 1 → ⊥) × (c ≡ 1 → ⊥) × (d ≡ 1 → ⊥) × (e ≡ 1 → ⊥) → oneIn a b c d e v ≡ Is x → Taken v 1 from x
+unfolding oneIn
+taken-one v from x a b c d e n q =
+    split (eqb (length v) 1)
+    (λ l.
+    let w = one-byte v (eqb-true (length v) 1 l) in
+    let p = cond-is (eqb (getD v 0 0) a || eqb (getD v 0 0) b || eqb (getD v 0 0) c || eqb (getD v 0 0) d || eqb (getD v 0 0) e) (Char (getD v 0 0)) x (rw l at q) in
+    let clean : NoSoh (getD v 0 0 ∷ []) = (five (getD v 0 0) a b c d e (p .0) n, tt) in
+    let whole : Taken v 1 from (Char (getD v 0 0)) = record { clean = subst (λ (u : List ℕ). NoSoh u) (sym w) clean; few = omega (arith, eqb-true (length v) 1 l); here = refl; bytes = λ s stored z. sym w } in
+    subst (λ (u : Value). Taken v 1 from u) (p .1) whole)
+    (λ l. let z : No ≡ Is x = rw l at q in absurd (no-never x z))
+
+-- four characters
+taken-word : (v : List ℕ) (from : ℕ) (x : Value) (a b c d : ℕ) → NoSoh (a ∷ b ∷ c ∷ d ∷ []) → wordIn a b c d v ≡ Is x → Taken v 4 from x
+unfolding wordIn
+taken-word v from x a b c d n q =
+    let p = cond-is (sameBytes v (a ∷ b ∷ c ∷ d ∷ [])) (Word a b c d) x q in
+    let w = same-is v (a ∷ b ∷ c ∷ d ∷ []) (p .0) in
+    subst (λ (u : Value). Taken v 4 from u) (p .1)
+    (record { clean = subst (λ (u : List ℕ). NoSoh u) (sym w) n; few = omega (arith, ap length w); here = refl; bytes = λ s stored z. sym w })
+
+wider : (v : List ℕ) (m n from : ℕ) (x : Value) → m ≤ n → Taken v m from x → Taken v n from x
+wider v m n from x h t = record { clean = t .clean; few = omega (arith, t .few); here = t .here; bytes = t .bytes }
+
+taken-record : (v : List ℕ) (from : ℕ) (x : Value) → recordIn v ≡ Is x → Taken v 9 from x
+unfolding recordIn wordIn
+taken-record v from x q =
+    split (sameBytes v (78 ∷ 79 ∷ 78 ∷ 69 ∷ []))
+    (λ t. let z : Is (Word 78 79 78 69) ≡ Is x = rw t at q in
+    wider v 4 9 from x (omega arith) (taken-word v from x 78 79 78 69 ((λ e. omega (arith, e)), ((λ e. omega (arith, e)), ((λ e. omega (arith, e)), ((λ e. omega (arith, e)), tt)))) (rw t z)))
+    (λ t. taken-number v from x 1 255 (rw t at q))
+
+-- texts
+taken-text : (v : List ℕ) (from : ℕ) (x : Value) (most low : ℕ) → 1 < low → textIn most low from v ≡ Is x → Taken v most from x
+unfolding textIn
+taken-text v from x most low n q =
+    split (eqb (length v) 0)
+    (λ t. let z : No ≡ Is x = rw t at q in absurd (no-never x z))
+    (λ t.
+    let q₂ : cond (ltb most (length v)) No (cond (allFrom low v) (Is (Sent from (length v))) No) ≡ Is x = rw t at q in
+    split (ltb most (length v))
+    (λ u. let z : No ≡ Is x = rw u at q₂ in absurd (no-never x z))
+    (λ u.
+    let p = cond-is (allFrom low v) (Sent from (length v)) x (rw u at q₂) in
+    subst (λ (y : Value). Taken v most from y) (p .1)
+    (record { clean = clean-from low v n (p .0); few = omega (arith, ltb-false most (length v) u); here = refl; bytes = λ s stored z. z })))
+
+place-says : (from len : ℕ) (q : Said) (x : Value) → placeIn from len q ≡ Is x → Said-so q x (λ n. Sent from len)
+place-says from len (Says n) x e = record { said = n; says = refl; is = is-injective (Sent from len) x e }
+place-says from len Says-not x e = absurd (no-never x e)
+
+taken-digits : (v : List ℕ) (from : ℕ) (x : Value) → placeIn from (length v) (numOf 9 v) ≡ Is x → Taken v 9 from x
+unfolding numOf isNumber
+taken-digits v from x q =
+    let n = place-says from (length v) (numOf 9 v) x q in
+    let p = let-through (isNumber 9 v) (number v) (n .said) (n .says) in
+    let a = ltb 0 (length v) in
+    let b = both-l (a && leb (length v) 9) (eqb (digitRun v) (length v)) (p .0) in
+    subst (λ (y : Value). Taken v 9 from y) (n .is)
+    (record {
+      clean = clean-digits v (eqb-true (digitRun v) (length v) (both-r (a && leb (length v) 9) (eqb (digitRun v) (length v)) (p .0)));
+      few = leb-true (length v) 9 (both-r a (leb (length v) 9) b);
+      here = refl;
+      bytes = λ s stored z. z;
+    })
+
+-- yields and AvgPx
+yield-says : (q : Said) (x : Value) → yieldIn q ≡ Is x → Said-so q x Level
+yield-says (Says n) x e = record { said = n; says = refl; is = is-injective (Level n) x e }
+yield-says Says-not x e = absurd (no-never x e)
+
+average-says : (q : Said) (x : Value) → averageIn q ≡ Is x → Said-so q x Mean
+average-says (Says n) x e = record { said = n; says = refl; is = is-injective (Mean n) x e }
+average-says Says-not x e = absurd (no-never x e)
+
+taken-yield : (v : List ℕ) (from : ℕ) (x : Value) → yieldIn (fixedOf 3 v) ≡ Is x → Taken v 11 from x
+taken-yield v from x q =
+    let n = yield-says (fixedOf 3 v) x q in
+    let w = fixed-only 3 v (n .said) (n .says) in
+    let r = fixed-range 3 v (n .said) (n .says) in
+    subst (λ (y : Value). Taken v 11 from y) (n .is)
+    (record {
+      clean = subst (λ (u : List ℕ). NoSoh u) (sym w) (clean-fixed 3 (n .said) (omega arith) (r .1));
+      few = omega (arith, ap length w, fixed-length 3 (n .said) (r .0) (r .1));
+      here = refl;
+      bytes = λ s stored z. sym w;
+    })
+
+taken-average : (v : List ℕ) (from : ℕ) (x : Value) → averageIn (fixedOf 6 v) ≡ Is x → Taken v 14 from x
+taken-average v from x q =
+    let n = average-says (fixedOf 6 v) x q in
+    let w = fixed-only 6 v (n .said) (n .says) in
+    let r = fixed-range 6 v (n .said) (n .says) in
+    subst (λ (y : Value). Taken v 14 from y) (n .is)
+    (record {
+      clean = subst (λ (u : List ℕ). NoSoh u) (sym w) (clean-fixed 6 (n .said) (omega arith) (r .1));
+      few = omega (arith, ap length w, fixed-length 6 (n .said) (r .0) (r .1));
+      here = refl;
+      bytes = λ s stored z. sym w;
+    })
+
+-- times
+eleven : (a b c d e f g h i j k : Bool) → (a && b && c && d && e && f && g && h && i && j && k) ≡ true → (a ≡ true) × (b ≡ true) × (c ≡ true) × (d ≡ true) × (e ≡ true) × (f ≡ true) × (g ≡ true) × (h ≡ true) × (i ≡ true) × (j ≡ true) × (k ≡ true)
+eleven a b c d e f g h i j k e10 =
+    let e9 = both-l (a && b && c && d && e && f && g && h && i && j) k e10 in
+    let e8 = both-l (a && b && c && d && e && f && g && h && i) j e9 in
+    let e7 = both-l (a && b && c && d && e && f && g && h) i e8 in
+    let e6 = both-l (a && b && c && d && e && f && g) h e7 in
+    let e5 = both-l (a && b && c && d && e && f) g e6 in
+    let e4 = both-l (a && b && c && d && e) f e5 in
+    let e3 = both-l (a && b && c && d) e e4 in
+    let e2 = both-l (a && b && c) d e3 in
+    let e1 = both-l (a && b) c e2 in
+    let e0 = both-l a b e1 in
+    (e0, both-r a b e1, both-r (a && b) c e2, both-r (a && b && c) d e3, both-r (a && b && c && d) e e4, both-r (a && b && c && d && e) f e5, both-r (a && b && c && d && e && f) g e6, both-r (a && b && c && d && e && f && g) h e7, both-r (a && b && c && d && e && f && g && h) i e8, both-r (a && b && c && d && e && f && g && h && i) j e9, both-r (a && b && c && d && e && f && g && h && i && j) k e10)
+
+-- a digit, or 100
+digit-cases : (b : ℕ) → (digitOf b < 10) ⊎ (digitOf b ≡ 100)
+digit-cases b = split (isDigit b) (λ e. inl (omega (arith, digit-is b e, digit-high b e))) (λ e. inr (digit-not b e))
+
+-- two digits
+digit-of : (b : ℕ) → digitOf b < 10 → b ≡ 1 → ⊥
+unfolding digitOf isDigit
+digit-of b h e = let z : digitOf 1 < 10 = rw e at h in omega (arith, z)
+
+two-first : (s : List ℕ) (i : ℕ) → ltb (twoAt s i) 100 ≡ true → getD s i 0 ≡ 1 → ⊥
+unfolding twoAt
+two-first s i t = digit-of (getD s i 0) (omega (arith, ltb-true (digitOf (getD s i 0) * 10 + digitOf (getD s (i + 1) 0)) 100 t))
+
+two-second : (s : List ℕ) (i : ℕ) → ltb (twoAt s i) 100 ≡ true → getD s (i + 1) 0 ≡ 1 → ⊥
+unfolding twoAt
+two-second s i t = digit-of (getD s (i + 1) 0) (small (digitOf (getD s i 0)) (digitOf (getD s (i + 1) 0)) (ltb-true (digitOf (getD s i 0) * 10 + digitOf (getD s (i + 1) 0)) 100 t) (digit-cases (getD s (i + 1) 0)))
+  where
+    small : (a b : ℕ) → a * 10 + b < 100 → (b < 10) ⊎ (b ≡ 100) → b < 10
+    small a b h c = ⊎-elim (λ (l : b < 10). l) (λ (q : b ≡ 100). absurd (omega (arith, h, q))) c
+
+-- the bytes of a time
+time-tests : (s : List ℕ) → timeShaped s ≡ true → (isTimeLength (length s) ≡ true) × (ltb (twoAt s 0) 100 ≡ true) × (ltb (twoAt s 2) 100 ≡ true) × (ltb (twoAt s 4) 100 ≡ true) × (ltb (twoAt s 6) 100 ≡ true)
+    × (eqb (getD s 8 0) 45 ≡ true) × (ltb (twoAt s 9) 100 ≡ true) × (eqb (getD s 11 0) 58 ≡ true) × (ltb (twoAt s 12) 100 ≡ true) × (eqb (getD s 14 0) 58 ≡ true) × (ltb (twoAt s 15) 100 ≡ true)
+unfolding timeShaped
+time-tests s e = eleven (isTimeLength (length s)) (ltb (twoAt s 0) 100) (ltb (twoAt s 2) 100) (ltb (twoAt s 4) 100) (ltb (twoAt s 6) 100) (eqb (getD s 8 0) 45) (ltb (twoAt s 9) 100) (eqb (getD s 11 0) 58) (ltb (twoAt s 12) 100) (eqb (getD s 14 0) 58) (ltb (twoAt s 15) 100) e
+
+clean-seventeen : (x0 x1 x2 x3 x4 x5 x6 x7 x8 x9 x10 x11 x12 x13 x14 x15 x16 : ℕ) → timeShaped (x0 ∷ x1 ∷ x2 ∷ x3 ∷ x4 ∷ x5 ∷ x6 ∷ x7 ∷ x8 ∷ x9 ∷ x10 ∷ x11 ∷ x12 ∷ x13 ∷ x14 ∷ x15 ∷ x16 ∷ []) ≡ true → NoSoh (x0 ∷ x1 ∷ x2 ∷ x3 ∷ x4 ∷ x5 ∷ x6 ∷ x7 ∷ x8 ∷ x9 ∷ x10 ∷ x11 ∷ x12 ∷ x13 ∷ x14 ∷ x15 ∷ x16 ∷ [])
+clean-seventeen x0 x1 x2 x3 x4 x5 x6 x7 x8 x9 x10 x11 x12 x13 x14 x15 x16 e =
+    let s : List ℕ = x0 ∷ x1 ∷ x2 ∷ x3 ∷ x4 ∷ x5 ∷ x6 ∷ x7 ∷ x8 ∷ x9 ∷ x10 ∷ x11 ∷ x12 ∷ x13 ∷ x14 ∷ x15 ∷ x16 ∷ [] in
+    let t = time-tests s e in
+    ((two-first s 0 (t .1)), ((two-second s 0 (t .1)), ((two-first s 2 (t .2)), ((two-second s 2 (t .2)), ((two-first s 4 (t .3)), ((two-second s 4 (t .3)), ((two-first s 6 (t .4)), ((two-second s 6 (t .4)), ((λ (q : x8 ≡ 1). omega (arith, q, eqb-true x8 45 (t .5))), ((two-first s 9 (t .6)), ((two-second s 9 (t .6)), ((λ (q : x11 ≡ 1). omega (arith, q, eqb-true x11 58 (t .7))), ((two-first s 12 (t .8)), ((two-second s 12 (t .8)), ((λ (q : x14 ≡ 1). omega (arith, q, eqb-true x14 58 (t .9))), ((two-first s 15 (t .10)), ((two-second s 15 (t .10)), tt)))))))))))))))))
+
+seventeen : (s : List ℕ) → length s ≡ 17 → timeShaped s ≡ true → NoSoh s
+seventeen (x0 ∷ x1 ∷ x2 ∷ x3 ∷ x4 ∷ x5 ∷ x6 ∷ x7 ∷ x8 ∷ x9 ∷ x10 ∷ x11 ∷ x12 ∷ x13 ∷ x14 ∷ x15 ∷ x16 ∷ []) l e = clean-seventeen x0 x1 x2 x3 x4 x5 x6 x7 x8 x9 x10 x11 x12 x13 x14 x15 x16 e
+seventeen ([]) l e = absurd (omega (arith, l))
+seventeen (x0 ∷ []) l e = absurd (omega (arith, l))
+seventeen (x0 ∷ x1 ∷ []) l e = absurd (omega (arith, l))
+seventeen (x0 ∷ x1 ∷ x2 ∷ []) l e = absurd (omega (arith, l))
+seventeen (x0 ∷ x1 ∷ x2 ∷ x3 ∷ []) l e = absurd (omega (arith, l))
+seventeen (x0 ∷ x1 ∷ x2 ∷ x3 ∷ x4 ∷ []) l e = absurd (omega (arith, l))
+seventeen (x0 ∷ x1 ∷ x2 ∷ x3 ∷ x4 ∷ x5 ∷ []) l e = absurd (omega (arith, l))
+seventeen (x0 ∷ x1 ∷ x2 ∷ x3 ∷ x4 ∷ x5 ∷ x6 ∷ []) l e = absurd (omega (arith, l))
+seventeen (x0 ∷ x1 ∷ x2 ∷ x3 ∷ x4 ∷ x5 ∷ x6 ∷ x7 ∷ []) l e = absurd (omega (arith, l))
+seventeen (x0 ∷ x1 ∷ x2 ∷ x3 ∷ x4 ∷ x5 ∷ x6 ∷ x7 ∷ x8 ∷ []) l e = absurd (omega (arith, l))
+seventeen (x0 ∷ x1 ∷ x2 ∷ x3 ∷ x4 ∷ x5 ∷ x6 ∷ x7 ∷ x8 ∷ x9 ∷ []) l e = absurd (omega (arith, l))
+seventeen (x0 ∷ x1 ∷ x2 ∷ x3 ∷ x4 ∷ x5 ∷ x6 ∷ x7 ∷ x8 ∷ x9 ∷ x10 ∷ []) l e = absurd (omega (arith, l))
+seventeen (x0 ∷ x1 ∷ x2 ∷ x3 ∷ x4 ∷ x5 ∷ x6 ∷ x7 ∷ x8 ∷ x9 ∷ x10 ∷ x11 ∷ []) l e = absurd (omega (arith, l))
+seventeen (x0 ∷ x1 ∷ x2 ∷ x3 ∷ x4 ∷ x5 ∷ x6 ∷ x7 ∷ x8 ∷ x9 ∷ x10 ∷ x11 ∷ x12 ∷ []) l e = absurd (omega (arith, l))
+seventeen (x0 ∷ x1 ∷ x2 ∷ x3 ∷ x4 ∷ x5 ∷ x6 ∷ x7 ∷ x8 ∷ x9 ∷ x10 ∷ x11 ∷ x12 ∷ x13 ∷ []) l e = absurd (omega (arith, l))
+seventeen (x0 ∷ x1 ∷ x2 ∷ x3 ∷ x4 ∷ x5 ∷ x6 ∷ x7 ∷ x8 ∷ x9 ∷ x10 ∷ x11 ∷ x12 ∷ x13 ∷ x14 ∷ []) l e = absurd (omega (arith, l))
+seventeen (x0 ∷ x1 ∷ x2 ∷ x3 ∷ x4 ∷ x5 ∷ x6 ∷ x7 ∷ x8 ∷ x9 ∷ x10 ∷ x11 ∷ x12 ∷ x13 ∷ x14 ∷ x15 ∷ []) l e = absurd (omega (arith, l))
+seventeen (x0 ∷ x1 ∷ x2 ∷ x3 ∷ x4 ∷ x5 ∷ x6 ∷ x7 ∷ x8 ∷ x9 ∷ x10 ∷ x11 ∷ x12 ∷ x13 ∷ x14 ∷ x15 ∷ x16 ∷ y ∷ ys) l e = absurd (omega (arith, l))
+
+taken-time : (v : List ℕ) (from : ℕ) (x : Value) → timeIn from v ≡ Is x → Taken v 17 from x
+unfolding timeIn isTime isTimeLength
+taken-time v from x q =
+    let p = cond-is (isTime v) (Sent from (length v)) x q in
+    let t = both-l (timeShaped v) (timeRanged v) (p .0) in
+    let l = eqb-true (length v) 17 (time-tests v t .0) in
+    subst (λ (y : Value). Taken v 17 from y) (p .1)
+    (record { clean = seventeen v l t; few = omega (arith, l); here = refl; bytes = λ s stored z. z })
+
+-- ---- whatever the shape
+pub taken : (f : Shape) (from : ℕ) (v : List ℕ) (x : Value) → Proper f → valueIn f from v ≡ Is x → Taken v (widthOf f) from x
+taken shape.Nothing from v x n q = absurd (no-never x q)
+taken (shape.OneOf a b c d e) from v x n q = taken-one v from x a b c d e n q
+taken (shape.Range least most) from v x n q = taken-number v from x least most q
+taken (shape.Listed a b c d e f g h) from v x n q =
+    let s = listed-says a b c d e f g h (bareOf 9 v) x q in
+    subst (λ (y : Value). Taken v 9 from y) (s .is) (taken-bare v from (s .said) (s .says))
+taken (shape.Exact w x₁ y z) from v x n q = taken-word v from x w x₁ y z n q
+taken shape.Record from v x n q = taken-record v from x q
+taken (shape.Text most low) from v x n q = taken-text v from x most low n q
+taken shape.Digits from v x n q = taken-digits v from x q
+taken shape.Time from v x n q = taken-time v from x q
+taken shape.Yield from v x n q = taken-yield v from x q
+taken shape.Average from v x n q = taken-average v from x q

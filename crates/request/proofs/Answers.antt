@@ -1,0 +1,266 @@
+-- From the rows to the answer: the smallest missing tag, the request, and the session rejects before them.
+use Prim.Native.Nat.{ℕ, zero, suc, _+_, _-_, _^_, _≤_, _<_}
+use mathlib.Core.Path.{_≡_, refl, sym, ap, subst, _∙_}
+use mathlib.Core.List.{List, [], _∷_}
+use mathlib.Core.Bool.{Bool, true, false, cond, not, _&&_, _||_}
+use native.Mathlib.Omega.{arith}
+use native.Mathlib.Nat.{suc-ne-zero}
+use native.Mathlib.Numerals.{add-one}
+use lib.Dec.{eqb}
+use lib.ListN.{length, getD, set, take, drop, replicate, length-take, length-drop, drop-of-length-le}
+use lib.Seq.{drop-cons}
+use borrow.Author.Tests.{eq-eqb, ne-eqb, eqb-true, eqb-false, not-true, not-false}
+use Rattle.octets.specs.Octets.{partAt, sameBytes}
+use Rattle.octets.proofs.Bools.{split, both-l, both-r}
+use Rattle.fix.specs.declared.fields.Found.{Found}
+use Rattle.fix.specs.declared.frame.Part.{Part}
+use Rattle.fix.specs.declared.frame.Head.{Head}
+use Rattle.fix.specs.declared.frame.Frame.{Frame}
+use Rattle.fix.specs.Fields.{Fld, fieldsOf, findTag, hasTag, valueOf}
+use Rattle.fix.specs.Garbled.{garbledMessage, partOf, bodyPart, headOf, frameOf}
+use Rattle.fix.proofs.Opening.{value-part}
+use Rattle.fix.proofs.Verdict.{is-garbled, is-good, good-head}
+use Rattle.request.specs.declared.Kind.{Kind}
+use Rattle.request.specs.declared.Kind.the-variants.{NewOrder, Replacement, Cancel, Unknown}
+use Rattle.request.specs.declared.Judged.{Judged}
+use Rattle.request.specs.declared.Verdict.{Verdict}
+use Rattle.request.specs.declared.Terms.{Terms}
+use Rattle.request.specs.declared.Asked.{Asked}
+use Rattle.request.specs.declared.Asked.the-variants.{Garbled, Refused, Enters, Replaces, Cancels}
+use Rattle.request.specs.Session.{kindOf, needed, optional, oneOf, belongs, listed, judge, orElse, firstFailing, firstMissing}
+use Rattle.request.specs.Asks.{lengthFound, saidIn, lengthIn, textIn, termsIn, requestIn, refusalOf, completed, afterBody, bodyAsked, isKnown, bodyOf, headAsked, askedOf}
+use Rattle.request.specs.Gathers.{slot, Starts, keptSays, keptLens, Gathered, Walked, firstUnset, textRow, termsRow, requestRow, completedRow}
+use Rattle.request.proofs.Keys.{eachIs}
+use Rattle.request.proofs.Gathering.{says-means}
+
+-- ---- a field kept
+module _ (says lens : List ℕ) (t n len : ℕ) where
+  pub kept-says : getD lens (slot t) 0 ≡ 0 → set says (slot t) n ≡ keptSays says lens t n
+  unfolding keptSays
+  kept-says h = simp h
+
+  pub kept-lens : getD lens (slot t) 0 ≡ 0 → set lens (slot t) len ≡ keptLens lens t len
+  unfolding keptLens
+  kept-lens h = simp h
+
+  pub left-says : (getD lens (slot t) 0 ≡ 0 → ⊥) → says ≡ keptSays says lens t n
+  unfolding keptSays
+  left-says h = rw (ne-eqb (getD lens (slot t) 0) 0 h)
+
+  pub left-lens : (getD lens (slot t) 0 ≡ 0 → ⊥) → lens ≡ keptLens lens t len
+  unfolding keptLens
+  left-lens h = rw (ne-eqb (getD lens (slot t) 0) 0 h)
+
+-- ---- the first of some tags with nothing in the row. The invariant: it is the first from i on
+abbrev pub Unset : List ℕ → List ℕ → ℕ → Type 0
+Unset ts lens i = (i ≤ length ts) × (firstUnset ts lens ≡ firstUnset (drop i ts) lens)
+
+module _ (ts lens : List ℕ) (i : ℕ) (inv : Unset ts lens i) where
+  pub unset-here : i < length ts → getD lens (slot (getD ts i 0)) 0 ≡ 0 → getD ts i 0 ≡ firstUnset ts lens
+  unfolding firstUnset
+  unset-here h e = rw (inv .1, drop-cons ts i 0, eq-eqb (getD lens (slot (getD ts i 0)) 0) 0 e)
+
+  pub unset-more : i < length ts → (getD lens (slot (getD ts i 0)) 0 ≡ 0 → ⊥) → Unset ts lens (i + 1)
+  unfolding firstUnset
+  unset-more h e = (omega arith, rw (inv .1, drop-cons ts i 0, ne-eqb (getD lens (slot (getD ts i 0)) 0) 0 e, add-one))
+
+  pub unset-none : length ts ≤ i → 0 ≡ firstUnset ts lens
+  unfolding firstUnset
+  unset-none h = rw (inv .1, drop-of-length-le ts {i = i} h)
+
+pub unset-kind : (k l : Kind) (lens : List ℕ) (r : ℕ) → k ≡ l → r ≡ firstUnset (needed l) lens → r ≡ firstUnset (needed k) lens
+unset-kind k l lens r e h = rw e h
+
+pub unset-unknown : (k : Kind) (lens : List ℕ) → k ≡ Unknown → 0 ≡ firstUnset (needed k) lens
+unfolding firstUnset
+unset-unknown k lens e = rw e
+
+-- ---- where the body passes, a tag has no length exactly if no field has it
+passes-first : (x : Judged) (t : ℕ) (rest : Verdict) → orElse x t rest ≡ Verdict.Passes → rest ≡ Verdict.Passes
+passes-first (Judged.Says n) t rest e = e
+passes-first (Judged.Fails r) t rest e = let z : _≡_ {A = ℕ} 0 1 = cc in absurd (suc-ne-zero 0 (sym z))
+
+passes-says : (k : Kind) (b : List ℕ) (from : ℕ) (f : Fld) (x : Judged) (t : ℕ) (rest : Verdict) → judge k b from f ≡ x → orElse x t rest ≡ Verdict.Passes → f .len ≡ 0 → ⊥
+passes-says k b from f (Judged.Says n) t rest g e = says-means k b from f n g .some
+passes-says k b from f (Judged.Fails r) t rest g e = let z : _≡_ {A = ℕ} 0 1 = cc in absurd (suc-ne-zero 0 (sym z))
+
+length-has : (k : Kind) (b : List ℕ) (from t : ℕ) (fs : List Fld) → firstFailing k b from fs ≡ Verdict.Passes → eqb (lengthFound (findTag t fs)) 0 ≡ not (hasTag t fs)
+unfolding firstFailing findTag hasTag
+length-has k b from t [] e = refl
+length-has k b from t (f ∷ fs) e =
+    split (eqb (f .tag) t)
+    (λ y. rw y (ne-eqb (f .len) 0 (passes-says k b from f (judge k b from f) (f .tag) (firstFailing k b from fs) refl e)))
+    (λ n. rw n (length-has k b from t fs (passes-first (judge k b from f) (f .tag) (firstFailing k b from fs) e)))
+
+module _ (k : Kind) (b : List ℕ) (from : ℕ) (says lens : List ℕ) (rows : Gathered b from says lens) (passes : firstFailing k b from (fieldsOf b) ≡ Verdict.Passes) where
+  unset-missing : (ts : List ℕ) → eachIs listed ts ≡ true → firstUnset ts lens ≡ firstMissing ts (fieldsOf b)
+  unfolding firstUnset firstMissing eachIs lengthIn
+  unset-missing [] e = refl
+  unset-missing (t ∷ ts) e =
+      let ih = unset-missing ts (both-r (listed t) (eachIs listed ts) e) in
+      let l = rows t (both-l (listed t) (eachIs listed ts) e) .1 in
+      rw (l, length-has k b from t (fieldsOf b) passes, ih) (swap (hasTag t (fieldsOf b)) (firstMissing ts (fieldsOf b)) t)
+    where
+      swap : (a : Bool) (x y : ℕ) → cond (not a) y x ≡ cond a x y
+      swap true x y = refl
+      swap false x y = refl
+
+  all-needed : (k : Kind) → eachIs listed (needed k) ≡ true
+  unfolding eachIs listed belongs oneOf
+  all-needed NewOrder = refl
+  all-needed Replacement = refl
+  all-needed Cancel = refl
+  all-needed Unknown = refl
+
+  at : (t : ℕ) → listed t ≡ true → getD says (slot t) 0 ≡ saidIn b from t
+  at t h = rows t h .0
+
+  text : (t : ℕ) → listed t ≡ true → textRow says lens t ≡ textIn b from t
+  text t h = rw (rows t h .0, rows t h .1)
+
+  terms : termsRow says ≡ termsIn b from
+  unfolding termsRow termsIn listed belongs oneOf
+  terms = rw (at 38 refl, at 44 refl, at 54 refl, at 59 refl, at 47 refl, at 8060 refl, at 109 refl)
+
+  requests : (l : Kind) (h : Head) → requestRow l h says lens ≡ requestIn l h b from
+  unfolding requestRow requestIn listed belongs oneOf
+  requests NewOrder h = rw (text 11 refl, text 1 refl, text 55 refl, terms)
+  requests Replacement h = rw (text 11 refl, text 41 refl, text 55 refl, at 38 refl, at 44 refl, at 54 refl)
+  requests Cancel h = rw (text 11 refl, text 41 refl, text 55 refl, at 54 refl)
+  requests Unknown h = refl
+
+  complete : (h : Head) → completedRow k h says lens ≡ completed k h b from
+  unfolding completedRow completed
+  complete h = rw (unset-missing (needed k) (all-needed k), requests k h)
+
+-- ---- the request of each type, by the rows
+module _ (k : Kind) (h : Head) (says lens : List ℕ) (id code : Part) (ei : id ≡ textRow says lens 11) (ec : code ≡ textRow says lens 55) where
+  pub request-new : (account : Part) (terms : Terms) → k ≡ NewOrder → account ≡ textRow says lens 1 → terms ≡ termsRow says
+      → Enters (record { time = h .time; id = id; account = account; code = code; terms = terms }) ≡ requestRow k h says lens
+  unfolding requestRow
+  request-new account terms ek ea et = rw (ek, ei, ec, ea, et)
+
+  module _ (original : Part) (eo : original ≡ textRow says lens 41) (side : ℕ) (es : side ≡ getD says (slot 54) 0) where
+    pub request-replace : (quantity level : ℕ) → k ≡ Replacement → quantity ≡ getD says (slot 38) 0 → level ≡ getD says (slot 44) 0
+        → Replaces (record { time = h .time; id = id; original = original; code = code; quantity = quantity; level = level; side = side }) ≡ requestRow k h says lens
+    unfolding requestRow
+    request-replace quantity level ek eq el = rw (ek, ei, ec, eo, es, eq, el)
+
+    pub request-cancel : k ≡ Cancel → Cancels (record { time = h .time; id = id; original = original; code = code; side = side }) ≡ requestRow k h says lens
+    unfolding requestRow
+    request-cancel ek = rw (ek, ei, ec, eo, es)
+
+pub request-unknown : (k : Kind) (h : Head) (says lens : List ℕ) (r : Asked) → k ≡ Unknown → r ≡ refusalOf h 11 35 → r ≡ requestRow k h says lens
+unfolding requestRow
+request-unknown k h says lens r ek er = er ∙ rw ek
+
+-- ---- the answer, from the last step back
+module _ (k : Kind) (h : Head) (says lens : List ℕ) (t : ℕ) (e : t ≡ firstUnset (needed k) lens) (r : Asked) where
+  pub completes-missing : (t ≡ 0 → ⊥) → r ≡ refusalOf h 1 t → r ≡ completedRow k h says lens
+  unfolding completedRow
+  completes-missing d g = g ∙ rw (← e, ne-eqb t 0 d)
+
+  pub completes-is : t ≡ 0 → r ≡ requestRow k h says lens → r ≡ completedRow k h says lens
+  unfolding completedRow
+  completes-is z g = g ∙ rw (← e, eq-eqb t 0 z)
+
+module _ (k : Kind) (h : Head) (b x : List ℕ) (from : ℕ) (v : Verdict) (says lens : List ℕ) (eb : b ≡ x) (w : Walked k b from v says lens) (r : Asked) where
+  pub decides-fails : (reason tag : ℕ) → v ≡ Verdict.Fails reason tag → r ≡ refusalOf h reason tag → r ≡ bodyAsked k h x from
+  unfolding bodyAsked
+  decides-fails reason tag g er = er ∙ rw (← eb) (rw (← w .verdict, g))
+
+  pub decides-passes : v ≡ Verdict.Passes → r ≡ completedRow k h says lens → r ≡ bodyAsked k h x from
+  unfolding bodyAsked
+  decides-passes g er = er ∙ complete k b from says lens (w .rows g) (sym (w .verdict) ∙ g) h ∙ rw (← eb) (rw (← w .verdict, g))
+
+-- the places of a part are numbers of 64 bits
+part-length : (s : List ℕ) (start len : ℕ) → length (partAt s start len) ≤ length s - start
+unfolding partAt
+part-length s start len = simp (length-take, length-drop) (omega arith)
+
+pub part-near : (s v : List ℕ) (start len : ℕ) → start < 2 ^ 64 → length s < 2 ^ 64 → v ≡ partAt s start len → start + length v < 2 ^ 64
+part-near s v start len h l e =
+    let a : length v ≤ length s - start = rw e (part-length s start len) in
+    omega arith
+
+pub starts : (s v : List ℕ) (start len : ℕ) → start < 2 ^ 64 → length s < 2 ^ 64 → v ≡ partAt s start len → Starts v start (replicate 28 0) (replicate 28 0)
+starts s v start len h l e = record { no-says = refl; no-lens = refl; near = part-near s v start len h l e }
+
+-- ---- the type
+module _ (v : List ℕ) (a : Bool) (ea : a ≡ sameBytes v (68 ∷ [])) where
+  pub kind-new : a ≡ true → NewOrder ≡ kindOf v
+  unfolding kindOf
+  kind-new h = rw (sym ea ∙ h)
+
+  module _ (ha : a ≡ false) (c : Bool) (ec : c ≡ sameBytes v (71 ∷ [])) where
+    pub kind-replacement : c ≡ true → Replacement ≡ kindOf v
+    unfolding kindOf
+    kind-replacement h = rw (sym ea ∙ ha, sym ec ∙ h)
+
+    module _ (hc : c ≡ false) (d : Bool) (ed : d ≡ sameBytes v (70 ∷ [])) where
+      pub kind-cancel : d ≡ true → Cancel ≡ kindOf v
+      unfolding kindOf
+      kind-cancel h = rw (sym ea ∙ ha, sym ec ∙ hc, sym ed ∙ h)
+
+      pub kind-unknown : d ≡ false → Unknown ≡ kindOf v
+      unfolding kindOf
+      kind-unknown h = rw (sym ea ∙ ha, sym ec ∙ hc, sym ed ∙ h)
+
+-- ---- the head
+module _ (venue port s : List ℕ) (h : Head) (eh : h ≡ headOf s) (r : Asked) where
+  value-35 : partAt s (h .kind .start) (h .kind .len) ≡ valueOf s 35
+  unfolding headOf
+  value-35 = rw eh (value-part s 35)
+
+  value-49 : partAt s (h .sender .start) (h .sender .len) ≡ valueOf s 49
+  unfolding headOf
+  value-49 = rw eh (value-part s 49)
+
+  value-56 : partAt s (h .target .start) (h .target .len) ≡ valueOf s 56
+  unfolding headOf
+  value-56 = rw eh (value-part s 56)
+
+  body-is : (k : Kind) → bodyAsked k h (partAt s (h .body .start) (h .body .len)) (h .body .start) ≡ bodyAsked k (headOf s) (bodyOf s) (bodyPart s .start)
+  unfolding headOf bodyOf
+  body-is k = ap (λ x. bodyAsked k x (partAt s (x .body .start) (x .body .len)) (x .body .start)) eh
+
+  module _ (v₁ : List ℕ) (e₁ : v₁ ≡ partAt s (h .kind .start) (h .kind .len)) (k : Kind) (ek : k ≡ kindOf v₁) (a : Bool) (ea : a ≡ isKnown k) where
+    kind-is : kindOf (valueOf s 35) ≡ k
+    kind-is = sym (ek ∙ ap kindOf (e₁ ∙ value-35))
+
+    pub admits-kind : not a ≡ true → r ≡ refusalOf h 11 35 → r ≡ headAsked venue port s
+    unfolding headAsked
+    admits-kind g er = er ∙ rw (kind-is, sym ea ∙ not-true a g, eh)
+
+    module _ (ga : not a ≡ false) (v₂ : List ℕ) (e₂ : v₂ ≡ partAt s (h .sender .start) (h .sender .len)) (c : Bool) (ec : c ≡ sameBytes v₂ port) where
+      sender-is : sameBytes (valueOf s 49) port ≡ c
+      sender-is = sym (ec ∙ ap (λ x. sameBytes x port) (e₂ ∙ value-49))
+
+      pub admits-sender : not c ≡ true → r ≡ refusalOf h 9 49 → r ≡ headAsked venue port s
+      unfolding headAsked
+      admits-sender g er = er ∙ rw (kind-is, sym ea ∙ not-false a ga, sender-is, not-true c g, eh)
+
+      module _ (gc : not c ≡ false) (v₃ : List ℕ) (e₃ : v₃ ≡ partAt s (h .target .start) (h .target .len)) (d : Bool) (ed : d ≡ sameBytes v₃ venue) where
+        target-is : sameBytes (valueOf s 56) venue ≡ d
+        target-is = sym (ed ∙ ap (λ x. sameBytes x venue) (e₃ ∙ value-56))
+
+        pub admits-target : not d ≡ true → r ≡ refusalOf h 9 56 → r ≡ headAsked venue port s
+        unfolding headAsked
+        admits-target g er = er ∙ rw (kind-is, sym ea ∙ not-false a ga, sender-is, not-false c gc, target-is, not-true d g, eh)
+
+        pub admits-body : not d ≡ false → r ≡ bodyAsked k h (partAt s (h .body .start) (h .body .len)) (h .body .start) → r ≡ headAsked venue port s
+        unfolding headAsked
+        admits-body g er = er ∙ body-is k ∙ rw (kind-is, sym ea ∙ not-false a ga, sender-is, not-false c gc, target-is, not-false d g)
+
+-- ---- the message
+module _ (venue port s : List ℕ) (f : Frame) (ef : f ≡ frameOf s) where
+  pub asked-garbled : f ≡ Frame.Garbled → Garbled ≡ askedOf venue port s
+  unfolding askedOf
+  asked-garbled g = rw (← is-garbled s f ef g)
+
+  pub asked-head : (h : Head) → f ≡ Frame.Good h → h ≡ headOf s
+  asked-head h g = good-head s f ef h g
+
+  pub asked-good : (h : Head) (r : Asked) → f ≡ Frame.Good h → r ≡ headAsked venue port s → r ≡ askedOf venue port s
+  unfolding askedOf
+  asked-good h r g er = er ∙ rw (← is-good s f ef h g)

@@ -1,0 +1,285 @@
+-- The walk over the fields of a body: the verdict, and the rows of what the values say.
+use Prim.Native.Nat.{ℕ, zero, suc, _+_, _-_, _%_, _^_, _≤_, _<_}
+use mathlib.Core.Path.{_≡_, refl, sym, ap, subst, _∙_}
+use mathlib.Core.List.{List, [], _∷_}
+use mathlib.Core.Bool.{Bool, true, false, cond, not, _&&_, _||_, or-true}
+use native.Mathlib.Omega.{arith}
+use native.Mathlib.Nat.{suc-ne-zero}
+use lib.Dec.{ltb, leb, eqb}
+use lib.ListN.{length, getD, set, replicate, length-set}
+use lib.Seq.{getD-set-same, getD-set-other}
+use borrow.Author.Tests.{eq-eqb, ne-eqb, eqb-true, eqb-false, not-true, not-false}
+use Rattle.octets.specs.Octets.{partAt}
+use Rattle.octets.proofs.Bools.{split, both-l, both-r, or-r, not-both, neither-l, neither-r}
+use Rattle.fix.specs.declared.fields.Cursor.{Cursor}
+use Rattle.fix.specs.declared.fields.Found.{Found}
+use Rattle.fix.specs.declared.fields.Found.the-variants.{At, Nothing}
+use Rattle.fix.specs.declared.fields.Field.{Field}
+use Rattle.fix.specs.declared.fields.Field.the-variants.{Good, Broken, End}
+use Rattle.fix.specs.Fields.{Fld, stepOf, fieldsFrom, fieldsOf, findTag, hasTag}
+use Rattle.fix.proofs.Walk.{Says, Stepped, step-good, step-broken, step-end}
+use Rattle.request.specs.declared.Kind.{Kind}
+use Rattle.request.specs.declared.Kind.the-variants.{NewOrder, Replacement, Cancel, Unknown}
+use Rattle.request.specs.declared.Judged.{Judged}
+use Rattle.request.specs.declared.Verdict.{Verdict}
+use Rattle.request.specs.Session.{needed, optional, oneOf, belongs, listed, shapeOf, lookAs, judge, orElse, firstFailing, firstMissing}
+use Rattle.request.specs.Asks.{numberSaid, saidFound, lengthFound, saidIn, lengthIn}
+use Rattle.request.specs.Gathers.{slot, Starts, keptSays, keptLens, Gathered, Walked, firstUnset}
+use Rattle.request.proofs.Keys.{eachIs, each-at}
+
+zeros : (n i : ℕ) → _≡_ {A = ℕ} (getD (replicate n 0) i 0) 0
+zeros zero i = refl
+zeros (suc n) zero = refl
+zeros (suc n) (suc i) = zeros n i
+
+-- ---- the listed tags
+abbrev tags : List ℕ
+tags = 1 ∷ 11 ∷ 21 ∷ 38 ∷ 40 ∷ 41 ∷ 44 ∷ 47 ∷ 54 ∷ 55 ∷ 59 ∷ 60 ∷ 109 ∷ 8060 ∷ []
+
+in-tags : (ts : List ℕ) (t : ℕ) → eachIs (λ k. oneOf k tags) ts ≡ true → oneOf t ts ≡ true → oneOf t tags ≡ true
+in-tags ts t e o = each-at (λ k. oneOf k tags) ts t e o
+
+kind-tags : (k : Kind) → (eachIs (λ u. oneOf u tags) (needed k) && eachIs (λ u. oneOf u tags) (optional k)) ≡ true
+unfolding eachIs oneOf
+kind-tags NewOrder = refl
+kind-tags Replacement = refl
+kind-tags Cancel = refl
+kind-tags Unknown = refl
+
+belongs-tag : (k : Kind) (t : ℕ) → belongs k t ≡ true → oneOf t tags ≡ true
+unfolding belongs
+belongs-tag k t h =
+    let e = kind-tags k in
+    let a = eachIs (λ u. oneOf u tags) (needed k) in
+    let b = eachIs (λ u. oneOf u tags) (optional k) in
+    split (oneOf t (needed k)) (λ y. in-tags (needed k) t (both-l a b e) y) (λ n. in-tags (optional k) t (both-r a b e) (or-r (oneOf t (needed k)) (oneOf t (optional k)) h n))
+
+-- what belongs to a type is listed
+pub belongs-listed : (k : Kind) (t : ℕ) → belongs k t ≡ true → listed t ≡ true
+unfolding listed belongs oneOf
+belongs-listed NewOrder t h = rw h
+belongs-listed Replacement t h = rw (h, or-true)
+belongs-listed Cancel t h = rw (h, or-true)
+belongs-listed Unknown t h = absurd (not-both h refl)
+
+listed-tag : (t : ℕ) → listed t ≡ true → oneOf t tags ≡ true
+unfolding listed
+listed-tag t h =
+    let a = belongs NewOrder t in
+    let b = belongs Replacement t in
+    split a (λ y. belongs-tag NewOrder t y)
+    (λ n. split b (λ y. belongs-tag Replacement t y) (λ m. belongs-tag Cancel t (or-r (a || b) (belongs Cancel t) h (rw (n, m)))))
+
+-- a tag of neither list of a type
+pub none-belongs : (k : Kind) (t : ℕ) → oneOf t (needed k) ≡ false → oneOf t (optional k) ≡ false → false ≡ belongs k t
+unfolding belongs
+none-belongs k t a b = rw (a, b)
+
+pub by-kind : (k l : Kind) (t : ℕ) (b : Bool) → k ≡ l → b ≡ belongs l t → b ≡ belongs k t
+by-kind k l t b e h = rw e h
+
+pub unknown-none : (k : Kind) (t : ℕ) → k ≡ Unknown → false ≡ belongs k t
+unfolding belongs oneOf
+unknown-none k t e = rw e
+
+-- their remainders differ
+apart : ℕ → ℕ → Bool
+unfolding eachIs
+apart t u = not (eqb (slot t) (slot u)) || eqb t u
+
+all-apart : eachIs (λ t. eachIs (apart t) tags) tags ≡ true
+unfolding eachIs apart
+all-apart = refl
+
+pub slots-differ : (t u : ℕ) → listed t ≡ true → listed u ≡ true → (t ≡ u → ⊥) → slot t ≡ slot u → ⊥
+unfolding apart
+slots-differ t u ht hu d e =
+    let a = each-at (λ t. eachIs (apart t) tags) tags t all-apart (listed-tag t ht) in
+    let b = each-at (apart t) tags u a (listed-tag u hu) in
+    not-both b (rw (eq-eqb (slot t) (slot u) e, ne-eqb t u d))
+
+-- ---- one field
+abbrev fld : ℕ → ℕ → ℕ → Fld
+fld t start len = record { tag = t; start = start; len = len }
+
+module _ (k : Kind) (b : List ℕ) (from t start len : ℕ) (y : Bool) (ey : y ≡ belongs k t) where
+  module _ (z : Bool) (ez : z ≡ listed t) (h : not y ≡ true) where
+    pub judge-type : z ≡ true → Judged.Fails 2 ≡ judge k b from (fld t start len)
+    unfolding judge
+    judge-type g = rw (sym ez ∙ g, sym ey ∙ not-true y h)
+
+    pub judge-unlisted : z ≡ false → Judged.Fails 3 ≡ judge k b from (fld t start len)
+    unfolding judge
+    judge-unlisted g = rw (sym ez ∙ g)
+
+  module _ (h : not y ≡ false) where
+    here : belongs k t ≡ true
+    here = sym ey ∙ not-false y h
+
+    pub judge-empty : len ≡ 0 → Judged.Fails 4 ≡ judge k b from (fld t start len)
+    unfolding judge
+    judge-empty g = rw (belongs-listed k t here, here) (simp (eq-eqb len 0 g))
+
+    pub judge-look : (v : List ℕ) (r : Judged) → (len ≡ 0 → ⊥) → v ≡ partAt b start len → r ≡ lookAs (from + start) (shapeOf t) v → r ≡ judge k b from (fld t start len)
+    unfolding judge
+    judge-look v r g ev er = er ∙ rw (belongs-listed k t here, here, ne-eqb len 0 g, ev)
+
+-- a field that says something
+pub record Means (k : Kind) (b : List ℕ) (from : ℕ) (f : Fld) (n : ℕ) : Type 0 where
+  pub listed-is : listed (f .tag) ≡ true
+  pub some : f .len ≡ 0 → ⊥
+  pub looks : lookAs (from + f .start) (shapeOf (f .tag)) (partAt b (f .start) (f .len)) ≡ Judged.Says n
+
+means-by : (a c e : Bool) (x : Judged) (n : ℕ) → cond (not a) (Judged.Fails 3) (cond (not c) (Judged.Fails 2) (cond e (Judged.Fails 4) x)) ≡ Judged.Says n
+    → (a ≡ true) × (e ≡ false) × (x ≡ Judged.Says n)
+means-by true true false x n q = (refl, refl, q)
+means-by false c e x n q = let z : _≡_ {A = ℕ} 0 1 = cc in absurd (suc-ne-zero 0 (sym z))
+means-by true false e x n q = let z : _≡_ {A = ℕ} 0 1 = cc in absurd (suc-ne-zero 0 (sym z))
+means-by true true true x n q = let z : _≡_ {A = ℕ} 0 1 = cc in absurd (suc-ne-zero 0 (sym z))
+
+pub says-means : (k : Kind) (b : List ℕ) (from : ℕ) (f : Fld) (n : ℕ) → judge k b from f ≡ Judged.Says n → Means k b from f n
+unfolding judge
+says-means k b from f n q =
+    let m = means-by (listed (f .tag)) (belongs k (f .tag)) (eqb (f .len) 0) _ n q in
+    record { listed-is = m .0; some = eqb-false (f .len) 0 (m .1); looks = m .2 }
+
+-- ---- the invariant of the walk
+pub record Gathering (k : Kind) (b : List ℕ) (from at : ℕ) (says lens : List ℕ) : Type 0 where
+  pub says-room : length says ≡ 28
+  pub lens-room : length lens ≡ 28
+  pub near : from + length b < 2 ^ 64
+  pub verdict : firstFailing k b from (fieldsOf b) ≡ firstFailing k b from (fieldsFrom at b)
+  pub fresh : (t : ℕ) → listed t ≡ true → getD lens (slot t) 0 ≡ 0 → (getD says (slot t) 0 ≡ 0) × (findTag t (fieldsOf b) ≡ findTag t (fieldsFrom at b))
+  pub held : (t : ℕ) → listed t ≡ true → (getD lens (slot t) 0 ≡ 0 → ⊥) → (getD says (slot t) 0 ≡ saidIn b from t) × (getD lens (slot t) 0 ≡ lengthIn b t)
+
+pub gather-start : (k : Kind) (b : List ℕ) (from : ℕ) (says lens : List ℕ) → Starts b from says lens → Gathering k b from 0 says lens
+gather-start k b from says lens h =
+    record {
+      says-room = rw (h .no-says);
+      lens-room = rw (h .no-lens);
+      near = h .near;
+      verdict = refl;
+      fresh = λ t l z. (rw (h .no-says) (zeros 28 (slot t)), refl);
+      held = λ t l z. absurd (z (rw (h .no-lens) (zeros 28 (slot t))));
+    }
+
+-- another tag is looked for in the rest
+find-past : (b : List ℕ) (at t start len next u : ℕ) → Stepped b at t start len next → (t ≡ u → ⊥) → findTag u (fieldsFrom at b) ≡ findTag u (fieldsFrom next b)
+unfolding findTag
+find-past b at t start len next u w d = rw (w .fields) (simp (ne-eqb t u d))
+
+find-now : (b : List ℕ) (at t start len next : ℕ) → Stepped b at t start len next → findTag t (fieldsFrom at b) ≡ At start len
+unfolding findTag
+find-now b at t start len next w = rw (w .fields) (simp (eq-eqb t t refl))
+
+module _ (k : Kind) (b : List ℕ) (from at : ℕ) (says lens : List ℕ) (inv : Gathering k b from at says lens) (r : Field) (e : r ≡ stepOf b at) where
+  pub place-near : (t start len : ℕ) (next : Cursor) → r ≡ Good t start len next → from + start < 2 ^ 64
+  place-near t start len next g = let w = step-good b at r t start len next e g in omega (arith, inv .near, w .value, w .within)
+
+  module _ (t start len : ℕ) (next : Cursor) (g : r ≡ Good t start len next) (x : Judged) (ex : x ≡ judge k b from (fld t start len)) where
+    step : Stepped b at t start len (next .at)
+    step = step-good b at r t start len next e g
+
+    pub gather-fails : (reason : ℕ) (says′ lens′ : List ℕ) → x ≡ Judged.Fails reason → Walked k b from (Verdict.Fails reason t) says′ lens′
+    unfolding firstFailing
+    gather-fails reason says′ lens′ gx =
+        record {
+          verdict = sym (inv .verdict ∙ rw (step .fields) (rw (← ex, gx)));
+          rows = λ q. let z : _≡_ {A = ℕ} 0 1 = cc in absurd (suc-ne-zero 0 (sym z));
+        }
+
+    module _ (n : ℕ) (gx : x ≡ Judged.Says n) where
+      m : Means k b from (fld t start len) n
+      m = says-means k b from (fld t start len) n (sym ex ∙ gx)
+
+      verdict-next : firstFailing k b from (fieldsOf b) ≡ firstFailing k b from (fieldsFrom (next .at) b)
+      unfolding firstFailing
+      verdict-next = inv .verdict ∙ rw (step .fields) (rw (← ex, gx))
+
+      -- its tag has something in the rows already
+      again : (getD lens (slot t) 0 ≡ 0 → ⊥) → Gathering k b from (next .at) says lens
+      again h =
+          record {
+            says-room = inv .says-room;
+            lens-room = inv .lens-room;
+            near = inv .near;
+            verdict = verdict-next;
+            fresh = λ u l z.
+                let f = inv .fresh u l z in
+                (f .0, f .1 ∙ find-past b at t start len (next .at) u step (λ q. h (rw q z)));
+            held = inv .held;
+          }
+
+      -- it has nothing yet
+      module _ (h : getD lens (slot t) 0 ≡ 0) where
+        first : findTag t (fieldsOf b) ≡ At start len
+        first = inv .fresh t (m .listed-is) h .1 ∙ find-now b at t start len (next .at) step
+
+        other : (u : ℕ) → listed u ≡ true → (u ≡ t → ⊥) → (getD (set says (slot t) n) (slot u) 0 ≡ getD says (slot u) 0) × (getD (set lens (slot t) len) (slot u) 0 ≡ getD lens (slot u) 0)
+        other u l d =
+            let a = slots-differ u t l (m .listed-is) d in
+            (getD-set-other says (slot t) (slot u) n 0 a, getD-set-other lens (slot t) (slot u) len 0 a)
+
+        same-says : getD (set says (slot t) n) (slot t) 0 ≡ n
+        same-says = getD-set-same says (slot t) n 0 (omega (arith, inv .says-room))
+
+        same-lens : getD (set lens (slot t) len) (slot t) 0 ≡ len
+        same-lens = getD-set-same lens (slot t) len 0 (omega (arith, inv .lens-room))
+
+        said-here : n ≡ saidIn b from t
+        unfolding saidIn
+        said-here = rw first (rw (m .looks))
+
+        length-here : len ≡ lengthIn b t
+        unfolding lengthIn
+        length-here = rw first
+
+        stored : Gathering k b from (next .at) (set says (slot t) n) (set lens (slot t) len)
+        stored =
+            record {
+              says-room = simp length-set (inv .says-room);
+              lens-room = simp length-set (inv .lens-room);
+              near = inv .near;
+              verdict = verdict-next;
+              fresh = λ u l z. split (eqb u t)
+                  (λ y. absurd (m .some (sym same-lens ∙ rw (eqb-true u t y) at z)))
+                  (λ d.
+                  let o = other u l (eqb-false u t d) in
+                  let f = inv .fresh u l (sym (o .1) ∙ z) in
+                  (o .0 ∙ f .0, f .1 ∙ find-past b at t start len (next .at) u step (λ q. eqb-false u t d (sym q))));
+              held = λ u l z. split (eqb u t)
+                  (λ y. rw (eqb-true u t y) (same-says ∙ said-here, same-lens ∙ length-here))
+                  (λ d.
+                  let o = other u l (eqb-false u t d) in
+                  let f = inv .held u l (λ q. z (o .1 ∙ q)) in
+                  (o .0 ∙ f .0, o .1 ∙ f .1));
+            }
+
+      pub gather-more : (says′ lens′ : List ℕ) → says′ ≡ keptSays says lens t n → lens′ ≡ keptLens lens t len → Gathering k b from (next .at) says′ lens′
+      unfolding keptSays keptLens
+      gather-more says′ lens′ es el =
+          split (eqb (getD lens (slot t) 0) 0)
+          (λ y. rw (es, el) (rw y (stored (eqb-true (getD lens (slot t) 0) 0 y))))
+          (λ d. rw (es, el) (rw d (again (eqb-false (getD lens (slot t) 0) 0 d))))
+
+  pub gather-broken : r ≡ Broken → Walked k b from (Verdict.Fails 3 0) says lens
+  unfolding firstFailing judge listed belongs oneOf
+  gather-broken g =
+      record {
+        verdict = sym (inv .verdict ∙ rw (step-broken b at r e g));
+        rows = λ q. let z : _≡_ {A = ℕ} 0 1 = cc in absurd (suc-ne-zero 0 (sym z));
+      }
+
+  pub gather-end : r ≡ End → Walked k b from Verdict.Passes says lens
+  unfolding firstFailing findTag saidIn lengthIn
+  gather-end g =
+      record {
+        verdict = sym (inv .verdict ∙ rw (step-end b at r e g));
+        rows = λ q. λ t l. split (eqb (getD lens (slot t) 0) 0)
+            (λ y.
+            let z = eqb-true (getD lens (slot t) 0) 0 y in
+            let f = inv .fresh t l z in
+            let w : findTag t (fieldsOf b) ≡ Nothing = f .1 ∙ rw (step-end b at r e g) in
+            (f .0 ∙ rw w, z ∙ rw w))
+            (λ d. inv .held t l (eqb-false (getD lens (slot t) 0) 0 d));
+      }

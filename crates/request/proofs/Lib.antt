@@ -1,0 +1,5 @@
+-- The laws of `request`. Nothing here need be believed.
+pub mod Keys
+pub mod Judging
+pub mod Gathering
+pub mod Answers

@@ -1,0 +1,118 @@
+-- What a message asks of the market that has this venue id and this port id: it is garbled, or it gets a session Reject, or it
+-- asks for a new order, a replacement or a cancel. From "Reading a message" of document 01. A text is given by where it
+-- stands in the message, a number as a number. Assumes nothing: every list of bytes has one answer.
+use Prim.Native.Nat.{ℕ, _+_}
+use mathlib.Core.List.{List, [], _∷_}
+use mathlib.Core.Bool.{Bool, true, false, cond, not}
+use lib.Dec.{eqb}
+use Rattle.octets.specs.Octets.{partAt, sameBytes}
+use Rattle.fix.specs.declared.fields.Found.{Found}
+use Rattle.fix.specs.declared.fields.Found.the-variants.{At, Nothing}
+use Rattle.fix.specs.declared.frame.Part.{Part}
+use Rattle.fix.specs.declared.frame.Head.{Head}
+use Rattle.fix.specs.Fields.{Fld, fieldsOf, findTag, valueOf}
+use Rattle.fix.specs.Garbled.{garbledMessage, headOf, bodyPart}
+use Rattle.request.specs.declared.Kind.{Kind}
+use Rattle.request.specs.declared.Kind.the-variants.{NewOrder, Replacement, Cancel, Unknown}
+use Rattle.request.specs.declared.Judged.{Judged}
+use Rattle.request.specs.declared.Judged.the-variants.{Says, Fails}
+use Rattle.request.specs.declared.Verdict.{Verdict}
+use Rattle.request.specs.declared.Refusal.{Refusal}
+use Rattle.request.specs.declared.Terms.{Terms}
+use Rattle.request.specs.declared.Asked.{Asked}
+use Rattle.request.specs.declared.Asked.the-variants.{Garbled, Refused, Enters, Replaces, Cancels}
+use Rattle.request.specs.Session.{kindOf, needed, shapeOf, lookAs, firstFailing, firstMissing}
+
+-- ---- the body: the part of the message between field 56 and field 10
+
+unfoldable pub bodyOf : List ℕ → List ℕ
+bodyOf s = partAt s (bodyPart s .start) (bodyPart s .len)
+
+-- ---- what the value of a tag says in a body b, which stands at place `from` of the message; 0 where it has none
+
+abbrev pub numberSaid : Judged → ℕ
+numberSaid (Says n) = n
+numberSaid (Fails r) = 0
+
+abbrev pub saidFound : List ℕ → ℕ → ℕ → Found → ℕ
+saidFound b from t (At start len) = numberSaid (lookAs (from + start) (shapeOf t) (partAt b start len))
+saidFound b from t Nothing = 0
+
+abbrev pub lengthFound : Found → ℕ
+lengthFound (At start len) = len
+lengthFound Nothing = 0
+
+unfoldable pub saidIn : List ℕ → ℕ → ℕ → ℕ
+saidIn b from t = saidFound b from t (findTag t (fieldsOf b))
+
+unfoldable pub lengthIn : List ℕ → ℕ → ℕ
+lengthIn b t = lengthFound (findTag t (fieldsOf b))
+
+-- where a text stands
+abbrev pub textIn : List ℕ → ℕ → ℕ → Part
+textIn b from t = record { start = saidIn b from t; len = lengthIn b t }
+
+-- ---- a session Reject
+
+-- a Reject of the message for a reason (373) and a tag (371)
+unfoldable pub refusalOf : Head → ℕ → ℕ → Asked
+refusalOf h reason tag =
+    Refused (record { reason = reason; tag = tag; number = h .number; kind = h .kind; time = h .time })
+
+-- ---- requests
+
+unfoldable pub termsIn : List ℕ → ℕ → Terms
+termsIn b from =
+    record {
+      quantity = saidIn b from 38;
+      level = saidIn b from 44;
+      side = saidIn b from 54;
+      tif = saidIn b from 59;
+      capacity = saidIn b from 47;
+      class = saidIn b from 8060;
+      mpid = saidIn b from 109;
+    }
+
+-- what a complete message of the type asks
+unfoldable pub requestIn : Kind → Head → List ℕ → ℕ → Asked
+requestIn NewOrder h b from =
+    Enters (record { time = h .time; id = textIn b from 11; account = textIn b from 1; code = textIn b from 55; terms = termsIn b from })
+requestIn Replacement h b from =
+    Replaces (record { time = h .time; id = textIn b from 11; original = textIn b from 41; code = textIn b from 55; quantity = saidIn b from 38; level = saidIn b from 44; side = saidIn b from 54 })
+requestIn Cancel h b from =
+    Cancels (record { time = h .time; id = textIn b from 11; original = textIn b from 41; code = textIn b from 55; side = saidIn b from 54 })
+requestIn Unknown h b from = refusalOf h 11 35
+
+-- ---- from the left
+
+-- the body passed: the smallest needed tag that is missing, or the request
+unfoldable pub completed : Kind → Head → List ℕ → ℕ → Asked
+completed k h b from =
+    let t = firstMissing (needed k) (fieldsOf b) in
+    cond (eqb t 0) (requestIn k h b from) (refusalOf h 1 t)
+
+abbrev pub afterBody : Kind → Head → List ℕ → ℕ → Verdict → Asked
+afterBody k h b from (Verdict.Fails r t) = refusalOf h r t
+afterBody k h b from Verdict.Passes = completed k h b from
+
+-- the type is known, and the ids are right: the body decides
+unfoldable pub bodyAsked : Kind → Head → List ℕ → ℕ → Asked
+bodyAsked k h b from = afterBody k h b from (firstFailing k b from (fieldsOf b))
+
+-- 35 is not known: 11. 49 is not the port, or else 56 not the venue: 9. Then the body.
+abbrev pub isKnown : Kind → Bool
+isKnown NewOrder = true
+isKnown Replacement = true
+isKnown Cancel = true
+isKnown Unknown = false
+
+unfoldable pub headAsked : List ℕ → List ℕ → List ℕ → Asked
+headAsked venue port s =
+    cond (not (isKnown (kindOf (valueOf s 35)))) (refusalOf (headOf s) 11 35)
+    (cond (not (sameBytes (valueOf s 49) port)) (refusalOf (headOf s) 9 49)
+    (cond (not (sameBytes (valueOf s 56) venue)) (refusalOf (headOf s) 9 56)
+    (bodyAsked (kindOf (valueOf s 35)) (headOf s) (bodyOf s) (bodyPart s .start))))
+
+-- what a message asks
+unfoldable pub askedOf : List ℕ → List ℕ → List ℕ → Asked
+askedOf venue port s = cond (garbledMessage s) Garbled (headAsked venue port s)

@@ -1,0 +1,142 @@
+-- Which fields a message of each type has, what their values may be, and the first reason for which a body is rejected. From
+-- "Reading a message" of document 01, the part on the session Reject: fields are asked from the left, each for the reasons
+-- 3, 2, 4, 6 and 5 in this order; then the smallest needed tag that is missing, for the reason 1. Assumes nothing.
+use Prim.Native.Nat.{ℕ, _+_, _-_}
+use mathlib.Core.List.{List, [], _∷_}
+use mathlib.Core.Bool.{Bool, true, false, cond, not, _&&_, _||_}
+use lib.ListN.{length, getD}
+use lib.Dec.{ltb, leb, eqb}
+use Rattle.octets.specs.Octets.{partAt, sameBytes}
+use Rattle.decimal.specs.declared.Said.{Said}
+use Rattle.decimal.specs.declared.Said.the-variants.{Value, Wrong}
+use Rattle.decimal.specs.Reading.{isDigit, numOf, levelOf, timeShaped, timeRanged}
+use Rattle.fix.specs.Fields.{Fld, hasTag}
+use Rattle.request.specs.declared.Kind.{Kind}
+use Rattle.request.specs.declared.Kind.the-variants.{NewOrder, Replacement, Cancel, Unknown}
+use Rattle.request.specs.declared.Judged.{Judged}
+use Rattle.request.specs.declared.Judged.the-variants.{Says, Fails}
+use Rattle.request.specs.declared.Verdict.{Verdict}
+
+-- ---- types: D, G, F
+
+-- the type that the value of 35 names
+unfoldable pub kindOf : List ℕ → Kind
+kindOf v =
+    cond (sameBytes v (68 ∷ [])) NewOrder (cond (sameBytes v (71 ∷ [])) Replacement (cond (sameBytes v (70 ∷ [])) Cancel Unknown))
+
+-- the tags that a message of the type needs, from the smallest up
+abbrev pub needed : Kind → List ℕ
+needed NewOrder = 11 ∷ 21 ∷ 38 ∷ 40 ∷ 44 ∷ 47 ∷ 54 ∷ 55 ∷ 59 ∷ 60 ∷ 8060 ∷ []
+needed Replacement = 11 ∷ 21 ∷ 38 ∷ 40 ∷ 41 ∷ 44 ∷ 54 ∷ 55 ∷ 60 ∷ []
+needed Cancel = 11 ∷ 41 ∷ 54 ∷ 55 ∷ 60 ∷ []
+needed Unknown = []
+
+-- the tags that it may have besides
+abbrev pub optional : Kind → List ℕ
+optional NewOrder = 1 ∷ 109 ∷ []
+optional Replacement = []
+optional Cancel = 38 ∷ []
+optional Unknown = []
+
+-- t is one of the numbers ts
+unfoldable pub oneOf : ℕ → List ℕ → Bool
+oneOf t [] = false
+oneOf t (u ∷ us) = eqb t u || oneOf t us
+
+-- a message of the type k may have the tag t
+unfoldable pub belongs : Kind → ℕ → Bool
+belongs k t = oneOf t (needed k) || oneOf t (optional k)
+
+-- a message of some type may have the tag t
+unfoldable pub listed : ℕ → Bool
+listed t = belongs NewOrder t || belongs Replacement t || belongs Cancel t
+
+-- ---- shapes and values
+
+-- what a value is: a text of 1 to n characters; 1 to n digits; 1 to n digits, not 0; a yield; a time; one of some characters
+pub data Shape : Type 0 where
+  Text : ℕ → Shape
+  Digits : ℕ → Shape
+  Amount : ℕ → Shape
+  Yield : Shape
+  Time : Shape
+  Among : List ℕ → Shape
+  Unlisted : Shape
+
+-- the shape of each tag's value
+unfoldable pub shapeOf : ℕ → Shape
+shapeOf t =
+    cond (oneOf t (1 ∷ [])) (Text 10)
+    (cond (oneOf t (11 ∷ 41 ∷ [])) (Text 32)
+    (cond (oneOf t (55 ∷ [])) (Digits 9)
+    (cond (oneOf t (38 ∷ [])) (Amount 9)
+    (cond (oneOf t (109 ∷ [])) (Amount 6)
+    (cond (oneOf t (44 ∷ [])) Yield
+    (cond (oneOf t (60 ∷ [])) Time
+    (cond (oneOf t (21 ∷ [])) (Among (49 ∷ []))
+    (cond (oneOf t (40 ∷ [])) (Among (50 ∷ []))
+    (cond (oneOf t (47 ∷ [])) (Among (65 ∷ 80 ∷ []))
+    (cond (oneOf t (54 ∷ [])) (Among (49 ∷ 50 ∷ []))
+    (cond (oneOf t (59 ∷ [])) (Among (48 ∷ 51 ∷ []))
+    (cond (oneOf t (8060 ∷ [])) (Among (49 ∷ 51 ∷ 52 ∷ 53 ∷ 54 ∷ [])) Unlisted))))))))))))
+
+-- the number that one character says: a digit itself, another its code
+unfoldable pub charSays : ℕ → ℕ
+charSays c = cond (isDigit c) (c - 48) c
+
+-- digits, of whatever value: the place where they stand
+abbrev pub digitsAt : ℕ → Said → Judged
+digitsAt at (Value n) = Says at
+digitsAt at Wrong = Fails 6
+
+-- an amount is not 0
+abbrev pub amountOf : Said → Judged
+amountOf (Value n) = cond (eqb n 0) (Fails 5) (Says n)
+amountOf Wrong = Fails 6
+
+-- a level, of whatever value
+abbrev pub levelSaid : Said → Judged
+levelSaid (Value n) = Says n
+levelSaid Wrong = Fails 6
+
+-- what a value of a shape says, where it stands at place `at` of the message: 6 for another shape, 5 for another value
+unfoldable pub lookAs : ℕ → Shape → List ℕ → Judged
+lookAs at (Text n) v = cond (leb 1 (length v) && leb (length v) n) (Says at) (Fails 6)
+lookAs at (Digits n) v = digitsAt at (numOf n v)
+lookAs at (Amount n) v = amountOf (numOf n v)
+lookAs at Yield v = levelSaid (levelOf v)
+lookAs at Time v = cond (timeShaped v) (cond (timeRanged v) (Says at) (Fails 5)) (Fails 6)
+lookAs at (Among cs) v = cond (eqb (length v) 1) (cond (oneOf (getD v 0 0) cs) (Says (charSays (getD v 0 0))) (Fails 5)) (Fails 6)
+lookAs at Unlisted v = Fails 3
+
+-- ---- a field of a body b, which stands at place `from` of the message
+
+-- where the value of a field stands in the message, and its bytes
+abbrev pub placeIn : ℕ → Fld → ℕ
+placeIn from f = from + f .start
+
+abbrev pub valueIn : List ℕ → Fld → List ℕ
+valueIn b f = partAt b (f .start) (f .len)
+
+-- a field of a message of the type k: 3 for a tag that is not listed, 2 for one of another type, 4 for no value, then 6 and 5
+unfoldable pub judge : Kind → List ℕ → ℕ → Fld → Judged
+judge k b from f =
+    cond (not (listed (f .tag))) (Fails 3)
+    (cond (not (belongs k (f .tag))) (Fails 2)
+    (cond (eqb (f .len) 0) (Fails 4)
+    (lookAs (placeIn from f) (shapeOf (f .tag)) (valueIn b f))))
+
+-- the verdict on a field, or else on those after it
+abbrev pub orElse : Judged → ℕ → Verdict → Verdict
+orElse (Says n) t rest = rest
+orElse (Fails r) t rest = Verdict.Fails r t
+
+-- the first field from the left that fails
+unfoldable pub firstFailing : Kind → List ℕ → ℕ → List Fld → Verdict
+firstFailing k b from [] = Verdict.Passes
+firstFailing k b from (f ∷ fs) = orElse (judge k b from f) (f .tag) (firstFailing k b from fs)
+
+-- the first of the tags ts that no field has, and 0 where each has one
+unfoldable pub firstMissing : List ℕ → List Fld → ℕ
+firstMissing [] fs = 0
+firstMissing (t ∷ ts) fs = cond (hasTag t fs) (firstMissing ts fs) t

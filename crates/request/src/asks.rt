@@ -1,0 +1,190 @@
+// What a message asks of a market.
+use crate::Asked;
+use crate::Cancellation;
+use crate::Kind;
+use crate::NewOrder;
+use crate::Refusal;
+use crate::Replacement;
+use crate::Terms;
+use crate::Verdict;
+use crate::body::gather;
+use crate::body::missing;
+use fix::frame::Frame;
+use fix::frame::Head;
+use fix::frame::Part;
+use fix::frame::framed;
+use octets::part::part_at;
+use octets::part::same;
+ghost use mathlib.Core.Path.{_≡_};
+ghost use mathlib.Core.List.{[], _∷_};
+ghost use Prim.Native.Nat.{ℕ, _+_, _-_, _^_, _≤_, _<_};
+ghost use lib.ListN.{length, getD};
+ghost use Rattle.octets.specs.Octets.{partAt};
+ghost use Rattle.fix.specs.Garbled.{headOf};
+ghost use Rattle.request.specs.Session.{kindOf};
+ghost use Rattle.request.specs.Asks.{isKnown, refusalOf, bodyAsked, headAsked, askedOf};
+ghost use Rattle.request.specs.Gathers.{slot, textRow, termsRow, requestRow, completedRow};
+
+// The type that the value of 35 names.
+fn kind_of(v: &[u8]) -> Kind
+    ensures { λ r. ⌜ r ≡ kindOf (now (v .entry)) ⌝ }
+{
+    if same(v, b"D") {
+        return Kind::NewOrder;
+    }
+    if same(v, b"G") {
+        return Kind::Replacement;
+    }
+    if same(v, b"F") {
+        return Kind::Cancel;
+    }
+    Kind::Unknown
+}
+
+// Whether the market takes messages of the type.
+fn is_known(kind: Kind) -> bool
+    ensures { λ r. ⌜ r ≡ isKnown kind ⌝ }
+{
+    match kind {
+        Kind::NewOrder => true,
+        Kind::Replacement => true,
+        Kind::Cancel => true,
+        Kind::Unknown => false,
+    }
+}
+
+// A session Reject of the message.
+fn refuses(h: Head, reason: u64, tag: u64) -> Asked
+    ensures { λ r. ⌜ r ≡ refusalOf h reason tag ⌝ }
+{
+    let kind = h.kind;
+    let time = h.time;
+    Asked::Refused(Refusal {
+        reason,
+        tag,
+        number: h.number,
+        kind,
+        time,
+    })
+}
+
+// What a row has for a tag.
+fn in_row(row: &[u64; 28], tag: u64) -> u64
+    ensures { λ r. ⌜ r ≡ getD (now (row .entry)) (slot tag) 0 ⌝ }
+{
+    let j = (tag % 28) as usize;
+    row[j]
+}
+
+// Where the text of a tag stands, by the rows.
+fn text_at(says: &[u64; 28], lens: &[u64; 28], tag: u64) -> Part
+    ensures { λ r. ⌜ r ≡ textRow (now (says .entry)) (now (lens .entry)) tag ⌝ }
+{
+    Part {
+        start: in_row(says, tag) as usize,
+        len: in_row(lens, tag) as usize,
+    }
+}
+
+// The numbers of a new order, by the row.
+fn terms_at(says: &[u64; 28]) -> Terms
+    ensures { λ r. ⌜ r ≡ termsRow (now (says .entry)) ⌝ }
+{
+    Terms {
+        quantity: in_row(says, 38),
+        level: in_row(says, 44),
+        side: in_row(says, 54),
+        tif: in_row(says, 59),
+        capacity: in_row(says, 47),
+        class: in_row(says, 8060),
+        mpid: in_row(says, 109),
+    }
+}
+
+// What a complete message of the type asks, by the rows.
+fn request(kind: Kind, h: Head, says: &[u64; 28], lens: &[u64; 28]) -> Asked
+    ensures { λ r. ⌜ r ≡ requestRow kind h (now (says .entry)) (now (lens .entry)) ⌝ }
+{
+    let time = h.time;
+    let id = text_at(says, lens, 11);
+    let code = text_at(says, lens, 55);
+    match kind {
+        Kind::NewOrder => Asked::Enters(NewOrder {
+            time,
+            id,
+            account: text_at(says, lens, 1),
+            code,
+            terms: terms_at(says),
+        }),
+        Kind::Replacement => Asked::Replaces(Replacement {
+            time,
+            id,
+            original: text_at(says, lens, 41),
+            code,
+            quantity: in_row(says, 38),
+            level: in_row(says, 44),
+            side: in_row(says, 54),
+        }),
+        Kind::Cancel => Asked::Cancels(Cancellation {
+            time,
+            id,
+            original: text_at(says, lens, 41),
+            code,
+            side: in_row(says, 54),
+        }),
+        Kind::Unknown => refuses(h, 11, 35),
+    }
+}
+
+// The body passed: a needed tag is missing, or this is the request.
+fn completes(kind: Kind, h: Head, says: &[u64; 28], lens: &[u64; 28]) -> Asked
+    ensures { λ r. ⌜ r ≡ completedRow kind h (now (says .entry)) (now (lens .entry)) ⌝ }
+{
+    let t = missing(kind, lens);
+    if t != 0 {
+        return refuses(h, 1, t);
+    }
+    request(kind, h, says, lens)
+}
+
+// The body, a part from the middle of the message, is handed on to the reader of fields and decides.
+fn decides(s: &[u8], kind: Kind, h: Head) -> Asked
+    ensures { λ r. ⌜ r ≡ bodyAsked kind h (partAt (now (s .entry)) (h .body .start) (h .body .len)) (h .body .start) ⌝ }
+{
+    let mut says: [u64; 28] = [0; 28];
+    let mut lens: [u64; 28] = [0; 28];
+    let from = h.body.start;
+    let body = part_at(s, from, h.body.len);
+    match gather(kind, body, from as u64, &mut says, &mut lens) {
+        Verdict::Fails { reason, tag } => refuses(h, reason, tag),
+        Verdict::Passes => completes(kind, h, &says, &lens),
+    }
+}
+
+// What a message that is not garbled asks: the type, the ids, then the body.
+fn admits(venue: &[u8], port: &[u8], s: &[u8], h: Head) -> Asked
+    requires { ⌜ h ≡ headOf (now s) ⌝ }
+    ensures { λ r. ⌜ r ≡ headAsked (now (venue .entry)) (now (port .entry)) (now (s .entry)) ⌝ }
+{
+    let kind = kind_of(part_at(s, h.kind.start, h.kind.len));
+    if !is_known(kind) {
+        return refuses(h, 11, 35);
+    }
+    if !same(part_at(s, h.sender.start, h.sender.len), port) {
+        return refuses(h, 9, 49);
+    }
+    if !same(part_at(s, h.target.start, h.target.len), venue) {
+        return refuses(h, 9, 56);
+    }
+    decides(s, kind, h)
+}
+
+// What a message asks of the market with this venue id and this port id.
+pub fn asked(venue: &[u8], port: &[u8], s: &[u8]) -> Asked
+    ensures { λ r. ⌜ r ≡ askedOf (now (venue .entry)) (now (port .entry)) (now (s .entry)) ⌝ }
+{
+    match framed(s) {
+        Frame::Garbled => Asked::Garbled,
+        Frame::Good(h) => admits(venue, port, s, h),
+    }
+}

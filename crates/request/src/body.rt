@@ -1,0 +1,107 @@
+// The fields of a body from the left: the first that fails, and what the others say.
+use crate::Judged;
+use crate::Kind;
+use crate::Verdict;
+use crate::values::in_kind;
+use crate::values::in_some;
+use crate::values::look;
+use fix::fields::Cursor;
+use fix::fields::Field;
+use octets::part::part_at;
+ghost use mathlib.Core.Path.{_≡_};
+ghost use mathlib.Core.List.{[], _∷_};
+ghost use Prim.Native.Nat.{ℕ, _+_, _-_, _^_, _≤_, _<_};
+ghost use lib.ListN.{length, getD};
+ghost use Rattle.fix.specs.Fields.{fieldsOf};
+ghost use Rattle.request.specs.Session.{judge, needed};
+ghost use Rattle.request.specs.Gathers.{Starts, keptSays, keptLens, Walked, firstUnset};
+
+// What a field says, or why it fails: its value stands at place `start` of the body, which stands at place `from` of the
+// message.
+fn judged(kind: Kind, b: &[u8], from: u64, tag: u64, start: usize, len: usize) -> Judged
+    requires { ⌜ from + start < 2 ^ 64 ⌝ }
+    ensures { λ r. ⌜ r ≡ judge kind (now (b .entry)) from (record { tag = tag; start = start; len = len }) ⌝ }
+{
+    if !in_kind(kind, tag) {
+        if in_some(tag) {
+            return Judged::Fails(2);
+        }
+        return Judged::Fails(3);
+    }
+    if len == 0 {
+        return Judged::Fails(4);
+    }
+    look(from + start as u64, tag, part_at(b, start, len))
+}
+
+// Puts what a value says and its length into the rows, where its tag has nothing there yet.
+fn keep(says: &mut [u64; 28], lens: &mut [u64; 28], tag: u64, n: u64, len: usize)
+    ensures { λ _. ⌜ (now (says .exit) ≡ keptSays (now (says .entry)) (now (lens .entry)) tag n)
+        × (now (lens .exit) ≡ keptLens (now (lens .entry)) tag len) ⌝ }
+{
+    let j = (tag % 28) as usize;
+    if lens[j] == 0 {
+        says[j] = n;
+        lens[j] = len as u64;
+    }
+}
+
+// Walks over the fields of a body. The rows take, for each listed tag, what its value says and how long it is.
+pub fn gather(
+    kind: Kind,
+    b: &[u8],
+    from: u64,
+    says: &mut [u64; 28],
+    lens: &mut [u64; 28],
+) -> Verdict
+    requires { ⌜ Starts (now b) from (now says) (now lens) ⌝ }
+    ensures { λ r. ⌜ Walked kind (now (b .entry)) from r (now (says .exit)) (now (lens .exit)) ⌝ }
+{
+    let mut c = Cursor { at: 0 };
+    loop {
+        match c.step(b) {
+            Field::Good {
+                tag,
+                start,
+                len,
+                next,
+            } => {
+                match judged(kind, b, from, tag, start, len) {
+                    Judged::Says(n) => keep(says, lens, tag, n, len),
+                    Judged::Fails(reason) => return Verdict::Fails { reason, tag },
+                }
+                c = next;
+            }
+            Field::Broken => return Verdict::Fails { reason: 3, tag: 0 },
+            Field::End => return Verdict::Passes,
+        }
+    }
+}
+
+// The first of the tags that has no length in the row, and 0 where each has one.
+fn first_unset(tags: &[u64], lens: &[u64; 28]) -> u64
+    ensures { λ r. ⌜ r ≡ firstUnset (now (tags .entry)) (now (lens .entry)) ⌝ }
+{
+    let mut i = 0;
+    while i < tags.len() {
+        let t = tags[i];
+        let j = (t % 28) as usize;
+        if lens[j] == 0 {
+            return t;
+        }
+        i += 1;
+    }
+    0
+}
+
+// The smallest tag that the type needs and the body lacks, and 0 where it lacks none.
+pub fn missing(kind: Kind, lens: &[u64; 28]) -> u64
+    ensures { λ r. ⌜ r ≡ firstUnset (needed kind) (now (lens .entry)) ⌝ }
+{
+    match kind {
+        Kind::NewOrder => first_unset(&[11, 21, 38, 40, 44, 47, 54, 55, 59, 60, 8060], lens),
+        Kind::Replacement => first_unset(&[11, 21, 38, 40, 41, 44, 54, 55, 60], lens),
+        Kind::Cancel => first_unset(&[11, 41, 54, 55, 60], lens),
+        Kind::Unknown => 0,
+    }
+}

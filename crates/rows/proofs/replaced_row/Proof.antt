@@ -1,0 +1,17 @@
+-- `rows::replaced_row` meets its contract: the row is the table.
+use borrow.Author.Needs.{needs}
+use mathlib.Core.Path.{ap}
+use Rattle.rows.specs.declared.Figures.{Figures}
+use Rattle.rows.specs.Rows.{padded, header, replacedFields}
+use Rattle.rows.proofs.replaced_row.Statement.{statement}
+use Rattle.rows.proofs.replaced_row.Tie as tie
+
+figures-of-requires : tie.Need-figures-of-requires
+figures-of-requires c κs = search needs
+
+returns : tie.Need-returns
+unfolding replacedFields header
+returns c = let a = c .before .before .args in ap (λ (g : Figures). padded (replacedFields (a .s) (a .o) g (a .w))) (c .figures-of .ensures)
+
+pub replaced-row-spec : {M : Type 1} → statement M
+replaced-row-spec = tie.close (tie.spec figures-of-requires returns)

@@ -1,0 +1,292 @@
+-- The seven kinds of report, each as its row of fields (document 01, "The reports"; source document 000, 7.2 and 7.5.1 to
+-- 7.5.4, without 110 and 797): the header's fields from 35 on, then the body's with their tags ascending; 8, 9 and 10 are the
+-- frame's. 34 and 17 are the report's number, 52 and 60 the causing message's 52; all of an order is taken after the event,
+-- and its 38 is the quantity accepted, also after a decrement. Characters stand by their numbers: 48 to 57 are the digits 0 to 9.
+-- Assumes nothing.
+use mathlib.Core.Bool.{Bool, true, false, cond}
+use mathlib.Core.List.{List, [], _∷_, _++_}
+use Prim.Native.Nat.{ℕ, _+_, _-_, _%_}
+use lib.Dec.{eqb, ltb}
+use lib.ListN.{length, replicate}
+use Rattle.decimal.specs.Writing.{meanOf}
+use Rattle.matching.specs.declared.Order.{Order}
+use Rattle.matching.specs.Matching.{openOf}
+use Rattle.report.specs.declared.Place.{Place}
+use Rattle.report.specs.declared.Value.{Value}
+use Rattle.report.specs.declared.Value.the-variants.{Absent, Number, Char, Word, Sent, Stored, Level, Mean}
+use Rattle.report.specs.declared.Field.{Field}
+use Rattle.rows.specs.declared.Stamp.{Stamp}
+use Rattle.rows.specs.declared.Shown.{Shown}
+use Rattle.rows.specs.declared.Figures.{Figures}
+use Rattle.rows.specs.declared.Ground.{Ground}
+use Rattle.rows.specs.declared.Fill.{Fill}
+use Rattle.rows.specs.declared.Refused.{Refused}
+use Rattle.rows.specs.declared.Unchanged.{Unchanged}
+use Rattle.rows.specs.declared.Faulty.{Faulty}
+
+-- ---- single values
+
+-- a tag with its value
+infix 80 _is_
+abbrev pub _is_ : ℕ → Value → Field
+tag is v = record { tag = tag; value = v }
+
+-- the text at a place: of the message that was sent, or of the table where it is stored
+unfoldable pub text : Place → Value
+text p = cond (p .sent) (Sent (p .start) (p .length)) (Stored (p .start) (p .length))
+
+-- a number, or no value where it is 0
+unfoldable pub orNumber : ℕ → Value
+orNumber n = cond (eqb n 0) Absent (Number n)
+
+-- a number of one digit as a character
+unfoldable pub digit : ℕ → Value
+digit n = Char (48 + n % 10)
+
+-- `DJGB` and `NONE`
+abbrev pub djgb : Value
+djgb = Word 68 74 71 66
+
+abbrev pub nobody : Value
+nobody = Word 78 79 78 69
+
+-- 37 where there may be no order, which then is number 0
+unfoldable pub orNobody : ℕ → Value
+orNobody n = cond (eqb n 0) nobody (Number n)
+
+-- ---- what is worked out of an order
+
+-- AvgPx: the mean of what has executed
+unfoldable pub avgPx : Order → ℕ
+avgPx o = meanOf (o .sum) (o .executed)
+
+-- 39 of Replaced: 1 if anything has executed, else 5
+unfoldable pub replacedStatus : Order → ℕ
+replacedStatus o = cond (eqb (o .executed) 0) 5 1
+
+-- 39 and 150 of a Trade: 2 if it leaves nothing open, else 1
+unfoldable pub tradeStatus : Order → ℕ
+tradeStatus o = cond (eqb (openOf o) 0) 2 1
+
+-- 39 of a Cancel reject where an order has 41: 4 if canceled, 2 if else nothing is open, 1 if partly executed, else 0
+unfoldable pub statusOf : Order → ℕ
+statusOf o = cond (ltb 0 (o .canceled)) 4 (cond (eqb (openOf o) 0) 2 (cond (ltb 0 (o .executed)) 1 0))
+
+-- all of it: 109 if the order has an MPID, 6, 151, 54, 59, 8060, and 39 of a Trade and of Replaced
+unfoldable pub figuresOf : Shown → Figures
+figuresOf o =
+    record {
+      client = orNumber (o .order .mpid);
+      mean = avgPx (o .order);
+      left = openOf (o .order);
+      side = digit (o .order .side);
+      tif = digit (o .order .tif);
+      class = digit (o .class);
+      traded = digit (tradeStatus (o .order));
+      replaced = digit (replacedStatus (o .order));
+    }
+
+-- ---- 41 and 378 of Replaced and Canceled: as requested, 41 alone; by prevention 378=100, and on a decrement the order's own 11
+-- as 41; of an IOC's rest 378=99
+
+abbrev pub requested : Value → Ground
+requested orig = record { orig = orig; reason = Absent }
+
+abbrev pub prevented : Ground
+prevented = record { orig = Absent; reason = Number 100 }
+
+abbrev pub decremented : Shown → Ground
+decremented o = record { orig = o .id; reason = Number 100 }
+
+abbrev pub expired : Ground
+expired = record { orig = Absent; reason = Number 99 }
+
+-- ---- a row as it is handed on
+
+-- with fields of no value behind it, 36 in all
+abbrev pub padded : List Field → List Field
+padded row = row ++ replicate (36 - length row) (0 is Absent)
+
+-- ---- the rows
+
+-- the header's fields, 35 given as its character
+unfoldable pub header : ℕ → Stamp → List Field
+header type s =
+    35 is Char type
+    ∷ 34 is Number (s .number)
+    ∷ 49 is s .venue
+    ∷ 50 is djgb
+    ∷ 52 is s .time
+    ∷ 56 is s .port
+    ∷ []
+
+-- Accepted
+unfoldable pub acceptedFields : Stamp → Shown → Figures → List Field
+acceptedFields s o g =
+    header 56 s
+    ++ (1 is o .account
+    ∷ 6 is Mean (g .mean)
+    ∷ 11 is o .id
+    ∷ 14 is Number (o .order .executed)
+    ∷ 17 is Number (s .number)
+    ∷ 20 is Char 48
+    ∷ 37 is Number (o .orderid)
+    ∷ 38 is Number (o .order .qty)
+    ∷ 39 is Char 48
+    ∷ 40 is Char 50
+    ∷ 44 is Level (o .order .level)
+    ∷ 47 is Char (o .capacity)
+    ∷ 54 is g .side
+    ∷ 55 is o .code
+    ∷ 59 is g .tif
+    ∷ 60 is s .time
+    ∷ 109 is g .client
+    ∷ 150 is Char 48
+    ∷ 151 is Number (g .left)
+    ∷ 423 is Number 9
+    ∷ 8060 is g .class
+    ∷ [])
+
+abbrev pub acceptedRow : Stamp → Shown → List Field
+acceptedRow s o = acceptedFields s o (figuresOf o)
+
+-- Replaced, as requested or by a decrement
+unfoldable pub replacedFields : Stamp → Shown → Figures → Ground → List Field
+replacedFields s o g w =
+    header 56 s
+    ++ (1 is o .account
+    ∷ 6 is Mean (g .mean)
+    ∷ 11 is o .id
+    ∷ 14 is Number (o .order .executed)
+    ∷ 17 is Number (s .number)
+    ∷ 20 is Char 48
+    ∷ 37 is Number (o .orderid)
+    ∷ 38 is Number (o .order .qty)
+    ∷ 39 is g .replaced
+    ∷ 40 is Char 50
+    ∷ 41 is w .orig
+    ∷ 44 is Level (o .order .level)
+    ∷ 47 is Char (o .capacity)
+    ∷ 54 is g .side
+    ∷ 55 is o .code
+    ∷ 59 is g .tif
+    ∷ 60 is s .time
+    ∷ 109 is g .client
+    ∷ 150 is Char 53
+    ∷ 151 is Number (g .left)
+    ∷ 378 is w .reason
+    ∷ 423 is Number 9
+    ∷ 8060 is g .class
+    ∷ [])
+
+abbrev pub replacedRow : Stamp → Shown → Ground → List Field
+replacedRow s o w = replacedFields s o (figuresOf o) w
+
+-- Canceled, as requested, by prevention, or an IOC's rest
+unfoldable pub canceledFields : Stamp → Shown → Figures → Ground → List Field
+canceledFields s o g w =
+    header 56 s
+    ++ (1 is o .account
+    ∷ 6 is Mean (g .mean)
+    ∷ 11 is o .id
+    ∷ 14 is Number (o .order .executed)
+    ∷ 17 is Number (s .number)
+    ∷ 20 is Char 48
+    ∷ 37 is Number (o .orderid)
+    ∷ 38 is Number (o .order .qty)
+    ∷ 39 is Char 52
+    ∷ 40 is Char 50
+    ∷ 41 is w .orig
+    ∷ 44 is Level (o .order .level)
+    ∷ 47 is Char (o .capacity)
+    ∷ 54 is g .side
+    ∷ 55 is o .code
+    ∷ 59 is g .tif
+    ∷ 60 is s .time
+    ∷ 109 is g .client
+    ∷ 150 is Char 52
+    ∷ 151 is Number (g .left)
+    ∷ 378 is w .reason
+    ∷ 423 is Number 9
+    ∷ 8060 is g .class
+    ∷ [])
+
+abbrev pub canceledRow : Stamp → Shown → Ground → List Field
+canceledRow s o w = canceledFields s o (figuresOf o) w
+
+-- A Trade
+unfoldable pub tradeFields : Stamp → Shown → Figures → Fill → List Field
+tradeFields s o g f =
+    header 56 s
+    ++ (1 is o .account
+    ∷ 6 is Mean (g .mean)
+    ∷ 11 is o .id
+    ∷ 14 is Number (o .order .executed)
+    ∷ 17 is Number (s .number)
+    ∷ 20 is Char 48
+    ∷ 31 is Level (f .level)
+    ∷ 32 is Number (f .quantity)
+    ∷ 37 is Number (o .orderid)
+    ∷ 38 is Number (o .order .qty)
+    ∷ 39 is g .traded
+    ∷ 40 is Char 50
+    ∷ 44 is Level (o .order .level)
+    ∷ 47 is Char (o .capacity)
+    ∷ 54 is g .side
+    ∷ 55 is o .code
+    ∷ 59 is g .tif
+    ∷ 60 is s .time
+    ∷ 109 is g .client
+    ∷ 150 is g .traded
+    ∷ 151 is Number (g .left)
+    ∷ 375 is Number (f .other)
+    ∷ 382 is Number 1
+    ∷ 423 is Number 9
+    ∷ 851 is Number (f .liquidity)
+    ∷ 880 is Number (f .first)
+    ∷ 8060 is g .class
+    ∷ [])
+
+abbrev pub tradeRow : Stamp → Shown → Fill → List Field
+tradeRow s o f = tradeFields s o (figuresOf o) f
+
+-- Rejected
+unfoldable pub rejectedRow : Stamp → Refused → List Field
+rejectedRow s q =
+    header 56 s
+    ++ (6 is Mean (meanOf 0 0)
+    ∷ 11 is text (q .id)
+    ∷ 14 is Number 0
+    ∷ 17 is Number (s .number)
+    ∷ 20 is Char 48
+    ∷ 37 is nobody
+    ∷ 38 is Number (q .quantity)
+    ∷ 39 is Char 56
+    ∷ 54 is digit (q .side)
+    ∷ 55 is text (q .code)
+    ∷ 103 is Number (q .reason)
+    ∷ 150 is Char 56
+    ∷ 151 is Number 0
+    ∷ [])
+
+-- A Cancel reject
+unfoldable pub cancelRejectRow : Stamp → Unchanged → List Field
+cancelRejectRow s u =
+    header 57 s
+    ++ (11 is text (u .id)
+    ∷ 37 is orNobody (u .orderid)
+    ∷ 39 is digit (u .status)
+    ∷ 41 is text (u .orig)
+    ∷ 102 is Number (u .reason)
+    ∷ 434 is Number (u .response)
+    ∷ [])
+
+-- A Session Reject
+unfoldable pub sessionRejectRow : Stamp → Faulty → List Field
+sessionRejectRow s f =
+    header 51 s
+    ++ (45 is Number (f .sequence)
+    ∷ 371 is Number (f .tag)
+    ∷ 372 is text (f .kind)
+    ∷ 373 is Number (f .reason)
+    ∷ [])

@@ -1,0 +1,24 @@
+-- `table::event::apply` meets its contract: the order is loaded, changed and stored.
+use Rattle.table.proofs.Events.{due-low, due-sound, due-may, due-applied}
+use borrow.Author.Needs.{needs}
+use Rattle.table.proofs.event.apply.Statement.{statement}
+use Rattle.table.proofs.event.apply.Tie as tie
+
+load-requires : tie.Need-load-requires
+load-requires c κs = (search needs, search (needs, due-low))
+
+change-requires : tie.Need-change-requires
+change-requires c κs = (search (needs, due-sound), search (needs, due-may))
+
+put-amounts-requires : tie.Need-put-amounts-requires
+put-amounts-requires c κs = (search needs, search (needs, due-low))
+
+same-length : tie.Need-same-length
+same-length c = search needs
+
+returns : tie.Need-returns
+returns c = search (needs, due-applied)
+
+pub apply-spec : {M : Type 1} → statement M
+apply-spec =
+    tie.close (tie.spec load-requires change-requires put-amounts-requires same-length returns)
