@@ -1,0 +1,61 @@
+-- The answers of the calls, test by test in the order of the refusals.
+use mathlib.Core.Path.{_≡_, refl, sym, _∙_}
+use mathlib.Core.Bool.{Bool, true, false, cond, not}
+use mathlib.Core.List.{List}
+use Prim.Native.Nat.{ℕ, _≤_, _<_}
+use native.Mathlib.Omega.{arith}
+use lib.Dec.{eqb}
+use lib.ListN.{length}
+use borrow.Author.Tests.{eq-eqb, ne-eqb}
+use Rattle.matching.specs.declared.Depth.{Depth}
+use Rattle.matching.specs.Depth.{depth}
+use Rattle.table.specs.Places.{tableBytes}
+use Rattle.table.specs.Heading.{workOf}
+use Rattle.table.specs.Orders.{bookOf}
+use Rattle.table.specs.Market.{isMarket}
+use Rattle.table.specs.Facts.{Market}
+use Rattle.table.proofs.Facts.{market-facts}
+use Rattle.market.specs.declared.depth.DepthAnswer.the-variants.{NoMarket, InWork, BadSide, Found}
+use Rattle.market.specs.Depth.{isSide, depthAnswer}
+
+-- what the check of a market says
+module _ (t : List ℕ) (f : Bool) (p : f ≡ isMarket t) where
+  no-market : not f ≡ true → not (isMarket t) ≡ true
+  no-market h = rw (← p) h
+
+  some-market : not f ≡ false → not (isMarket t) ≡ false
+  some-market h = rw (← p) h
+
+  pub checked : not f ≡ false → Market t
+  checked h = market-facts t (sym p ∙ yes f h)
+    where
+      yes : (b : Bool) → not b ≡ false → b ≡ true
+      yes true e = refl
+      yes false e = sym e
+
+  pub checked-long : not f ≡ false → length t ≡ tableBytes
+  checked-long h = checked h .long
+
+-- ---- Depth
+
+module _ (t : List ℕ) (side k : ℕ) (f : Bool) (p : f ≡ isMarket t) where
+  pub depth-none : not f ≡ true → NoMarket ≡ depthAnswer t side k
+  unfolding depthAnswer
+  depth-none h = rw (no-market t f p h)
+
+  module _ (m : not f ≡ false) (w : ℕ) (q : w ≡ workOf t) where
+    pub depth-busy : 0 < w → InWork ≡ depthAnswer t side k
+    unfolding depthAnswer
+    depth-busy h = rw (some-market t f p m, ← q, ne-eqb w 0 (λ e. omega arith))
+
+    module _ (z : w ≤ 0) (g : Bool) (s : g ≡ isSide side) where
+      idle : eqb (workOf t) 0 ≡ true
+      idle = eq-eqb (workOf t) 0 (omega arith)
+
+      pub depth-bad : not g ≡ true → BadSide ≡ depthAnswer t side k
+      unfolding depthAnswer
+      depth-bad h = rw (some-market t f p m, idle, ← s, h)
+
+      pub depth-found : not g ≡ false → (d : Depth) → d ≡ depth (bookOf t) side k → Found d ≡ depthAnswer t side k
+      unfolding depthAnswer
+      depth-found h d e = rw (some-market t f p m, idle, ← s, h, e)

@@ -1,0 +1,2 @@
+// The calls of a market.
+pub mod depth;
