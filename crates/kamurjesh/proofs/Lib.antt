@@ -1,0 +1,3 @@
+-- The laws of `kamurjesh`. Nothing here need be believed.
+pub mod Yields
+pub mod Given
