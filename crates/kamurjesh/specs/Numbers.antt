@@ -1,14 +1,11 @@
--- The numbers that the C interface gives for an answer of Depth and of Read, and for the place of a field (document 01, "The table and
--- its calls": the paper's numbers, each 0 where there is nothing to say). The yield is signed, in thousandths. Assumes nothing.
+-- The numbers that the C interface gives for a level that Depth finds and for the place of a field, each 0 where there is nothing to
+-- say (document 01, "The table and its calls"). The yield is signed, in thousandths. Assumes nothing.
 use Prim.Native.Nat.{ℕ}
 use lib.IntN.{ℤ, pos, subℕ}
 use Rattle.matching.specs.declared.Depth.{Depth}
 use Rattle.matching.specs.declared.Depth.the-variants.{Level, NoLevel}
-use Rattle.matching.specs.Depth.{totalOf, ordersOf}
 use Rattle.market.specs.declared.depth.DepthAnswer.{DepthAnswer}
 use Rattle.market.specs.declared.depth.DepthAnswer.the-variants.{NoMarket, InWork, BadSide, Found}
-use Rattle.report.specs.declared.Kind.{Kind}
-use Rattle.report.specs.declared.Kind.the-variants.{Accepted, Replaced, Canceled, Trade, Rejected, CancelReject, SessionReject, Refused}
 use Rattle.report.specs.declared.Part.{Part}
 use Rattle.report.specs.declared.Part.the-variants.{At, Nowhere}
 
@@ -30,29 +27,6 @@ hasLevel NoLevel = 0
 abbrev pub yieldOf : Depth → ℤ
 yieldOf (Level level total orders) = subℕ level 1_000_000_000
 yieldOf NoLevel = pos 0
-
--- ---- Read
-
--- refusal 11, or taken
-abbrev pub readNumber : Kind → ℕ
-readNumber Accepted = 0
-readNumber Replaced = 0
-readNumber Canceled = 0
-readNumber Trade = 0
-readNumber Rejected = 0
-readNumber CancelReject = 0
-readNumber SessionReject = 0
-readNumber Refused = 11
-
-abbrev pub kindNumber : Kind → ℕ
-kindNumber Accepted = 1
-kindNumber Replaced = 2
-kindNumber Canceled = 3
-kindNumber Trade = 4
-kindNumber Rejected = 5
-kindNumber CancelReject = 6
-kindNumber SessionReject = 7
-kindNumber Refused = 0
 
 -- ---- the place of a field
 

@@ -6,7 +6,8 @@ ghost use Rattle.table.specs.Opened.{opened};
 ghost use Rattle.calls.specs.Open.{openAnswer, openNumberOf};
 ghost use Rattle.market.specs.Depth.{depthAnswer, depthNumber};
 ghost use Rattle.report.specs.Reports.{readOf, partOf};
-ghost use Rattle.kamurjesh.specs.Numbers.{levelIn, hasLevel, yieldOf, readNumber, kindNumber, isThere, startOf, lenOf};
+ghost use Rattle.calls.specs.Read.{readNumber, kindNumber};
+ghost use Rattle.kamurjesh.specs.Numbers.{levelIn, hasLevel, yieldOf, isThere, startOf, lenOf};
 
 pub mod numbers;
 
@@ -16,15 +17,16 @@ use crate::numbers::is_there;
 use crate::numbers::kind_number;
 use crate::numbers::len_of;
 use crate::numbers::level_in;
+use crate::numbers::open_number;
 use crate::numbers::orders_of;
 use crate::numbers::read_number;
 use crate::numbers::start_of;
 use crate::numbers::total_of;
 use crate::numbers::yield_of;
 use market::depth::depth;
+use market::open;
+use market::read;
 use report::read::field;
-use report::read::read;
-use table::opening::open_table;
 
 // Opens a market in the table: 0, or refusal 9 with nothing changed.
 #[no_mangle]
@@ -40,7 +42,7 @@ pub extern "C" fn kamurjesh_open(
     ensures { λ r. ⌜ (r ≡ openNumberOf (openAnswer (now (table .entry)) (now (venue .entry)) (now (port .entry)) (now (code .entry)) first (now (mpids .entry)) (now (modes .entry))))
         × (now (table .exit) ≡ opened (now (table .entry)) (now (venue .entry)) (now (port .entry)) (now (code .entry)) first (now (mpids .entry)) (now (modes .entry))) ⌝ }
 {
-    open_table(table, venue, port, code, first, mpids, modes)
+    open_number(open(table, venue, port, code, first, mpids, modes))
 }
 
 // The k-th level of a side from the best: 0 with whether there is one, its yield, total and number of orders; or a refusal.

@@ -4,11 +4,122 @@ ghost use Prim.Native.Nat.{_≤_};
 ghost use lib.IntN.{subℕ};
 ghost use Rattle.matching.specs.Depth.{totalOf, ordersOf};
 ghost use Rattle.market.specs.Depth.{levelIs, depthNumber};
-ghost use Rattle.kamurjesh.specs.Numbers.{levelIn, hasLevel, yieldOf, readNumber, kindNumber, isThere, startOf, lenOf};
+ghost use Rattle.calls.specs.Open.{openNumberOf};
+ghost use Rattle.calls.specs.Submit.{submitNumber, submitLength};
+ghost use Rattle.calls.specs.Run.{runNumber, runBytes, runReports, runSteps};
+ghost use Rattle.calls.specs.Read.{readNumber, kindNumber};
+ghost use Rattle.kamurjesh.specs.Numbers.{levelIn, hasLevel, yieldOf, isThere, startOf, lenOf};
+use calls::OpenAnswer;
+use calls::RunAnswer;
+use calls::SubmitAnswer;
 use market::depth::DepthAnswer;
 use matching::Depth;
 use report::Kind;
 use report::Part;
+
+// The paper's number of Open's answer.
+pub fn open_number(answer: OpenAnswer) -> u64
+    ensures { λ r. ⌜ r ≡ openNumberOf answer ⌝ }
+{
+    match answer {
+        OpenAnswer::Opened => 0,
+        OpenAnswer::BadSetting => 9,
+    }
+}
+
+// The paper's number of Submit's answer.
+pub fn submit_number(answer: SubmitAnswer) -> u64
+    ensures { λ r. ⌜ r ≡ submitNumber answer ⌝ }
+{
+    match answer {
+        SubmitAnswer::NoRoom => 1,
+        SubmitAnswer::NoMarket => 2,
+        SubmitAnswer::InWork => 3,
+        SubmitAnswer::NumbersSpent => 4,
+        SubmitAnswer::Garbled => 5,
+        SubmitAnswer::SessionReject(_) => 6,
+        SubmitAnswer::OrderReject(_) => 7,
+        SubmitAnswer::ChangeReject(_) => 8,
+        SubmitAnswer::Taken(_) => 0,
+    }
+}
+
+// The length of the report that Submit wrote.
+pub fn submit_length(answer: SubmitAnswer) -> u64
+    ensures { λ r. ⌜ r ≡ submitLength answer ⌝ }
+{
+    match answer {
+        SubmitAnswer::NoRoom => 0,
+        SubmitAnswer::NoMarket => 0,
+        SubmitAnswer::InWork => 0,
+        SubmitAnswer::NumbersSpent => 0,
+        SubmitAnswer::Garbled => 0,
+        SubmitAnswer::SessionReject(n) => n as u64,
+        SubmitAnswer::OrderReject(n) => n as u64,
+        SubmitAnswer::ChangeReject(n) => n as u64,
+        SubmitAnswer::Taken(n) => n as u64,
+    }
+}
+
+// The paper's number of Run's answer.
+pub fn run_number(answer: RunAnswer) -> u64
+    ensures { λ r. ⌜ r ≡ runNumber answer ⌝ }
+{
+    match answer {
+        RunAnswer::NoRoom => 1,
+        RunAnswer::NoMarket => 2,
+        RunAnswer::Ran {
+            bytes: _,
+            reports: _,
+            steps: _,
+        } => 0,
+    }
+}
+
+// How many bytes Run wrote.
+pub fn run_bytes(answer: RunAnswer) -> u64
+    ensures { λ r. ⌜ r ≡ runBytes answer ⌝ }
+{
+    match answer {
+        RunAnswer::NoRoom => 0,
+        RunAnswer::NoMarket => 0,
+        RunAnswer::Ran {
+            bytes,
+            reports: _,
+            steps: _,
+        } => bytes as u64,
+    }
+}
+
+// How many reports that is.
+pub fn run_reports(answer: RunAnswer) -> u64
+    ensures { λ r. ⌜ r ≡ runReports answer ⌝ }
+{
+    match answer {
+        RunAnswer::NoRoom => 0,
+        RunAnswer::NoMarket => 0,
+        RunAnswer::Ran {
+            bytes: _,
+            reports,
+            steps: _,
+        } => reports,
+    }
+}
+
+// How many steps Run took.
+pub fn run_steps(answer: RunAnswer) -> u64
+    ensures { λ r. ⌜ r ≡ runSteps answer ⌝ }
+{
+    match answer {
+        RunAnswer::NoRoom => 0,
+        RunAnswer::NoMarket => 0,
+        RunAnswer::Ran {
+            bytes: _,
+            reports: _,
+            steps,
+        } => steps,
+    }
+}
 
 // The level that Depth's answer has, or none.
 pub fn level_in(answer: DepthAnswer) -> Depth

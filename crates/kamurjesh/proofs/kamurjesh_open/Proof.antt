@@ -1,23 +1,23 @@
-use Rattle.kamurjesh.proofs.Given.{open-number}
+-- `kamurjesh_open` meets its contract: it is Open, its answer as the paper's number.
+use mathlib.Core.Path.{_∙_, ap}
 use borrow.Author.Needs.{needs}
+use Rattle.calls.specs.Open.{openNumberOf}
 use Rattle.kamurjesh.proofs.kamurjesh_open.Statement.{statement}
 use Rattle.kamurjesh.proofs.kamurjesh_open.Tie as tie
-use Rattle.kamurjesh.proofs.kamurjesh_open.Reads as reads
-use Rattle.kamurjesh.proofs.kamurjesh_open.Lts as lts
-use Rattle.table.proofs.opening.open_table.Reads as open-table-reads
 
--- src/lib.rt:43:5
-open-table-requires : tie.Need-open-table-requires
-open-table-requires c κs = search needs
+open-requires : tie.Need-open-requires
+open-requires c κs = search needs
 
--- src/lib.rt:30:1
+open-number-requires : tie.Need-open-number-requires
+open-number-requires c κs = search needs
+
 same-length : tie.Need-same-length
 same-length c = search needs
 
--- src/lib.rt:30:1
 returns : tie.Need-returns
 returns c =
-    (open-number _ _ _ _ _ _ _ _ (c .before .before .open-table .ensures .0), c .before .before .open-table .ensures .1)
+    let answer = c .before .before .before .«open» .ensures in
+    (c .open-number .ensures ∙ ap openNumberOf (answer .0), answer .1)
 
 pub kamurjesh-open-spec : {M : Type 1} → statement M
-kamurjesh-open-spec = tie.close (tie.spec open-table-requires same-length returns)
+kamurjesh-open-spec = tie.close (tie.spec open-requires open-number-requires same-length returns)

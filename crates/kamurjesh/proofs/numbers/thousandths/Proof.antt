@@ -1,3 +1,4 @@
+-- `numbers::thousandths` meets its contract: nothing is lost in the cast, nor in the difference.
 use borrow.Author.Needs.{needs}
 use Rattle.kamurjesh.proofs.Yields.{level-fits, yield-fits, yield-is}
 use Rattle.kamurjesh.proofs.numbers.thousandths.Statement.{statement}

@@ -1,3 +1,4 @@
+-- `numbers::yield_of` meets its contract: a level in range has a yield of 64 bits.
 use Rattle.kamurjesh.proofs.Yields.{handed}
 use borrow.Author.Needs.{needs}
 use Rattle.kamurjesh.proofs.numbers.yield_of.Statement.{statement}
