@@ -1,1 +1,2 @@
 -- What holds of every history.
+pub mod Tells
