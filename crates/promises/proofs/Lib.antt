@@ -1,2 +1,4 @@
 -- What holds of every history.
 pub mod Tells
+pub mod Exacts
+pub mod Leads

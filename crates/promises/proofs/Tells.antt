@@ -58,15 +58,19 @@ pub record Tells (r : Reading) (e : Event) (o : Order) (m : ℕ) : Type 0 where
 
 -- ---- what an event does to an order
 
--- an accepted order is new; what is canceled is all that is open, what is decremented is open, and the other side of a trade is in
--- the book
+-- the other order of a trade is in the book, and of another owner if both have one
+pub record Apart (b : Book) (n m : ℕ) : Type 0 where
+  pub inside : In b m
+  pub owners : at b n .mpid ≡ at b m .mpid → at b n .mpid ≡ 0
+
+-- an accepted order is new; what is canceled is all that is open, what is decremented is open, and a trade is between two owners
 abbrev pub Exact : Book → Event → Type 0
 Exact b (event.Accepted n o) = Fresh b n o
 Exact b (event.Replaced n l q p) = Unit {0}
 Exact b (event.Withdrawn n q) = q ≡ openOf (at b n)
 Exact b (event.Canceled n q) = q ≡ openOf (at b n)
 Exact b (event.Decremented n q) = q ≤ openOf (at b n)
-Exact b (event.Traded n m q l) = In b m
+Exact b (event.Traded n m q l) = Apart b n m
 Exact b (event.Expired n q) = q ≡ openOf (at b n)
 
 -- ---- the account of an order by its own amounts
