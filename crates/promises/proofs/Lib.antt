@@ -2,3 +2,4 @@
 pub mod Tells
 pub mod Exacts
 pub mod Leads
+pub mod Playing
