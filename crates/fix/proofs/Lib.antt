@@ -7,3 +7,4 @@ pub mod Tails
 pub mod Opening
 pub mod Verdict
 pub mod Plain
+pub mod Values

@@ -3,3 +3,4 @@ pub mod Tells
 pub mod Exacts
 pub mod Leads
 pub mod Playing
+pub mod Running

@@ -5,3 +5,4 @@ pub mod Gathering
 pub mod Answers
 pub mod Told
 pub mod Requests
+pub mod Saying
