@@ -4,3 +4,4 @@ pub mod Exacts
 pub mod Leads
 pub mod Playing
 pub mod Running
+pub mod Requested
