@@ -5,3 +5,4 @@ pub mod Leads
 pub mod Playing
 pub mod Running
 pub mod Requested
+pub mod Submitting

@@ -73,11 +73,11 @@ module _ (t u : List ℕ) (e : Event) (low : 1 ≤ who e) (high : who e ≤ leng
       (noted-there (bookOf t) (readOf r) (contra u e) e (orderAt u (who e)) tells k d _))
 
 -- ---- what a report trades for a side, and that it is no self-trade
-nought : (c : Bool) → _≡_ {A = ℕ} (cond c 0 0) 0
+pub nought : (c : Bool) → _≡_ {A = ℕ} (cond c 0 0) 0
 nought true = refl
 nought false = refl
 
-traded-one : (r : Reading) (e : Event) (o : Order) (m s : ℕ) → Tells r e o m → tradedFor s r ≡ cond (eqb (o .side) s) (trades e) 0
+pub traded-one : (r : Reading) (e : Event) (o : Order) (m s : ℕ) → Tells r e o m → tradedFor s r ≡ cond (eqb (o .side) s) (trades e) 0
 unfolding tradedFor
 traded-one r (Accepted n x) o m s t = rw (t .kind) (sym (nought (eqb (o .side) s)))
 traded-one r (Replaced n l q p) o m s t = rw (t .kind) (sym (nought (eqb (o .side) s)))
