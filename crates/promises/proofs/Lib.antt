@@ -6,3 +6,5 @@ pub mod Playing
 pub mod Running
 pub mod Requested
 pub mod Submitting
+pub mod Opening
+pub mod Histories
