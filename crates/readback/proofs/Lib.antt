@@ -1,0 +1,2 @@
+-- The laws of `readback`. A reader begins with Theorems.
+pub mod Takes

@@ -1,0 +1,4 @@
+-- What the theorems of `readback` speak of. A reader believes Right: what a report is made from; Says: what a number of a report
+-- that was read says.
+pub mod Right
+pub mod Says
