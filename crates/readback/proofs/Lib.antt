@@ -1,2 +1,5 @@
 -- The laws of `readback`. A reader begins with Theorems.
 pub mod Takes
+pub mod Rowed
+pub mod Fitting
+pub mod Kinds

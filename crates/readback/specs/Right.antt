@@ -86,12 +86,12 @@ module _ (sent stored : List ℕ) where
 
   -- ---- 41 and 378 of Replaced: requested, or a decrement
   pub data ReplacedRight (o : Shown) : Ground → Type 0 where
-    on-request : {orig : Value} → IdRight orig → ReplacedRight o (requested orig)
+    replaced-on-request : {orig : Value} → IdRight orig → ReplacedRight o (requested orig)
     by-decrement : ReplacedRight o (decremented o)
 
   -- ---- 41 and 378 of Canceled: requested, by prevention, or an IOC's rest
   pub data CanceledRight : Ground → Type 0 where
-    on-request : {orig : Value} → IdRight orig → CanceledRight (requested orig)
+    canceled-on-request : {orig : Value} → IdRight orig → CanceledRight (requested orig)
     by-prevention : CanceledRight prevented
     at-the-end : CanceledRight expired
 
