@@ -2,4 +2,4 @@
 pub mod Takes
 pub mod Rowed
 pub mod Fitting
-pub mod Kinds
+pub mod Firsts

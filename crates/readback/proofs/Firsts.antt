@@ -36,35 +36,34 @@ label-clean : (tag : ℕ) → tag < 10000 → NoSoh (label tag)
 unfolding label
 label-clean tag h = clean-append (decimal tag) (61 ∷ []) (clean-digits (decimal tag) (digits-decimal tag (omega (arith, h)))) ((λ q. omega (arith, q)), tt)
 
+module _ (tag : ℕ) (v : List ℕ) where
+  written-is : written tag v ≡ (label tag ++ v) ++ (1 ∷ [])
+  unfolding written
+  written-is = refl
+
+  written-long : length (written tag v) ≡ suc (length (label tag ++ v))
+  written-long = ap length written-is ∙ length-append (label tag ++ v) (1 ∷ []) ∙ omega arith
+
+  hop-written : (rest : List ℕ) → NoSoh v → tag < 10000 → hop (written tag v ++ rest) ≡ length (written tag v)
+  hop-written rest n h =
+      ap (λ (l : List ℕ). hop (l ++ rest)) written-is
+      ∙ ap hop (append-assoc (label tag ++ v) (1 ∷ []) rest)
+      ∙ hop-past (label tag ++ v) rest (clean-append (label tag) v (label-clean tag h) n)
+      ∙ sym written-long
+
 -- the first character of a tag's value is looked for behind a field of another tag
 pass : (g tag : ℕ) (v rest : List ℕ) → NoSoh v → tag < 10000 → differ (label g) (label tag) ≡ true → firstOf (written tag v ++ rest) g ≡ firstOf rest g
 unfolding firstOf
 pass g tag v rest n h d =
     let lab = label g in
     let w = written tag v in
-    let some : 0 < length (w ++ rest) = omega (arith, length-append w rest, long) in
+    let some : 0 < length (w ++ rest) = omega (arith, length-append w rest, written-long tag v) in
     let place : placeOf lab true (w ++ rest) ≡ length w + placeOf lab true rest =
     fresh lab (w ++ rest) (written-starts g tag v rest d) some
-    ∙ ap (λ (k : ℕ). k + placeOf lab true (drop k (w ++ rest))) hopped
+    ∙ ap (λ (k : ℕ). k + placeOf lab true (drop k (w ++ rest))) (hop-written tag v rest n h)
     ∙ ap (λ (l : List ℕ). length w + placeOf lab true l) (drop-at w rest (length w) refl) in
     let at : placeOf lab true (w ++ rest) + length lab ≡ length w + (placeOf lab true rest + length lab) = omega (arith, place) in
     ap (λ (k : ℕ). getD (w ++ rest) k 0) at ∙ getD-append-add w rest (placeOf lab true rest + length lab) 0
-  where
-    x : List ℕ
-    x = label tag ++ v
-
-    written-is : written tag v ≡ x ++ (1 ∷ [])
-    unfolding written x
-    written-is = refl
-
-    long : length (written tag v) ≡ suc (length x)
-    long = ap length written-is ∙ length-append x (1 ∷ []) ∙ omega arith
-
-    hopped : hop (written tag v ++ rest) ≡ length (written tag v)
-    unfolding x
-    hopped =
-        ap (λ (l : List ℕ). hop (l ++ rest)) written-is ∙ ap hop (append-assoc x (1 ∷ []) rest)
-        ∙ hop-past x rest (clean-append (label tag) v (label-clean tag h) n) ∙ sym long
 
 -- and found where it stands
 hit : (g c : ℕ) (rest : List ℕ) → firstOf (label g ++ (c ∷ rest)) g ≡ c
@@ -114,3 +113,50 @@ module _ (sent stored : List ℕ) (g c : ℕ) where
       (ap (λ (s : List ℕ). firstOf s g) (append-assoc (written (f .tag) (valueBytes sent stored (f .value))) (rowBytes sent stored fs) post)
       ∙ pass g (f .tag) (valueBytes sent stored (f .value)) (rowBytes sent stored fs ++ post) (k .0) (ltb-true (f .tag) 10000 (both-l x y xy)) (both-r x y xy)
       ∙ rest))
+
+-- ---- a whole report
+version-clean : NoSoh version
+unfolding version
+version-clean =
+    ((λ q. omega (arith, q)), ((λ q. omega (arith, q)), ((λ q. omega (arith, q)), ((λ q. omega (arith, q)), ((λ q. omega (arith, q)), ((λ q. omega (arith, q)), ((λ q. omega (arith, q)), tt)))))))
+
+-- 8 and 9 stand in front
+report-first : (g : ℕ) (body : List ℕ) → length body ≤ 489 → differ (label g) (label 8) ≡ true → differ (label g) (label 9) ≡ true
+    → firstOf (reportBytes body) g ≡ firstOf (body ++ trailer (checkSum (front body))) g
+unfolding reportBytes front
+report-first g body h d e =
+    let n = length body in
+    let tail = trailer (checkSum (written 8 version ++ written 9 (decimal n) ++ body)) in
+    let s-is : written 8 version ++ written 9 (decimal n) ++ body ++ tail ≡ written 8 version ++ (written 9 (decimal n) ++ (body ++ tail)) = simp append-assoc in
+    ap (λ (s : List ℕ). firstOf s g) s-is
+    ∙ pass g 8 version (written 9 (decimal n) ++ (body ++ tail)) version-clean (omega arith) d
+    ∙ pass g 9 (decimal n) (body ++ tail) (clean-digits (decimal n) (digits-decimal n (omega arith))) (omega arith) e
+
+module _ (sent stored : List ℕ) (fs : List Field) (h : length (rowBytes sent stored fs) ≤ 489) (k : Clean sent stored fs) where
+  -- 35 stands first
+  pub type-first : (c : ℕ) → getD fs 0 (field 0 Absent) ≡ field 35 (Char c) → firstOf (reportBytes (rowBytes sent stored fs)) 35 ≡ c
+  unfolding label decimal
+  type-first c e =
+      report-first 35 (rowBytes sent stored fs) h refl refl
+      ∙ row-first sent stored 35 c 0 fs (trailer (checkSum (front (rowBytes sent stored fs)))) k refl e
+
+  -- 150 stands as the n-th field behind the first
+  pub status-first : (n c : ℕ) → before 150 n fs ≡ true → getD fs n (field 0 Absent) ≡ field 150 (Char c) → firstOf (reportBytes (rowBytes sent stored fs)) 150 ≡ c
+  unfolding label decimal
+  status-first n c b e =
+      report-first 150 (rowBytes sent stored fs) h refl refl
+      ∙ row-first sent stored 150 c n fs (trailer (checkSum (front (rowBytes sent stored fs)))) k b e
+
+  -- the kind, by 35 alone or with 150
+  pub kind-cancel-reject : getD fs 0 (field 0 Absent) ≡ field 35 (Char 57) → kindOf (reportBytes (rowBytes sent stored fs)) ≡ CancelReject
+  unfolding kindOf kindFor
+  kind-cancel-reject e = rw (type-first 57 e)
+
+  pub kind-session-reject : getD fs 0 (field 0 Absent) ≡ field 35 (Char 51) → kindOf (reportBytes (rowBytes sent stored fs)) ≡ SessionReject
+  unfolding kindOf kindFor
+  kind-session-reject e = rw (type-first 51 e)
+
+  pub kind-execution : (n c : ℕ) → getD fs 0 (field 0 Absent) ≡ field 35 (Char 56) → before 150 n fs ≡ true → getD fs n (field 0 Absent) ≡ field 150 (Char c)
+      → kindOf (reportBytes (rowBytes sent stored fs)) ≡ executionFor c
+  unfolding kindOf kindFor
+  kind-execution n c e b f = rw (type-first 56 e, status-first n c b f)
