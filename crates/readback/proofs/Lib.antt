@@ -3,3 +3,5 @@ pub mod Takes
 pub mod Rowed
 pub mod Fitting
 pub mod Firsts
+pub mod ReadBack
+pub mod Theorems

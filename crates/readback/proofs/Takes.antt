@@ -51,7 +51,7 @@ among-each P (x ∷ xs) n e p =
     split (eqb n x) (λ t. rw (eqb-true n x t) (p .0)) (λ t. among-each P xs n (or-r (eqb n x) (among xs n) e t) (p .1))
 
 -- a text is read back as its place and its length
-part-moved : (sent stored : List ℕ) (place : ℕ) (v : Value) → isPart v ≡ true → Sent place (length (valueBytes sent stored v)) ≡ moved sent stored place v
+pub part-moved : (sent stored : List ℕ) (place : ℕ) (v : Value) → isPart v ≡ true → Sent place (length (valueBytes sent stored v)) ≡ moved sent stored place v
 part-moved sent stored place Absent e = absurd (false≢true e)
 part-moved sent stored place (Number n) e = absurd (false≢true e)
 part-moved sent stored place (Char c) e = absurd (false≢true e)
@@ -61,7 +61,7 @@ part-moved sent stored place (Stored from len) e = refl
 part-moved sent stored place (Level level) e = absurd (false≢true e)
 part-moved sent stored place (Mean mean) e = absurd (false≢true e)
 
-part-here : (v : Value) → isPart v ≡ true → isAbsent v ≡ false
+pub part-here : (v : Value) → isPart v ≡ true → isAbsent v ≡ false
 part-here Absent e = absurd (false≢true e)
 part-here (Number n) e = refl
 part-here (Char c) e = refl
