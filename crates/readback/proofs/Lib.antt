@@ -4,4 +4,6 @@ pub mod Rowed
 pub mod Fitting
 pub mod Firsts
 pub mod ReadBack
+pub mod Texts
+pub mod Said
 pub mod Theorems

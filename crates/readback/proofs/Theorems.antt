@@ -6,17 +6,21 @@ use mathlib.Core.Path.{_≡_, refl, sym, ap, _∙_}
 use mathlib.Core.Bool.{Bool, true, false}
 use mathlib.Core.List.{List}
 use lib.Dec.{eqb}
+use lib.ListN.{getD}
 use Rattle.octets.proofs.Bools.{split}
 use Rattle.decimal.specs.Writing.{decimal}
 use Rattle.matching.specs.declared.Order.{Order}
 use Rattle.matching.specs.Matching.{openOf}
+use Rattle.report.specs.declared.Value.the-variants.{Absent}
 use Rattle.report.specs.declared.Field.{Field}
 use Rattle.report.specs.declared.Kind.{Kind}
 use Rattle.report.specs.declared.Kind.the-variants.{Accepted, Replaced, Canceled, Trade, Rejected, CancelReject, SessionReject, Refused}
 use Rattle.report.specs.declared.Reading.{Reading}
-use Rattle.report.specs.Fields.{label, rowBytes}
+use Rattle.report.specs.Fields.{field, valueBytes, label, rowBytes}
 use Rattle.report.specs.Frame.{reportBytes}
-use Rattle.report.specs.Reports.{executionFor, oneReason, agreed, readOf}
+use Rattle.report.specs.Parse.{Rows, row, bad}
+use Rattle.report.specs.Slots.{slotsOf}
+use Rattle.report.specs.Reports.{executionFor, kindOf, oneReason, agreed, refused, readingOf, readFramed, readOf}
 use Rattle.rows.specs.declared.Stamp.{Stamp}
 use Rattle.rows.specs.declared.Shown.{Shown}
 use Rattle.rows.specs.declared.Ground.{Ground}
@@ -26,9 +30,12 @@ use Rattle.rows.specs.declared.Unchanged.{Unchanged}
 use Rattle.rows.specs.declared.Faulty.{Faulty}
 use Rattle.rows.specs.Rows.{header, figuresOf, digit, tradeStatus, padded, acceptedFields, acceptedRow, replacedFields, replacedRow, canceledFields, canceledRow, tradeFields, tradeRow, rejectedRow, cancelRejectRow, sessionRejectRow}
 use Rattle.readback.specs.Right.{IdRight, StampRight, ShownRight, ReplacedRight, CanceledRight, canceled-on-request, by-prevention, at-the-end, FillRight, RefusedRight, UnchangedRight, FaultyRight}
+use Rattle.readback.specs.Says.{numberOf, saysIn, says, SaysOrder, SaysFill}
 use Rattle.readback.proofs.Takes.{part-here}
 use Rattle.readback.proofs.Fitting.{accepted-fits, replaced-fits, canceled-fits, trade-fits, rejected-fits, cancel-reject-fits, session-reject-fits}
 use Rattle.readback.proofs.ReadBack.{asRead, execution-read, cancel-reject-read, session-reject-read}
+use Rattle.readback.proofs.Texts.{report-there}
+use Rattle.readback.proofs.Said.{row-says, accepted-said, replaced-said, canceled-said, trade-said, fill-said}
 
 module _ (sent stored : List ℕ) where
   -- the reading of a report: this kind, and the fields of this row
@@ -78,3 +85,69 @@ module _ (sent stored : List ℕ) where
   pub session-reject-is-read : (s : Stamp) (f : Faulty) → StampRight sent stored s → FaultyRight sent stored f → Reads SessionReject (sessionRejectRow s f)
   unfolding sessionRejectRow header
   session-reject-is-read s f i j = session-reject-read sent stored (sessionRejectRow s f) (λ sum. session-reject-fits sent stored sum s f i j) refl
+
+  -- ---- each field that is read has the bytes that were written, the texts that are read standing in the report
+  pub bytes-are-read : (other : List ℕ) (fs : List Field) (i : ℕ)
+      → valueBytes (reportBytes (rowBytes sent stored fs)) other (getD (asRead sent stored fs) i (field 0 Absent) .value)
+      ≡ valueBytes sent stored (getD (padded fs) i (field 0 Absent) .value)
+  bytes-are-read other fs i = report-there sent stored other fs i
+
+  -- ---- what the numbers of a report say
+  abbrev pub readingAs : List Field → Reading
+  readingAs fs = readOf (reportBytes (rowBytes sent stored fs))
+
+  pub accepted-says : (s : Stamp) (o : Shown) → StampRight sent stored s → ShownRight sent stored o → SaysOrder (readingAs (acceptedRow s o)) s o
+  accepted-says s o i j =
+      accepted-said (readingAs (acceptedRow s o)) s o (j .order-right)
+      (row-says sent stored Accepted (acceptedRow s o) (readingAs (acceptedRow s o)) (accepted-is-read s o i j))
+
+  pub replaced-says : (s : Stamp) (o : Shown) (w : Ground) → StampRight sent stored s → ShownRight sent stored o → ReplacedRight sent stored o w
+      → SaysOrder (readingAs (replacedRow s o w)) s o
+  replaced-says s o w i j k =
+      replaced-said (readingAs (replacedRow s o w)) s o (j .order-right) w
+      (row-says sent stored Replaced (replacedRow s o w) (readingAs (replacedRow s o w)) (replaced-is-read s o w i j k))
+
+  pub canceled-says : (s : Stamp) (o : Shown) (w : Ground) → StampRight sent stored s → ShownRight sent stored o → CanceledRight sent stored w
+      → SaysOrder (readingAs (canceledRow s o w)) s o
+  canceled-says s o w i j k =
+      canceled-said (readingAs (canceledRow s o w)) s o (j .order-right) w
+      (row-says sent stored Canceled (canceledRow s o w) (readingAs (canceledRow s o w)) (canceled-is-read s o w i j k))
+
+  pub trade-says : (s : Stamp) (o : Shown) (f : Fill) → StampRight sent stored s → ShownRight sent stored o → FillRight f → SaysOrder (readingAs (tradeRow s o f)) s o
+  trade-says s o f i j k =
+      trade-said (readingAs (tradeRow s o f)) s o (j .order-right) f
+      (row-says sent stored Trade (tradeRow s o f) (readingAs (tradeRow s o f)) (trade-is-read s o f i j k))
+
+  pub fill-says : (s : Stamp) (o : Shown) (f : Fill) → StampRight sent stored s → ShownRight sent stored o → FillRight f → SaysFill (readingAs (tradeRow s o f)) f
+  fill-says s o f i j k =
+      fill-said (readingAs (tradeRow s o f)) s o (j .order-right) f
+      (row-says sent stored Trade (tradeRow s o f) (readingAs (tradeRow s o f)) (trade-is-read s o f i j k))
+
+  -- 378: absent unless the order was canceled or decremented by prevention, or is an IOC's rest
+  pub accepted-says-378 : (s : Stamp) (o : Shown) → StampRight sent stored s → ShownRight sent stored o → says 378 (readingAs (acceptedRow s o)) ≡ 0
+  unfolding acceptedFields header figuresOf
+  accepted-says-378 s o i j = row-says sent stored Accepted (acceptedRow s o) (readingAs (acceptedRow s o)) (accepted-is-read s o i j) 378
+
+  pub replaced-says-378 : (s : Stamp) (o : Shown) (w : Ground) → StampRight sent stored s → ShownRight sent stored o → ReplacedRight sent stored o w
+      → says 378 (readingAs (replacedRow s o w)) ≡ numberOf (w .reason)
+  unfolding replacedFields header figuresOf
+  replaced-says-378 s o w i j k = row-says sent stored Replaced (replacedRow s o w) (readingAs (replacedRow s o w)) (replaced-is-read s o w i j k) 378
+
+  pub canceled-says-378 : (s : Stamp) (o : Shown) (w : Ground) → StampRight sent stored s → ShownRight sent stored o → CanceledRight sent stored w
+      → says 378 (readingAs (canceledRow s o w)) ≡ numberOf (w .reason)
+  unfolding canceledFields header figuresOf
+  canceled-says-378 s o w i j k = row-says sent stored Canceled (canceledRow s o w) (readingAs (canceledRow s o w)) (canceled-is-read s o w i j k) 378
+
+  pub trade-says-378 : (s : Stamp) (o : Shown) (f : Fill) → StampRight sent stored s → ShownRight sent stored o → FillRight f → says 378 (readingAs (tradeRow s o f)) ≡ 0
+  unfolding tradeFields header figuresOf
+  trade-says-378 s o f i j k = row-says sent stored Trade (tradeRow s o f) (readingAs (tradeRow s o f)) (trade-is-read s o f i j k) 378
+
+-- ---- bytes that are read as a kind are of that kind by their 35 and 150, so of no other
+read-kind : (k j : Kind) (q : Rows) → readingOf k q .kind ≡ j → (j ≡ Refused → ⊥) → k ≡ j
+read-kind k j (row fs n) e h =
+    split (agreed k fs) (λ t. rw t at e) (λ t. let z : refused .kind ≡ j = rw t at e in absurd (h (sym z)))
+read-kind k j bad e h = absurd (h (sym e))
+
+pub kind-is-by-type : (s : List ℕ) (k : Kind) → readOf s .kind ≡ k → (k ≡ Refused → ⊥) → kindOf s ≡ k
+unfolding readOf
+kind-is-by-type s k e h = read-kind (kindOf s) k (readFramed s (slotsOf (kindOf s))) e h
