@@ -81,9 +81,10 @@ Clean sent stored (f ∷ fs) = NoSoh (valueBytes sent stored (f .value)) × Clea
 
 pub fits-clean : (sent stored post : List ℕ) (slots : List Slot) (fs : List Field) → Fits sent stored post slots fs → Clean sent stored fs
 fits-clean sent stored post slots fs fits-none = tt
-fits-clean sent stored post slots fs (fits-some {slot} {f} {slots = ss} {fs = gs} p r) =
-    (taken (slot .shape) 0 (valueBytes sent stored (f .value)) (moved sent stored 0 (f .value)) (p .proper) (p .picked 0) .clean
-    , fits-clean sent stored post ss gs r)
+fits-clean sent stored post slots fs (fits-some {slot} {f} {slots = ss} {fs = gs} p r) = (
+  taken (slot .shape) 0 (valueBytes sent stored (f .value)) (moved sent stored 0 (f .value)) (p .proper) (p .picked 0) .clean,
+  fits-clean sent stored post ss gs r,
+)
 fits-clean sent stored post slots fs (fits-skip {slot} {f} {slots = ss} {fs = gs} fe o e r) =
     (rw fe tt, fits-clean sent stored post ss gs r)
 

@@ -7,3 +7,5 @@ pub mod ReadBack
 pub mod Texts
 pub mod Said
 pub mod Theorems
+pub mod Legibly
+pub mod Events

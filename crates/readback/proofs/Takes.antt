@@ -33,7 +33,8 @@ use Rattle.report.specs.Shapes.{oneIn, numberIn, listedIn, wordIn, recordIn, al
 use Rattle.report.proofs.Taken.{same-is}
 use Rattle.report.proofs.Back.{moved, same-back}
 use Rattle.rows.specs.Rows.{digit, orNumber, orNobody, nobody, avgPx, replacedStatus, tradeStatus}
-use Rattle.readback.specs.Right.{among, isPart, TextRight, CodeRight, TimeRight}
+use Rattle.ticket.specs.Legible.{isAmong}
+use Rattle.readback.specs.Right.{isPart, TextRight, CodeRight, TimeRight}
 
 -- the shape takes the value and gives it back, a text at its place in the report
 pub record Takes (sent stored : List ℕ) (f : Shape) (v : Value) : Type 0 where
@@ -45,10 +46,10 @@ abbrev pub Each : (ℕ → Type 0) → List ℕ → Type 0
 Each P [] = Unit {0}
 Each P (x ∷ xs) = P x × Each P xs
 
-pub among-each : (P : ℕ → Type 0) (xs : List ℕ) (n : ℕ) → among xs n ≡ true → Each P xs → P n
+pub among-each : (P : ℕ → Type 0) (xs : List ℕ) (n : ℕ) → isAmong xs n ≡ true → Each P xs → P n
 among-each P [] n e p = absurd (false≢true e)
 among-each P (x ∷ xs) n e p =
-    split (eqb n x) (λ t. rw (eqb-true n x t) (p .0)) (λ t. among-each P xs n (or-r (eqb n x) (among xs n) e t) (p .1))
+    split (eqb n x) (λ t. rw (eqb-true n x t) (p .0)) (λ t. among-each P xs n (or-r (eqb n x) (isAmong xs n) e t) (p .1))
 
 -- a text is read back as its place and its length
 pub part-moved : (sent stored : List ℕ) (place : ℕ) (v : Value) → isPart v ≡ true → Sent place (length (valueBytes sent stored v)) ≡ moved sent stored place v
@@ -164,32 +165,44 @@ module _ (sent stored : List ℕ) where
       let r = or-r (eqb c 1) (leb 3 c && leb c 6) e t in
       let l = leb-true 3 c (both-l (leb 3 c) (leb c 6) r) in
       let h = leb-true c 6 (both-r (leb 3 c) (leb c 6) r) in
-      among-each (Digit (shape.OneOf 49 51 52 53 54)) (3 ∷ 4 ∷ 5 ∷ 6 ∷ []) c (some c l h)
-      (one-digit 49 51 52 53 54 3 (omega arith) refl
-      , (one-digit 49 51 52 53 54 4 (omega arith) refl
-      , (one-digit 49 51 52 53 54 5 (omega arith) refl
-      , (one-digit 49 51 52 53 54 6 (omega arith) refl, tt)))))
+      among-each (Digit (shape.OneOf 49 51 52 53 54)) (3 ∷ 4 ∷ 5 ∷ 6 ∷ []) c (some c l h) (
+        one-digit 49 51 52 53 54 3 (omega arith) refl,
+        (
+          one-digit 49 51 52 53 54 4 (omega arith) refl,
+          (
+            one-digit 49 51 52 53 54 5 (omega arith) refl,
+            (one-digit 49 51 52 53 54 6 (omega arith) refl, tt),
+          ),
+        ),
+      ))
     where
-      some : (c : ℕ) → 3 ≤ c → c ≤ 6 → among (3 ∷ 4 ∷ 5 ∷ 6 ∷ []) c ≡ true
+      some : (c : ℕ) → 3 ≤ c → c ≤ 6 → isAmong (3 ∷ 4 ∷ 5 ∷ 6 ∷ []) c ≡ true
       some c l h =
           split (eqb c 3) (λ t. rw t)
           (λ t. rw t (split (eqb c 4) (λ u. rw u) (λ u. rw u (split (eqb c 5) (λ v. rw v) (λ v. rw v
           (rw (eq-eqb c 6 (omega (arith, eqb-false c 3 t, eqb-false c 4 u, eqb-false c 5 v)))))))))
 
   -- 54 of Rejected and 39 of a Cancel reject
-  pub asked-side-takes : (n : ℕ) → among (1 ∷ 2 ∷ []) n ≡ true → Digit (shape.OneOf 49 50 50 50 50) n
+  pub asked-side-takes : (n : ℕ) → isAmong (1 ∷ 2 ∷ []) n ≡ true → Digit (shape.OneOf 49 50 50 50 50) n
   asked-side-takes n e =
       among-each (Digit (shape.OneOf 49 50 50 50 50)) (1 ∷ 2 ∷ []) n e
       (one-digit 49 50 50 50 50 1 (omega arith) refl, (one-digit 49 50 50 50 50 2 (omega arith) refl, tt))
 
-  pub status-takes : (n : ℕ) → among (0 ∷ 1 ∷ 2 ∷ 4 ∷ 8 ∷ []) n ≡ true → Digit (shape.OneOf 48 49 50 52 56) n
+  pub status-takes : (n : ℕ) → isAmong (0 ∷ 1 ∷ 2 ∷ 4 ∷ 8 ∷ []) n ≡ true → Digit (shape.OneOf 48 49 50 52 56) n
   status-takes n e =
-      among-each (Digit (shape.OneOf 48 49 50 52 56)) (0 ∷ 1 ∷ 2 ∷ 4 ∷ 8 ∷ []) n e
-      (one-digit 48 49 50 52 56 0 (omega arith) refl
-      , (one-digit 48 49 50 52 56 1 (omega arith) refl
-      , (one-digit 48 49 50 52 56 2 (omega arith) refl
-      , (one-digit 48 49 50 52 56 4 (omega arith) refl
-      , (one-digit 48 49 50 52 56 8 (omega arith) refl, tt)))))
+      among-each (Digit (shape.OneOf 48 49 50 52 56)) (0 ∷ 1 ∷ 2 ∷ 4 ∷ 8 ∷ []) n e (
+        one-digit 48 49 50 52 56 0 (omega arith) refl,
+        (
+          one-digit 48 49 50 52 56 1 (omega arith) refl,
+          (
+            one-digit 48 49 50 52 56 2 (omega arith) refl,
+            (
+              one-digit 48 49 50 52 56 4 (omega arith) refl,
+              (one-digit 48 49 50 52 56 8 (omega arith) refl, tt),
+            ),
+          ),
+        ),
+      )
 
   -- ---- one of eight numbers
   pub listed-takes : (a b c d e f g h n : ℕ) → n < 10 ^ 9 → (eqb n a || eqb n b || eqb n c || eqb n d || eqb n e || eqb n f || eqb n g || eqb n h) ≡ true
@@ -198,37 +211,58 @@ module _ (sent stored : List ℕ) where
       record { here = refl; picked = λ place. rw (bare-back 8 n l (omega arith)) (simp t) }
 
   -- 103, 102, 434, 373, 851
-  pub refusal-takes : (n : ℕ) → among (0 ∷ 1 ∷ 6 ∷ 99 ∷ []) n ≡ true → Takes sent stored (shape.Listed 0 1 6 99 99 99 99 99) (Number n)
+  pub refusal-takes : (n : ℕ) → isAmong (0 ∷ 1 ∷ 6 ∷ 99 ∷ []) n ≡ true → Takes sent stored (shape.Listed 0 1 6 99 99 99 99 99) (Number n)
   refusal-takes n e =
-      among-each (λ x. Takes sent stored (shape.Listed 0 1 6 99 99 99 99 99) (Number x)) (0 ∷ 1 ∷ 6 ∷ 99 ∷ []) n e
-      (listed-takes 0 1 6 99 99 99 99 99 0 (omega arith) refl
-      , (listed-takes 0 1 6 99 99 99 99 99 1 (omega arith) refl
-      , (listed-takes 0 1 6 99 99 99 99 99 6 (omega arith) refl
-      , (listed-takes 0 1 6 99 99 99 99 99 99 (omega arith) refl, tt))))
+      among-each (λ x. Takes sent stored (shape.Listed 0 1 6 99 99 99 99 99) (Number x)) (0 ∷ 1 ∷ 6 ∷ 99 ∷ []) n e (
+        listed-takes 0 1 6 99 99 99 99 99 0 (omega arith) refl,
+        (
+          listed-takes 0 1 6 99 99 99 99 99 1 (omega arith) refl,
+          (
+            listed-takes 0 1 6 99 99 99 99 99 6 (omega arith) refl,
+            (listed-takes 0 1 6 99 99 99 99 99 99 (omega arith) refl, tt),
+          ),
+        ),
+      )
 
-  pub reason-takes : (n : ℕ) → among (0 ∷ 1 ∷ 2 ∷ []) n ≡ true → Takes sent stored (shape.Listed 0 1 2 2 2 2 2 2) (Number n)
+  pub reason-takes : (n : ℕ) → isAmong (0 ∷ 1 ∷ 2 ∷ []) n ≡ true → Takes sent stored (shape.Listed 0 1 2 2 2 2 2 2) (Number n)
   reason-takes n e =
-      among-each (λ x. Takes sent stored (shape.Listed 0 1 2 2 2 2 2 2) (Number x)) (0 ∷ 1 ∷ 2 ∷ []) n e
-      (listed-takes 0 1 2 2 2 2 2 2 0 (omega arith) refl
-      , (listed-takes 0 1 2 2 2 2 2 2 1 (omega arith) refl
-      , (listed-takes 0 1 2 2 2 2 2 2 2 (omega arith) refl, tt)))
+      among-each (λ x. Takes sent stored (shape.Listed 0 1 2 2 2 2 2 2) (Number x)) (0 ∷ 1 ∷ 2 ∷ []) n e (
+        listed-takes 0 1 2 2 2 2 2 2 0 (omega arith) refl,
+        (
+          listed-takes 0 1 2 2 2 2 2 2 1 (omega arith) refl,
+          (listed-takes 0 1 2 2 2 2 2 2 2 (omega arith) refl, tt),
+        ),
+      )
 
-  pub two-takes : (n : ℕ) → among (1 ∷ 2 ∷ []) n ≡ true → Takes sent stored (shape.Listed 1 2 2 2 2 2 2 2) (Number n)
+  pub two-takes : (n : ℕ) → isAmong (1 ∷ 2 ∷ []) n ≡ true → Takes sent stored (shape.Listed 1 2 2 2 2 2 2 2) (Number n)
   two-takes n e =
       among-each (λ x. Takes sent stored (shape.Listed 1 2 2 2 2 2 2 2) (Number x)) (1 ∷ 2 ∷ []) n e
       (listed-takes 1 2 2 2 2 2 2 2 1 (omega arith) refl, (listed-takes 1 2 2 2 2 2 2 2 2 (omega arith) refl, tt))
 
-  pub fault-takes : (n : ℕ) → among (1 ∷ 2 ∷ 3 ∷ 4 ∷ 5 ∷ 6 ∷ 9 ∷ 11 ∷ []) n ≡ true → Takes sent stored (shape.Listed 1 2 3 4 5 6 9 11) (Number n)
+  pub fault-takes : (n : ℕ) → isAmong (1 ∷ 2 ∷ 3 ∷ 4 ∷ 5 ∷ 6 ∷ 9 ∷ 11 ∷ []) n ≡ true → Takes sent stored (shape.Listed 1 2 3 4 5 6 9 11) (Number n)
   fault-takes n e =
-      among-each (λ x. Takes sent stored (shape.Listed 1 2 3 4 5 6 9 11) (Number x)) (1 ∷ 2 ∷ 3 ∷ 4 ∷ 5 ∷ 6 ∷ 9 ∷ 11 ∷ []) n e
-      (listed-takes 1 2 3 4 5 6 9 11 1 (omega arith) refl
-      , (listed-takes 1 2 3 4 5 6 9 11 2 (omega arith) refl
-      , (listed-takes 1 2 3 4 5 6 9 11 3 (omega arith) refl
-      , (listed-takes 1 2 3 4 5 6 9 11 4 (omega arith) refl
-      , (listed-takes 1 2 3 4 5 6 9 11 5 (omega arith) refl
-      , (listed-takes 1 2 3 4 5 6 9 11 6 (omega arith) refl
-      , (listed-takes 1 2 3 4 5 6 9 11 9 (omega arith) refl
-      , (listed-takes 1 2 3 4 5 6 9 11 11 (omega arith) refl, tt))))))))
+      among-each (λ x. Takes sent stored (shape.Listed 1 2 3 4 5 6 9 11) (Number x)) (1 ∷ 2 ∷ 3 ∷ 4 ∷ 5 ∷ 6 ∷ 9 ∷ 11 ∷ []) n e (
+        listed-takes 1 2 3 4 5 6 9 11 1 (omega arith) refl,
+        (
+          listed-takes 1 2 3 4 5 6 9 11 2 (omega arith) refl,
+          (
+            listed-takes 1 2 3 4 5 6 9 11 3 (omega arith) refl,
+            (
+              listed-takes 1 2 3 4 5 6 9 11 4 (omega arith) refl,
+              (
+                listed-takes 1 2 3 4 5 6 9 11 5 (omega arith) refl,
+                (
+                  listed-takes 1 2 3 4 5 6 9 11 6 (omega arith) refl,
+                  (
+                    listed-takes 1 2 3 4 5 6 9 11 9 (omega arith) refl,
+                    (listed-takes 1 2 3 4 5 6 9 11 11 (omega arith) refl, tt),
+                  ),
+                ),
+              ),
+            ),
+          ),
+        ),
+      )
 
   -- ---- texts
   pub text-takes : (most low : ℕ) (v : Value) → TextRight sent stored most low v → Takes sent stored (shape.Text most low) v

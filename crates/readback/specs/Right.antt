@@ -3,10 +3,9 @@
 -- message that was sent or in the table where it is stored. Assumes nothing.
 use Prim.Native.Nat.{ℕ, _≤_, _<_}
 use mathlib.Core.Path.{_≡_}
-use mathlib.Core.Bool.{Bool, true, false, _||_}
+use mathlib.Core.Bool.{Bool, true, false}
 use mathlib.Core.List.{List, [], _∷_}
 use mathlib.Core.Logic.{_⊎_}
-use lib.Dec.{eqb}
 use lib.ListN.{length}
 use Rattle.decimal.specs.Reading.{isNumber, isTime}
 use Rattle.matching.specs.Held.{Sound}
@@ -23,11 +22,7 @@ use Rattle.rows.specs.declared.Refused.{Refused}
 use Rattle.rows.specs.declared.Unchanged.{Unchanged}
 use Rattle.rows.specs.declared.Faulty.{Faulty}
 use Rattle.rows.specs.Rows.{text, requested, prevented, decremented, expired}
-
--- the number is one of a list
-abbrev pub among : List ℕ → ℕ → Bool
-among [] n = false
-among (x ∷ xs) n = eqb n x || among xs n
+use Rattle.ticket.specs.Legible.{isAmong}
 
 -- the value is a text
 abbrev pub isPart : Value → Bool
@@ -99,18 +94,18 @@ module _ (sent stored : List ℕ) where
   pub record RefusedRight (q : Refused) : Type 0 where
     pub id-right : IdRight (text (q .id))
     pub quantity-right : q .quantity ≤ 999999999
-    pub side-right : among (1 ∷ 2 ∷ []) (q .side) ≡ true
+    pub side-right : isAmong (1 ∷ 2 ∷ []) (q .side) ≡ true
     pub code-right : CodeRight (text (q .code))
-    pub reason-right : among (0 ∷ 1 ∷ 6 ∷ 99 ∷ []) (q .reason) ≡ true
+    pub reason-right : isAmong (0 ∷ 1 ∷ 6 ∷ 99 ∷ []) (q .reason) ≡ true
 
   -- ---- a cancel or replacement that is rejected; order 0 is none
   pub record UnchangedRight (u : Unchanged) : Type 0 where
     pub id-right : IdRight (text (u .id))
     pub orderid-right : u .orderid ≤ 255
-    pub status-right : among (0 ∷ 1 ∷ 2 ∷ 4 ∷ 8 ∷ []) (u .status) ≡ true
+    pub status-right : isAmong (0 ∷ 1 ∷ 2 ∷ 4 ∷ 8 ∷ []) (u .status) ≡ true
     pub orig-right : IdRight (text (u .orig))
-    pub reason-right : among (0 ∷ 1 ∷ 2 ∷ []) (u .reason) ≡ true
-    pub response-right : among (1 ∷ 2 ∷ []) (u .response) ≡ true
+    pub reason-right : isAmong (0 ∷ 1 ∷ 2 ∷ []) (u .reason) ≡ true
+    pub response-right : isAmong (1 ∷ 2 ∷ []) (u .response) ≡ true
 
   -- ---- a message with a fault
   pub record FaultyRight (f : Faulty) : Type 0 where
@@ -119,7 +114,7 @@ module _ (sent stored : List ℕ) where
     pub tag-low : 1 ≤ f .tag
     pub tag-high : f .tag ≤ 9999
     pub kind-right : TextRight 2 32 (text (f .kind))
-    pub reason-right : among (1 ∷ 2 ∷ 3 ∷ 4 ∷ 5 ∷ 6 ∷ 9 ∷ 11 ∷ []) (f .reason) ≡ true
+    pub reason-right : isAmong (1 ∷ 2 ∷ 3 ∷ 4 ∷ 5 ∷ 6 ∷ 9 ∷ 11 ∷ []) (f .reason) ≡ true
 
 -- ---- a fill
 pub record FillRight (f : Fill) : Type 0 where
@@ -129,4 +124,4 @@ pub record FillRight (f : Fill) : Type 0 where
   pub other-right : f .other ≤ 999999
   pub first-low : 1 ≤ f .first
   pub first-high : f .first ≤ 999999999
-  pub liquidity-right : among (1 ∷ 2 ∷ []) (f .liquidity) ≡ true
+  pub liquidity-right : isAmong (1 ∷ 2 ∷ []) (f .liquidity) ≡ true
