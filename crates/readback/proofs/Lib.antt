@@ -9,3 +9,4 @@ pub mod Said
 pub mod Theorems
 pub mod Legibly
 pub mod Events
+pub mod Changed
