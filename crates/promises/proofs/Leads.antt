@@ -14,7 +14,7 @@ use Rattle.report.specs.declared.Kind.{Kind}
 use Rattle.report.specs.declared.Kind.the-variants.{Accepted, Replaced, Canceled, Trade, Rejected, CancelReject, SessionReject, Refused}
 use Rattle.report.specs.declared.Reading.{Reading}
 use Rattle.report.specs.Reports.{readOf}
-use Rattle.promises.specs.Says.{says}
+use Rattle.readback.specs.Says.{says}
 use Rattle.promises.specs.Tallies.{Account, afterReport, noted, accountFrom, isTrade, tradedFor, traded, bought, sold, isSelfTrade, selfTrades}
 use Rattle.promises.proofs.Tells.{accountIn}
 

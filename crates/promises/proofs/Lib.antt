@@ -8,3 +8,9 @@ pub mod Requested
 pub mod Submitting
 pub mod Opening
 pub mod Histories
+pub mod Telling
+pub mod Agreeing
+pub mod Depths
+pub mod Kept
+pub mod Theorems
+pub mod Cases

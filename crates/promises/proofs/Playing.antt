@@ -27,7 +27,7 @@ use Rattle.table.proofs.Applied.{AllMove, framed-applied, book-applied}
 use Rattle.report.specs.declared.Reading.{Reading}
 use Rattle.report.specs.Reports.{readOf}
 use Rattle.calls.specs.Run.{eventReport, eventReports}
-use Rattle.promises.specs.Says.{says}
+use Rattle.readback.specs.Says.{says}
 use Rattle.promises.specs.Tallies.{Account, noted, accountFrom, isTrade, tradedFor, traded, isSelfTrade, selfTrades}
 use Rattle.promises.proofs.Tells.{Apart, Exact, Tells, accountIn, noted-here, noted-there}
 use Rattle.promises.proofs.Exacts.{Exacts}

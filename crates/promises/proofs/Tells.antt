@@ -20,7 +20,7 @@ use Rattle.matching.proofs.Books.{at-new}
 use Rattle.report.specs.declared.Kind.{Kind}
 use Rattle.report.specs.declared.Kind.the-variants as kind
 use Rattle.report.specs.declared.Reading.{Reading}
-use Rattle.promises.specs.Says.{says}
+use Rattle.readback.specs.Says.{says}
 use Rattle.promises.specs.Tallies.{Account, blank, afterReport, noted}
 
 -- ---- what a report says
