@@ -4,5 +4,6 @@ pub mod Joins
 pub mod Happening
 pub mod Stepping
 pub mod Taking
+pub mod Agreeing
 pub mod Going
 pub mod Theorems
