@@ -14,3 +14,4 @@ pub mod Depths
 pub mod Kept
 pub mod Theorems
 pub mod Cases
+pub mod Lived
