@@ -1,5 +1,6 @@
 // Reads reports, one a line with `|` for SOH, and changes each byte of them to each of the 255 other values, one at a time: how many
-// of the changed reports are refused and how many are read, as they are and with their 10 made true again.
+// of the changed reports are refused and how many are read, as they are and with their 10 made true again. Its file `stdout` was worked
+// out with the second program (tests/second), which read every one of them.
 use octets::part::copy_into;
 use report::Kind;
 use report::write::check_sum;

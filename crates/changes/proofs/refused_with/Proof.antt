@@ -1,5 +1,4 @@
 -- `changes::refused_with`: the copy is the bytes.
-use Prim.Native.Nat.{_≤_, _<_}
 use mathlib.Core.Path.{_≡_, sym}
 use native.Mathlib.Omega.{arith}
 use lib.ListN.{length, take}
