@@ -1,14 +1,13 @@
 -- A report with one byte changed is none: 10 is the CheckSum of all before it, and one byte more or less changes it.
-use Prim.Native.Nat.{ℕ, zero, suc, _+_, _-_, _*_, _/_, _%_, _≤_, _<_}
+use Prim.Native.Nat.{ℕ, zero, suc, _+_, _-_, _/_, _%_, _≤_, _<_}
 use native.Mathlib.Omega.{arith}
 use native.Mathlib.Nat.{not-suc-le-zero, div-add-mod'}
 use native.Mathlib.Decide.{decLt}
 use mathlib.Core.Path.{_≡_, refl, sym, ap, _∙_}
 use mathlib.Core.List.{List, [], _∷_, _++_}
-use lib.ListN.{length, take, drop, getD, set, length-set, length-append, take-append-drop, length-take}
+use lib.ListN.{length, take, drop, getD, set, length-set, length-append, take-append-drop}
 use lib.Seq.{take-at, drop-at, take-set-le, take-set-lt, drop-set-lt, getD-set-same, getD-take, length-take-le}
 use Rattle.decimal.specs.Writing.{decimal, places}
-use Rattle.report.specs.declared.Field.{Field}
 use Rattle.report.specs.declared.Kind.{Kind}
 use Rattle.report.specs.declared.Kind.the-variants.{Accepted, Replaced, Canceled, Trade, Rejected, CancelReject, SessionReject, Refused}
 use Rattle.report.specs.Fields.{label, written, rowBytes}

@@ -1,32 +1,26 @@
 -- The report of every event, and of everything that is refused, is read as what it tells (document 01, "The reports"): its kind, the
 -- fields of its row, and the numbers of the order after the event. Any table and message that give the report its parts in range.
 use Prim.Native.Nat.{ℕ}
-use mathlib.Core.Path.{_≡_, refl, ap, _∙_}
+use mathlib.Core.Path.{_≡_, ap}
 use mathlib.Core.List.{List}
 use Rattle.matching.specs.declared.Event.{Event}
 use Rattle.matching.specs.declared.Event.the-variants.{Accepted, Replaced, Withdrawn, Canceled, Decremented, Traded, Expired}
 use Rattle.matching.specs.Matching.{who}
 use Rattle.report.specs.declared.Place.{Place}
-use Rattle.report.specs.declared.Field.{Field}
 use Rattle.report.specs.declared.Kind.the-variants as kind
 use Rattle.report.specs.declared.Reading.{Reading}
-use Rattle.report.specs.Fields.{rowBytes}
-use Rattle.report.specs.Frame.{reportBytes}
 use Rattle.report.specs.Reports.{readOf}
-use Rattle.rows.specs.declared.Stamp.{Stamp}
-use Rattle.rows.specs.declared.Shown.{Shown}
-use Rattle.rows.specs.declared.Ground.{Ground}
 use Rattle.rows.specs.declared.Refused.{Refused}
 use Rattle.rows.specs.declared.Unchanged.{Unchanged}
 use Rattle.rows.specs.declared.Faulty.{Faulty}
-use Rattle.rows.specs.Rows.{text, requested, prevented, decremented, expired, header, figuresOf, acceptedFields, acceptedRow, replacedFields, replacedRow, canceledFields, canceledRow, tradeFields, tradeRow}
+use Rattle.rows.specs.Rows.{text, requested, prevented, decremented, expired, header, figuresOf, acceptedFields, replacedFields, canceledFields, tradeFields}
 use Rattle.ticket.specs.declared.Cause.{Cause}
 use Rattle.ticket.specs.Tickets.{stampOn, shownOn, fillOn, rowOf, ticketOf, refusedRow, unchangedRow, faultyRow}
-use Rattle.ticket.specs.Legible.{Headed, Recorded, Legible, LegibleRefused, LegibleUnchanged, LegibleFaulty}
-use Rattle.readback.specs.Right.{StampRight, ShownRight, ReplacedRight, replaced-on-request, by-decrement, CanceledRight, canceled-on-request, by-prevention, at-the-end}
-use Rattle.readback.specs.Says.{saysIn, says, SaysOrder, SaysFill}
+use Rattle.ticket.specs.Legible.{Legible, LegibleRefused, LegibleUnchanged, LegibleFaulty}
+use Rattle.readback.specs.AsRead.{asRead}
+use Rattle.readback.specs.Right.{StampRight, ShownRight, replaced-on-request, by-decrement, canceled-on-request, by-prevention, at-the-end}
+use Rattle.readback.specs.Says.{saysIn, says, SaysOrder}
 use Rattle.readback.specs.Told.{kindTold, reasonTold, quantityTold, otherTold, SaysEvent}
-use Rattle.readback.proofs.ReadBack.{asRead}
 use Rattle.readback.proofs.Said.{row-says, accepted-said, replaced-said, canceled-said, trade-said}
 use Rattle.readback.proofs.Theorems.{Reads, accepted-is-read, replaced-is-read, canceled-is-read, trade-is-read, rejected-is-read, cancel-reject-is-read, session-reject-is-read}
 use Rattle.readback.proofs.Legibly.{stamp-right, shown-right, fill-right, requested-right, refused-right, unchanged-right, faulty-right}

@@ -1,29 +1,27 @@
 -- Which kind a written report is: 35 and 150 are found where they stand, since no value of the row holds an SOH.
-use Prim.Native.Nat.{ℕ, zero, suc, _+_, _-_, _^_, _%_, _≤_, _<_}
+use Prim.Native.Nat.{ℕ, zero, suc, _+_, _≤_, _<_}
 use native.Mathlib.Omega.{arith}
 use mathlib.Core.Path.{_≡_, refl, sym, ap, _∙_}
-use mathlib.Core.Bool.{Bool, true, false, cond, not, _&&_, _||_, false≢true}
-use mathlib.Core.List.{List, [], _∷_, _++_, append-assoc, append-nil}
-use lib.Dec.{ltb, eqb}
-use lib.ListN.{length, drop, getD, replicate, length-append}
+use mathlib.Core.Bool.{Bool, true, false, _&&_, false≢true}
+use mathlib.Core.List.{List, [], _∷_, _++_, append-assoc}
+use lib.Dec.{ltb}
+use lib.ListN.{length, drop, getD, length-append}
 use lib.Seq.{drop-at, getD-append-add, getD-at}
-use borrow.Author.Tests.{eq-eqb, ne-eqb, ltb-true}
+use borrow.Author.Tests.{ne-eqb, ltb-true}
 use Rattle.octets.proofs.Bools.{split, both-l, both-r}
 use Rattle.decimal.specs.Writing.{decimal}
 use Rattle.decimal.proofs.Afters.{digits-decimal}
-use Rattle.report.specs.declared.Value.{Value}
-use Rattle.report.specs.declared.Value.the-variants.{Absent, Number, Char, Word, Sent, Stored, Level, Mean}
+use Rattle.report.specs.declared.Value.the-variants.{Absent, Char}
 use Rattle.report.specs.declared.Field.{Field}
 use Rattle.report.specs.declared.Slot.{Slot}
-use Rattle.report.specs.declared.Kind.{Kind}
-use Rattle.report.specs.declared.Kind.the-variants.{Accepted, Replaced, Canceled, Trade, Rejected, CancelReject, SessionReject, Refused}
+use Rattle.report.specs.declared.Kind.the-variants.{CancelReject, SessionReject}
 use Rattle.report.specs.Fields.{field, isAbsent, valueBytes, label, written, fieldBytes, rowBytes}
 use Rattle.report.specs.Frame.{checkSum, version, front, trailer, reportBytes}
-use Rattle.report.specs.Parse.{starts, hop, placeOf}
+use Rattle.report.specs.Parse.{hop, placeOf}
 use Rattle.report.specs.Reports.{executionFor, kindFor, firstOf, kindOf}
 use Rattle.report.proofs.Walks.{fresh, found}
-use Rattle.report.proofs.Taken.{NoSoh, Proper, taken, clean-append, clean-digits}
-use Rattle.report.proofs.Back.{Fit, Fits, fits-none, fits-some, fits-skip, moved, starts-back}
+use Rattle.report.proofs.Taken.{NoSoh, taken, clean-append, clean-digits}
+use Rattle.report.proofs.Back.{Fits, fits-none, fits-some, fits-skip, moved, starts-back}
 use Rattle.readback.proofs.Rowed.{differ, written-starts}
 
 -- ---- passing a field

@@ -1,15 +1,13 @@
 -- Every row that the market can write fits the slots of its kind, so that it can be read: one line for each field.
-use Prim.Native.Nat.{ℕ, _≤_, _<_}
+use Prim.Native.Nat.{ℕ}
 use native.Mathlib.Omega.{arith}
 use mathlib.Core.Path.{_≡_, refl}
-use mathlib.Core.Bool.{Bool, true, false}
-use mathlib.Core.List.{List, [], _∷_, _++_}
-use mathlib.Core.Logic.{_⊎_, inl, inr, ⊎-elim}
-use lib.ListN.{length, take, replicate}
+use mathlib.Core.List.{List}
+use mathlib.Core.Logic.{_⊎_, inl, inr}
+use lib.ListN.{take}
 use Rattle.decimal.specs.Writing.{decimal, meanOf}
 use Rattle.report.specs.declared.Value.{Value}
-use Rattle.report.specs.declared.Value.the-variants.{Absent, Number}
-use Rattle.report.specs.declared.Field.{Field}
+use Rattle.report.specs.declared.Value.the-variants.{Absent}
 use Rattle.report.specs.declared.Shape.the-variants as shape
 use Rattle.report.specs.declared.Kind.the-variants.{Accepted, Replaced, Canceled, Trade, Rejected, CancelReject, SessionReject}
 use Rattle.report.specs.Fields.{label}
@@ -24,7 +22,7 @@ use Rattle.rows.specs.declared.Fill.{Fill}
 use Rattle.rows.specs.declared.Refused.{Refused}
 use Rattle.rows.specs.declared.Unchanged.{Unchanged}
 use Rattle.rows.specs.declared.Faulty.{Faulty}
-use Rattle.rows.specs.Rows.{text, requested, prevented, decremented, expired, header, figuresOf, replacedStatus, tradeStatus, padded, acceptedFields, acceptedRow, replacedFields, replacedRow, canceledFields, canceledRow, tradeFields, tradeRow, rejectedRow, cancelRejectRow, sessionRejectRow}
+use Rattle.rows.specs.Rows.{text, requested, prevented, decremented, expired, header, figuresOf, padded, acceptedFields, acceptedRow, replacedFields, replacedRow, canceledFields, canceledRow, tradeFields, tradeRow, rejectedRow, cancelRejectRow, sessionRejectRow}
 use Rattle.readback.specs.Right.{TextRight, StampRight, ShownRight, ReplacedRight, replaced-on-request, by-decrement, CanceledRight, canceled-on-request, by-prevention, at-the-end, FillRight, RefusedRight, UnchangedRight, FaultyRight}
 use Rattle.readback.proofs.Takes.{Takes, char-takes, word-takes, number-takes, or-number-takes, or-nobody-takes, side-takes, tif-takes, replaced-takes, traded-takes, capacity-takes, class-takes, asked-side-takes, status-takes, listed-takes, refusal-takes, reason-takes, two-takes, fault-takes, text-takes, code-takes, time-takes, level-takes, mean-takes, average-takes, open-takes, executed-takes, quantity-takes}
 use Rattle.readback.proofs.Rowed.{all-fit}

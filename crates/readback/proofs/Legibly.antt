@@ -1,24 +1,21 @@
 -- What is legible is right: the parts of every report that a table and a message give in range are what can be read.
-use Prim.Native.Nat.{ℕ, suc, _+_, _-_, _*_, _≤_, _<_}
+use Prim.Native.Nat.{ℕ, suc, _+_, _≤_, _<_}
 use native.Mathlib.Omega.{arith}
-use mathlib.Core.Bool.{Bool, true, false, cond, _&&_, _||_}
-use mathlib.Core.Path.{_≡_, refl, sym, ap, _∙_}
+use mathlib.Core.Bool.{true}
+use mathlib.Core.Path.{_≡_, refl, ap}
 use mathlib.Core.List.{List, [], _∷_}
 use mathlib.Core.Logic.{_⊎_, inl, inr}
-use lib.Dec.{eqb, ltb, leb}
-use lib.ListN.{length, getD, take, drop, length-take, length-drop}
+use lib.Dec.{eqb, leb}
+use lib.ListN.{length, getD, drop, length-take, length-drop}
 use borrow.Author.Tests.{eqb-true, eqb-false, eq-eqb, lt-ltb, le-leb, le-ltb, leb-true}
 use Rattle.octets.specs.Octets.{partAt, textAt}
 use Rattle.octets.proofs.Bools.{split, both-l, both-r}
-use Rattle.decimal.specs.Reading.{isDigit, runOf, digitRun, isNumber, isTime}
+use Rattle.decimal.specs.Reading.{isDigit, runOf, digitRun, isNumber}
 use Rattle.table.specs.Places.{tableBytes, recordAt, accountByte}
 use Rattle.table.specs.Heading.{workOf}
-use Rattle.table.specs.Orders.{orderAt}
-use Rattle.table.specs.Market.{every, isBetween, isGraphic, isPrintable, isCapacity, isClass}
+use Rattle.table.specs.Market.{every, isBetween, isPrintable}
 use Rattle.report.specs.declared.Place.{Place}
-use Rattle.report.specs.declared.Value.{Value}
-use Rattle.report.specs.declared.Value.the-variants.{Absent, Stored}
-use Rattle.report.specs.Fields.{valueBytes}
+use Rattle.report.specs.declared.Value.the-variants.{Absent}
 use Rattle.report.specs.Shapes.{allFrom}
 use Rattle.rows.specs.declared.Refused.{Refused}
 use Rattle.rows.specs.declared.Unchanged.{Unchanged}
@@ -27,7 +24,7 @@ use Rattle.rows.specs.Rows.{text}
 use Rattle.rows.proofs.Widths.{text-short}
 use Rattle.ticket.specs.Tickets.{storedAt, orStoredAt, stampOn, shownOn, fillOn}
 use Rattle.ticket.specs.Legible.{Spelt, Placed, textBy, Headed, Recorded, Dealt, LegibleRefused, LegibleUnchanged, LegibleFaulty}
-use Rattle.readback.specs.Right.{isPart, TextRight, CodeRight, TimeRight, IdRight, StampRight, ShownRight, FillRight, RefusedRight, UnchangedRight, FaultyRight}
+use Rattle.readback.specs.Right.{isPart, TextRight, CodeRight, IdRight, StampRight, ShownRight, FillRight, RefusedRight, UnchangedRight, FaultyRight}
 
 -- ---- characters
 every-from : (low : ℕ) (xs : List ℕ) → every (isBetween low 126) xs ≡ true → allFrom low xs ≡ true

@@ -1,4 +1,5 @@
--- The laws of `readback`. A reader begins with Theorems.
+-- The theorems of `readback`: Theorems, every kind of report is read back as it was written; Events, the report of every event and of
+-- every refusal is; Changed, a report with one byte changed is none. The other files are their laws.
 pub mod Takes
 pub mod Rowed
 pub mod Fitting

@@ -1,38 +1,25 @@
 -- A written row is read back: its kind, and its fields, each text at its place in the report.
-use Prim.Native.Nat.{ℕ, zero, suc, _+_, _-_, _%_, _≤_, _<_}
+use Prim.Native.Nat.{ℕ, zero, suc, _+_, _≤_}
 use native.Mathlib.Omega.{arith}
-use mathlib.Core.Path.{_≡_, refl, sym, ap, _∙_, subst}
-use mathlib.Core.Bool.{Bool, true, false, cond, not, _&&_, _||_}
-use mathlib.Core.List.{List, [], _∷_, _++_}
-use lib.Dec.{eqb}
-use lib.ListN.{length, getD, replicate, length-append}
-use Rattle.octets.proofs.Bools.{split}
+use mathlib.Core.Path.{_≡_, refl, ap, _∙_, subst}
+use mathlib.Core.Bool.{true}
+use mathlib.Core.List.{List, [], _∷_}
+use lib.ListN.{length, getD}
 use Rattle.decimal.specs.Writing.{decimal}
-use Rattle.matching.specs.declared.Order.{Order}
-use Rattle.matching.specs.Matching.{openOf}
 use Rattle.report.specs.declared.Value.{Value}
 use Rattle.report.specs.declared.Value.the-variants.{Absent, Number, Char, Word, Sent, Stored, Level, Mean}
 use Rattle.report.specs.declared.Field.{Field}
-use Rattle.report.specs.declared.Slot.{Slot}
 use Rattle.report.specs.declared.Kind.{Kind}
 use Rattle.report.specs.declared.Kind.the-variants.{Accepted, Replaced, Canceled, Trade, Rejected, CancelReject, SessionReject, Refused}
-use Rattle.report.specs.declared.Reading.{Reading}
-use Rattle.report.specs.Fields.{field, isAbsent, valueBytes, label, written, fieldBytes, rowBytes}
+use Rattle.report.specs.Fields.{field, isAbsent, label, written, fieldBytes, rowBytes}
 use Rattle.report.specs.Frame.{checkSum, front, trailer, reportBytes}
-use Rattle.report.specs.Parse.{Rows, row, bad}
 use Rattle.report.specs.Slots.{slotsOf}
-use Rattle.report.specs.Reports.{executionFor, kindOf, oneReason, agreed, refused, readingOf, readFramed, readOf}
+use Rattle.report.specs.Reports.{executionFor, kindOf, oneReason, agreed, readingOf, readOf}
 use Rattle.report.proofs.Back.{Fits, moved, backs, start, framed-back}
 use Rattle.report.proofs.Tables.{row-short}
-use Rattle.rows.specs.declared.Stamp.{Stamp}
-use Rattle.rows.specs.declared.Shown.{Shown}
-use Rattle.rows.specs.declared.Ground.{Ground}
-use Rattle.rows.specs.declared.Fill.{Fill}
-use Rattle.rows.specs.declared.Refused.{Refused as Rejection}
-use Rattle.rows.specs.declared.Unchanged.{Unchanged}
-use Rattle.rows.specs.declared.Faulty.{Faulty}
-use Rattle.rows.specs.Rows.{header, figuresOf, digit, tradeStatus, padded, acceptedFields, acceptedRow, replacedFields, replacedRow, canceledFields, canceledRow, tradeFields, tradeRow, rejectedRow, cancelRejectRow, sessionRejectRow}
+use Rattle.rows.specs.Rows.{padded}
 use Rattle.rows.proofs.Widths.{row-padded}
+use Rattle.readback.specs.AsRead.{asRead}
 use Rattle.readback.proofs.Firsts.{fits-clean, before, kind-cancel-reject, kind-session-reject, kind-execution}
 
 -- ---- where a value is read back says nothing of whether it is there
@@ -63,10 +50,7 @@ module _ (sent stored : List ℕ) where
   agreed-back SessionReject at fs = refl
   agreed-back Refused at fs = refl
 
-  -- ---- a row as it is read: with fields of no value behind it, each text at its place in the report
-  abbrev pub asRead : List Field → List Field
-  asRead fs = backs sent stored (start (rowBytes sent stored fs)) (padded fs)
-
+  -- ---- a row that fits its kind's slots
   module _ (k : Kind) (fs : List Field) (f : (sum : ℕ) → Fits sent stored (trailer sum) (slotsOf k) fs) (some : 1 ≤ length (rowBytes sent stored fs)) where
     short : length (rowBytes sent stored fs) ≤ 489
     short = row-short k sent stored (trailer 0) fs (f 0)
@@ -83,7 +67,7 @@ module _ (sent stored : List ℕ) where
   -- what is read of a row that fits its kind's slots
   pub row-read : (k : Kind) (fs : List Field) → ((sum : ℕ) → Fits sent stored (trailer sum) (slotsOf k) (padded fs)) → 1 ≤ length (rowBytes sent stored (padded fs))
       → kindOf (reportBytes (rowBytes sent stored (padded fs))) ≡ k → agreed k (padded fs) ≡ true
-      → readOf (reportBytes (rowBytes sent stored fs)) ≡ record { kind = k; fields = asRead fs }
+      → readOf (reportBytes (rowBytes sent stored fs)) ≡ record { kind = k; fields = asRead sent stored fs }
   row-read k fs f some e a =
       subst (λ (b : List ℕ). readOf (reportBytes b) ≡ record { kind = k; fields = backs sent stored (start b) (padded fs) }) (row-padded sent stored fs)
       (whole-back k (padded fs) f some e a)
@@ -98,21 +82,21 @@ module _ (sent stored : List ℕ) where
     pub execution-read : (k : Kind) (n c : ℕ) → ((sum : ℕ) → Fits sent stored (trailer sum) (slotsOf k) (padded fs))
         → getD (padded fs) 0 (field 0 Absent) ≡ field 35 (Char 56) → before 150 n (padded fs) ≡ true → getD (padded fs) n (field 0 Absent) ≡ field 150 (Char c)
         → executionFor c ≡ k → agreed k (padded fs) ≡ true
-        → readOf (reportBytes (rowBytes sent stored fs)) ≡ record { kind = k; fields = asRead fs }
+        → readOf (reportBytes (rowBytes sent stored fs)) ≡ record { kind = k; fields = asRead sent stored fs }
     execution-read k n c f e b g x a =
         let some = some-bytes 56 (padded fs) e in
         row-read k fs f some
         (kind-execution sent stored (padded fs) (short k (padded fs) f some) (fits-clean sent stored (trailer 0) (slotsOf k) (padded fs) (f 0)) n c e b g ∙ x) a
 
     pub cancel-reject-read : ((sum : ℕ) → Fits sent stored (trailer sum) (slotsOf CancelReject) (padded fs)) → getD (padded fs) 0 (field 0 Absent) ≡ field 35 (Char 57)
-        → readOf (reportBytes (rowBytes sent stored fs)) ≡ record { kind = CancelReject; fields = asRead fs }
+        → readOf (reportBytes (rowBytes sent stored fs)) ≡ record { kind = CancelReject; fields = asRead sent stored fs }
     cancel-reject-read f e =
         let some = some-bytes 57 (padded fs) e in
         row-read CancelReject fs f some
         (kind-cancel-reject sent stored (padded fs) (short CancelReject (padded fs) f some) (fits-clean sent stored (trailer 0) (slotsOf CancelReject) (padded fs) (f 0)) e) refl
 
     pub session-reject-read : ((sum : ℕ) → Fits sent stored (trailer sum) (slotsOf SessionReject) (padded fs)) → getD (padded fs) 0 (field 0 Absent) ≡ field 35 (Char 51)
-        → readOf (reportBytes (rowBytes sent stored fs)) ≡ record { kind = SessionReject; fields = asRead fs }
+        → readOf (reportBytes (rowBytes sent stored fs)) ≡ record { kind = SessionReject; fields = asRead sent stored fs }
     session-reject-read f e =
         let some = some-bytes 51 (padded fs) e in
         row-read SessionReject fs f some

@@ -1,12 +1,11 @@
 -- Rows that fit their slots: a list of what each slot takes, and one computed test that tags stand where the slots have them.
-use Prim.Native.Nat.{ℕ, zero, suc, _+_, _-_, _≤_, _<_}
-use native.Mathlib.Omega.{arith}
+use Prim.Native.Nat.{ℕ, zero, suc}
 use mathlib.Core.Path.{_≡_, refl, sym, ap, _∙_}
 use mathlib.Core.Bool.{Bool, true, false, cond, not, _&&_, _||_, false≢true}
 use mathlib.Core.List.{List, [], _∷_, _++_, append-assoc, append-nil}
 use mathlib.Core.Logic.{_⊎_, inl, inr}
-use lib.Dec.{ltb, eqb}
-use lib.ListN.{length, replicate}
+use lib.Dec.{eqb}
+use lib.ListN.{replicate}
 use borrow.Author.Tests.{eqb-true}
 use Rattle.octets.proofs.Bools.{split, both-l, both-r}
 use Rattle.decimal.specs.Writing.{decimal, places}
@@ -22,7 +21,7 @@ use Rattle.report.specs.Slots.{unused}
 use Rattle.report.proofs.Bytes.{row-append}
 use Rattle.report.proofs.Taken.{Proper}
 use Rattle.report.proofs.Only.{AllProper}
-use Rattle.report.proofs.Back.{Fit, Fits, fits-none, fits-some, fits-skip}
+use Rattle.report.proofs.Back.{Fits, fits-none, fits-some, fits-skip}
 use Rattle.readback.proofs.Takes.{Takes}
 
 -- ---- labels

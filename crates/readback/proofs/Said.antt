@@ -1,16 +1,14 @@
 -- What a report that was written says when it is read: for every tag, the number of the row's field.
-use Prim.Native.Nat.{ℕ, zero, suc, _+_, _-_, _%_, _≤_, _<_}
+use Prim.Native.Nat.{ℕ, zero, suc, _+_, _-_, _%_, _<_}
 use native.Mathlib.Omega.{arith}
-use mathlib.Core.Path.{_≡_, refl, sym, ap, _∙_}
-use mathlib.Core.Bool.{Bool, true, false, cond, _||_}
+use mathlib.Core.Path.{_≡_, refl, sym, _∙_}
 use mathlib.Core.List.{List, [], _∷_, _++_}
-use lib.Dec.{eqb, leb}
+use lib.Dec.{eqb}
 use lib.ListN.{length, replicate}
 use borrow.Author.Tests.{eqb-true, le-leb}
 use Rattle.octets.proofs.Bools.{split, or-r}
 use Rattle.decimal.specs.Reading.{isDigit}
 use Rattle.matching.specs.declared.Order.{Order}
-use Rattle.matching.specs.Matching.{openOf}
 use Rattle.matching.specs.Held.{Sound}
 use Rattle.report.specs.declared.Value.{Value}
 use Rattle.report.specs.declared.Value.the-variants.{Absent, Number, Char, Word, Sent, Stored, Level, Mean}
@@ -24,8 +22,8 @@ use Rattle.rows.specs.declared.Shown.{Shown}
 use Rattle.rows.specs.declared.Ground.{Ground}
 use Rattle.rows.specs.declared.Fill.{Fill}
 use Rattle.rows.specs.Rows.{header, figuresOf, digit, orNumber, padded, acceptedFields, acceptedRow, replacedFields, replacedRow, canceledFields, canceledRow, tradeFields, tradeRow}
+use Rattle.readback.specs.AsRead.{asRead}
 use Rattle.readback.specs.Says.{numberOf, saysIn, says, SaysOrder, SaysFill}
-use Rattle.readback.proofs.ReadBack.{asRead}
 
 -- ---- numbers are read back as they are
 moved-number : (sent stored : List ℕ) (place : ℕ) (v : Value) → numberOf (moved sent stored place v) ≡ numberOf v

@@ -1,20 +1,19 @@
 -- What a shape takes: each value that a report is written from, where it is right, is read back as it was written.
-use Prim.Native.Nat.{ℕ, zero, suc, _+_, _-_, _^_, _%_, _≤_, _<_}
+use Prim.Native.Nat.{ℕ, _+_, _^_, _%_, _≤_, _<_}
 use native.Mathlib.Omega.{arith}
-use mathlib.Core.Path.{_≡_, refl, sym, ap, _∙_}
-use mathlib.Core.Bool.{Bool, true, false, cond, _&&_, _||_, false≢true}
-use mathlib.Core.List.{List, [], _∷_, _++_}
-use mathlib.Core.Logic.{_⊎_, inl, inr, ⊎-elim}
-use lib.Dec.{ltb, leb, eqb}
-use lib.ListN.{length, getD}
-use borrow.Author.Tests.{eq-eqb, ne-eqb, le-leb, lt-ltb, le-ltb, eqb-true, eqb-false, leb-true}
-use Rattle.octets.specs.Octets.{partAt, sameBytes}
+use mathlib.Core.Path.{_≡_, refl, ap}
+use mathlib.Core.Bool.{true, false, _&&_, _||_, false≢true}
+use mathlib.Core.List.{List, [], _∷_}
+use mathlib.Core.Logic.{_⊎_, inl, inr}
+use lib.Dec.{leb, eqb}
+use lib.ListN.{length}
+use borrow.Author.Tests.{eq-eqb, ne-eqb, le-leb, le-ltb, eqb-true, eqb-false, leb-true}
+use Rattle.octets.specs.Octets.{sameBytes}
 use Rattle.octets.proofs.Bools.{split, both-l, both-r, or-r}
-use Rattle.decimal.specs.declared.Said.{Said}
-use Rattle.decimal.specs.declared.Said.the-variants.{Value as Says, Wrong as Says-not}
-use Rattle.decimal.specs.Reading.{isNumber, numOf, number, isTime}
-use Rattle.decimal.specs.Writing.{decimal, fixed, meanOf}
-use Rattle.decimal.specs.Canonical.{bareOf, within, fixedOf}
+use Rattle.decimal.specs.declared.Said.the-variants.{Value as Says}
+use Rattle.decimal.specs.Reading.{numOf}
+use Rattle.decimal.specs.Writing.{decimal, meanOf}
+use Rattle.decimal.specs.Canonical.{bareOf, within}
 use Rattle.decimal.proofs.Digits.{decimal-few}
 use Rattle.decimal.proofs.Means.{mean-range}
 use Rattle.decimal.proofs.RoundTrip.{bare-back, fixed-back}
@@ -26,13 +25,12 @@ use Rattle.report.specs.declared.Value.{Value}
 use Rattle.report.specs.declared.Value.the-variants.{Absent, Number, Char, Word, Sent, Stored, Level, Mean}
 use Rattle.report.specs.declared.Shape.{Shape}
 use Rattle.report.specs.declared.Shape.the-variants as shape
-use Rattle.report.specs.declared.Pick.{Pick}
-use Rattle.report.specs.declared.Pick.the-variants.{Is, No}
+use Rattle.report.specs.declared.Pick.the-variants.{Is}
 use Rattle.report.specs.Fields.{isAbsent, valueBytes}
-use Rattle.report.specs.Shapes.{oneIn, numberIn, listedIn, wordIn, recordIn, allFrom, textIn, placeIn, timeIn, yieldIn, averageIn, valueIn}
+use Rattle.report.specs.Shapes.{oneIn, numberIn, wordIn, recordIn, textIn, timeIn, yieldIn, averageIn, valueIn}
 use Rattle.report.proofs.Taken.{same-is}
 use Rattle.report.proofs.Back.{moved, same-back}
-use Rattle.rows.specs.Rows.{digit, orNumber, orNobody, nobody, avgPx, replacedStatus, tradeStatus}
+use Rattle.rows.specs.Rows.{digit, orNumber, orNobody, avgPx, replacedStatus, tradeStatus}
 use Rattle.ticket.specs.Legible.{isAmong}
 use Rattle.readback.specs.Right.{isPart, TextRight, CodeRight, TimeRight}
 

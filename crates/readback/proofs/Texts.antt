@@ -1,22 +1,20 @@
 -- A field that is read has the bytes that were written: a text's place in the report has the text.
-use Prim.Native.Nat.{ℕ, zero, suc, _+_, _≤_, _<_}
-use native.Mathlib.Omega.{arith}
-use mathlib.Core.Path.{_≡_, refl, sym, ap, _∙_, subst}
-use mathlib.Core.Bool.{Bool, true, false, cond}
+use Prim.Native.Nat.{ℕ, zero, suc, _+_}
+use mathlib.Core.Path.{_≡_, refl, sym, ap, _∙_}
 use mathlib.Core.List.{List, [], _∷_, _++_, append-assoc}
-use lib.ListN.{length, getD, take, drop, length-append}
+use lib.ListN.{length, getD, take, length-append}
 use lib.Seq.{take-at, drop-at}
 use Rattle.octets.specs.Octets.{partAt}
 use Rattle.decimal.specs.Writing.{decimal}
 use Rattle.report.specs.declared.Value.{Value}
 use Rattle.report.specs.declared.Value.the-variants.{Absent, Number, Char, Word, Sent, Stored, Level, Mean}
 use Rattle.report.specs.declared.Field.{Field}
-use Rattle.report.specs.Fields.{field, isAbsent, valueBytes, label, written, fieldBytes, rowBytes}
+use Rattle.report.specs.Fields.{field, valueBytes, label, written, fieldBytes, rowBytes}
 use Rattle.report.specs.Frame.{checkSum, version, front, trailer, reportBytes}
-use Rattle.report.proofs.Back.{moved, backs, start}
+use Rattle.report.proofs.Back.{moved, backs}
 use Rattle.rows.specs.Rows.{padded}
 use Rattle.rows.proofs.Widths.{row-padded}
-use Rattle.readback.proofs.ReadBack.{asRead}
+use Rattle.readback.specs.AsRead.{asRead}
 
 part-there : (x v y : List ℕ) → partAt (x ++ (v ++ y)) (length x) (length v) ≡ v
 unfolding partAt

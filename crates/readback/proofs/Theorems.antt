@@ -2,8 +2,8 @@
 -- of its row, where a text is given by its place in the report, which has the text's own bytes there. The fields are 36, and those
 -- behind the row have no value.
 use Prim.Native.Nat.{ℕ, _+_, _%_}
-use mathlib.Core.Path.{_≡_, refl, sym, ap, _∙_}
-use mathlib.Core.Bool.{Bool, true, false}
+use mathlib.Core.Path.{_≡_, refl, sym}
+use mathlib.Core.Bool.{true}
 use mathlib.Core.List.{List}
 use lib.Dec.{eqb}
 use lib.ListN.{getD}
@@ -29,11 +29,12 @@ use Rattle.rows.specs.declared.Refused.{Refused as Rejection}
 use Rattle.rows.specs.declared.Unchanged.{Unchanged}
 use Rattle.rows.specs.declared.Faulty.{Faulty}
 use Rattle.rows.specs.Rows.{header, figuresOf, digit, tradeStatus, padded, acceptedFields, acceptedRow, replacedFields, replacedRow, canceledFields, canceledRow, tradeFields, tradeRow, rejectedRow, cancelRejectRow, sessionRejectRow}
-use Rattle.readback.specs.Right.{IdRight, StampRight, ShownRight, ReplacedRight, CanceledRight, canceled-on-request, by-prevention, at-the-end, FillRight, RefusedRight, UnchangedRight, FaultyRight}
-use Rattle.readback.specs.Says.{numberOf, saysIn, says, SaysOrder, SaysFill}
+use Rattle.readback.specs.AsRead.{asRead}
+use Rattle.readback.specs.Right.{StampRight, ShownRight, ReplacedRight, CanceledRight, canceled-on-request, by-prevention, at-the-end, FillRight, RefusedRight, UnchangedRight, FaultyRight}
+use Rattle.readback.specs.Says.{numberOf, says, SaysOrder, SaysFill}
 use Rattle.readback.proofs.Takes.{part-here}
 use Rattle.readback.proofs.Fitting.{accepted-fits, replaced-fits, canceled-fits, trade-fits, rejected-fits, cancel-reject-fits, session-reject-fits}
-use Rattle.readback.proofs.ReadBack.{asRead, execution-read, cancel-reject-read, session-reject-read}
+use Rattle.readback.proofs.ReadBack.{execution-read, cancel-reject-read, session-reject-read}
 use Rattle.readback.proofs.Texts.{report-there}
 use Rattle.readback.proofs.Said.{row-says, accepted-said, replaced-said, canceled-said, trade-said, fill-said}
 

@@ -17,6 +17,8 @@ use Rattle.table.proofs.Facts.{market-facts, facts-market}
 use Rattle.table.proofs.Kept.{stepped-kept}
 use Rattle.calls.specs.Told.{joined, roomAsked}
 use Rattle.calls.specs.Run.{stepReports, Worked, stops, still, oneMore, worked, ran}
+use Rattle.turns.specs.declared.events.Told.{Told}
+use Rattle.turns.specs.Turns.{Busy, Turned, Walked}
 use Rattle.turns.specs.Runs.{GoesOn}
 use Rattle.turns.proofs.Joins.{joined-append}
 

@@ -1,13 +1,13 @@
--- What is said of the steps that Run takes: that some steps and then others are as many at once, and that they are matching's
--- steps on the book. Assumes nothing.
+-- What is said of the steps that Run takes: that some steps and then others are as many at once, that they are matching's steps on
+-- the book, and that the work ends. Assumes nothing.
 use mathlib.Core.Path.{_≡_}
 use mathlib.Core.List.{List, _++_}
-use Prim.Native.Nat.{ℕ, _+_}
+use Prim.Native.Nat.{ℕ, _+_, _≤_}
 use lib.ListN.{length}
 use Rattle.matching.specs.Matching.{Ran}
 use Rattle.table.specs.Heading.{workOf}
 use Rattle.table.specs.Orders.{bookOf}
-use Rattle.calls.specs.Run.{Worked}
+use Rattle.calls.specs.Run.{Worked, worked}
 
 -- both comes to what first and then the rest come to: the table at the end, all reports, all steps
 pub record GoesOn (first then both : Worked) : Type 0 where
@@ -22,3 +22,8 @@ pub record Agrees (w : Worked) (r : Ran) : Type 0 where
   pub work : workOf (w .table) ≡ r .work
   pub steps : w .steps ≡ r .steps
   pub reports : length (w .reports) ≡ length (r .events)
+
+-- with a budget of n the work ends, in at most m + 1 steps
+pub record Ended (n : ℕ) (t : List ℕ) (room m : ℕ) : Type 0 where
+  pub ended : workOf (worked n t room .table) ≡ 0
+  pub within : worked n t room .steps ≤ m + 1
