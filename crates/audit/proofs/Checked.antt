@@ -1,6 +1,6 @@
 -- What the code that checks texts and the heading comes to, in the words of Market.
 use mathlib.Core.Path.{_≡_, refl, sym, _∙_}
-use mathlib.Core.Bool.{Bool, true, false, not, _&&_, and-assoc}
+use mathlib.Core.Bool.{Bool, true, false, not, _&&_, and-assoc, and-true}
 use mathlib.Core.List.{List}
 use Prim.Native.Nat.{ℕ, _+_, _-_, _≤_, _<_, zero-le}
 use native.Mathlib.Numerals.{add-one}
@@ -35,31 +35,25 @@ not-other-texts a b x y r p q e h =
     rw g
 
 -- ---- a loop over the bytes of a text that has passed i of them: at the start, one turn on, and where it stops
-pub record Tested (f : ℕ → Bool) (s : List ℕ) (i : ℕ) : Type 0 where
+pub record Tested (f : ℕ → Bool) (s : List ℕ) (good : Bool) (i : ℕ) : Type 0 where
   pub within : i ≤ length s
-  pub left : every f (drop i s) ≡ every f s
+  pub left : (good && every f (drop i s)) ≡ every f s
 
-pub tested-none : {f : ℕ → Bool} {s : List ℕ} → Tested f s 0
+pub tested-none : {f : ℕ → Bool} {s : List ℕ} → Tested f s true 0
 tested-none = record { within = zero-le; left = refl }
 
-pub tested-more : {f : ℕ → Bool} {s : List ℕ} {i : ℕ} → Tested f s i → i < length s → f (getD s i 0) ≡ true → Tested f s (i + 1)
+pub tested-more : {f : ℕ → Bool} {s : List ℕ} {good : Bool} {i : ℕ} → Tested f s good i → i < length s → Tested f s (good && f (getD s i 0)) (i + 1)
 unfolding every
-tested-more {f} {s} {i} p l h =
-    let e : every f (drop i s) ≡ every f (drop (i + 1) s) = rw (drop-cons s i 0 l, h, add-one) in
-    record { within = omega arith; left = sym e ∙ p .left }
+tested-more {f} {s} {good} {i} p l =
+    let turn : every f (drop i s) ≡ (f (getD s i 0) && every f (drop (i + 1) s)) = rw (drop-cons s i 0 l, add-one) in
+    record { within = omega arith; left = and-assoc good (f (getD s i 0)) (every f (drop (i + 1) s)) ∙ rw (← turn) (p .left) }
 
-pub tested-stop : {f : ℕ → Bool} {s : List ℕ} {i : ℕ} → Tested f s i → i < length s → f (getD s i 0) ≡ false → every f s ≡ false
+pub tested-end : {f : ℕ → Bool} {s : List ℕ} {good : Bool} {i : ℕ} → Tested f s good i → length s ≤ i → good ≡ every f s
 unfolding every
-tested-stop {f} {s} {i} p l h =
-    let e : every f (drop i s) ≡ false = rw (drop-cons s i 0 l, h) in
-    sym (p .left) ∙ e
-
-pub tested-end : {f : ℕ → Bool} {s : List ℕ} {i : ℕ} → Tested f s i → length s ≤ i → every f s ≡ true
-unfolding every
-tested-end {f} {s} {i} p l =
+tested-end {f} {s} {good} {i} p l =
     let e : i ≡ length s = omega (arith, p .within) in
     let z : every f (drop i s) ≡ true = rw (e, drop-length) in
-    sym (p .left) ∙ z
+    sym (and-true good) ∙ rw z at (p .left)
 
 -- ---- a text: too short, too long, or tested by its bytes and the zeros behind it
 module _ (f : ℕ → Bool) (least room : ℕ) (t : List ℕ) (p n : ℕ) (e : n ≡ getD t p 0) where

@@ -21,7 +21,7 @@ use Rattle.matching.specs.Matching.{Book, at}
 use Rattle.table.specs.Orders.{clOrdIdAt, orderAt, filled, bookOf}
 use Rattle.table.specs.Market.{isFreshId, isFreshPlace, hasPlaces}
 use Rattle.table.proofs.Books.{length-book, at-book}
-use Rattle.audit.specs.Checking.{keyFrom, keyOf, placeKey}
+use Rattle.audit.specs.Checking.{digest, keyOf, placeKey}
 
 -- ---- the first j keys have a mark: at the start, one more, and what a key without a mark tells
 pub record Marked (key : ℕ → ℕ) (mark : List ℕ) (j : ℕ) : Type 0 where
@@ -52,27 +52,27 @@ marked-more {key} {mark} {j} k m e small =
         apart (yes q) = absurd (n (ap key q ∙ sym e))
         apart (no d) = omega (arith, d)
 
--- ---- the key of a text, of which i bytes were passed
+-- ---- the number of a text, of which i bytes were passed
 pub record Keyed (s : List ℕ) (h i : ℕ) : Type 0 where
   pub within : i ≤ length s
-  pub small : h < 4194304
-  pub left : keyFrom h (drop i s) ≡ keyOf s
+  pub small : h < 72057594037927936
+  pub left : digest h (drop i s) ≡ digest 0 s
 
 pub keyed-none : {s : List ℕ} → Keyed s 0 0
 keyed-none = record { within = zero-le; small = omega arith; left = refl }
 
-pub keyed-more : {s : List ℕ} {h i : ℕ} (x : ℕ) → Keyed s h i → i < length s → x ≡ getD s i 0 → Keyed s ((h * 10 + x) % 4194304) (i + 1)
-unfolding keyFrom
+pub keyed-more : {s : List ℕ} {h i : ℕ} (x : ℕ) → Keyed s h i → i < length s → x ≡ getD s i 0 → Keyed s ((h * 10 + x) % 72057594037927936) (i + 1)
+unfolding digest
 keyed-more {s} {h} {i} x k l e =
-    let z : keyFrom h (drop i s) ≡ keyFrom ((h * 10 + x) % 4194304) (drop (i + 1) s) = rw (drop-cons s i 0 l, e, add-one) in
+    let z : digest h (drop i s) ≡ digest ((h * 10 + x) % 72057594037927936) (drop (i + 1) s) = rw (drop-cons s i 0 l, e, add-one) in
     record { within = omega arith; small = omega arith; left = sym z ∙ k .left }
 
-pub keyed-end : {s : List ℕ} {h i : ℕ} → Keyed s h i → length s ≤ i → h ≡ keyOf s
-unfolding keyFrom
+pub keyed-end : {s : List ℕ} {h i : ℕ} → Keyed s h i → length s ≤ i → h % 4194301 ≡ keyOf s
+unfolding digest keyOf
 keyed-end {s} {h} {i} k l =
     let e : i ≡ length s = omega (arith, k .within) in
-    let z : keyFrom h (drop i s) ≡ h = rw (e, drop-length) in
-    sym z ∙ k .left
+    let z : digest h (drop i s) ≡ h = rw (e, drop-length) in
+    ap (λ (x : ℕ). x % 4194301) (sym z ∙ k .left)
 
 -- ---- ClOrdIDs: one whose key is that of none before is new
 abbrev pub idKey : List ℕ → ℕ → ℕ

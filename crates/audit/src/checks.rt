@@ -15,19 +15,18 @@ use table::heading::next;
 use table::heading::stamp;
 use table::heading::work;
 
-// Whether every byte is from low to high.
+// Whether every byte is from low to high. There is no way out of the loop but its end, so that many bytes are taken a turn.
 pub fn all_within(s: &[u8], low: u8, high: u8) -> bool
     ensures { λ r. ⌜ r ≡ every (λ x. leb low x && leb x high) (now (s .entry)) ⌝ }
 {
+    let mut good = true;
     let mut i = 0;
     while i < s.len() {
         let x = s[i];
-        if !((low <= x) & (x <= high)) {
-            return false;
-        }
+        good = good & ((low <= x) & (x <= high));
         i += 1;
     }
-    true
+    good
 }
 
 // The room that a text of n bytes leaves free.

@@ -16,10 +16,10 @@ fn key_of(s: &[u8]) -> usize
     let mut h = 0;
     let mut i = 0;
     while i < s.len() {
-        h = (h * 10 + (octets::wide(s[i]) as usize)) % 4194304;
+        h = (h * 10 + (octets::wide(s[i]) as usize)) % 72057594037927936;
         i += 1;
     }
-    h
+    h % 4194301
 }
 
 // Whether the ClOrdID of record j + 1 is that of no record before it.

@@ -8,3 +8,4 @@ pub mod Opening
 pub mod Verdict
 pub mod Plain
 pub mod Values
+pub mod Bodies

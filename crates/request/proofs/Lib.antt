@@ -6,3 +6,4 @@ pub mod Answers
 pub mod Told
 pub mod Requests
 pub mod Saying
+pub mod Refusals

@@ -1,29 +1,24 @@
--- `audit::all_within` meets its contract: the bytes passed are within.
-use mathlib.Core.Path.{sym}
+-- `audit::all_within` meets its contract: the bytes passed are within, and the rest is, exactly if the whole is.
 use mathlib.Core.Bool.{_&&_}
 use Prim.Native.Nat.{_-_}
 use native.Mathlib.Omega.{arith}
-use borrow.Author.Tests.{not-true, not-false}
 use lib.Dec.{leb}
 use lib.ListN.{length}
-use Rattle.audit.proofs.Checked.{Tested, tested-none, tested-more, tested-stop, tested-end}
+use Rattle.audit.proofs.Checked.{Tested, tested-none, tested-more, tested-end}
 use Rattle.audit.proofs.checks.all_within.Statement.{statement}
 use Rattle.audit.proofs.checks.all_within.Tie as tie
 
 abbrev Inv-loop : tie.InvT-loop
-Inv-loop s low high i₀ i = Tested (λ x. leb low x && leb x high) s i
+Inv-loop s low high good₀ i₀ good i = Tested (λ x. leb low x && leb x high) s good i
 
 abbrev μ-loop : tie.MeasureT-loop
-μ-loop s low high i₀ i = length s - i
+μ-loop s low high good₀ i₀ good i = length s - i
 
 loop-holds : tie.Need-loop-holds Inv-loop μ-loop
 loop-holds c = tested-none
 
 shared-slice-read-x : tie.Need-shared-slice-read-x Inv-loop μ-loop
 shared-slice-read-x c = omega arith
-
-returns : tie.Need-returns Inv-loop μ-loop
-returns c = sym (tested-stop (c .before .before .before .loop .inv) (c .before .before .loop-test .taken) (not-true _ (c .if1 .taken)))
 
 add-i : tie.Need-add-i Inv-loop μ-loop
 add-i c = omega arith
@@ -32,10 +27,10 @@ loop-less : tie.Need-loop-less Inv-loop μ-loop
 loop-less c = omega arith
 
 loop-again : tie.Need-loop-again Inv-loop μ-loop
-loop-again c = tested-more (c .before .before .before .loop .inv) (c .before .before .loop-test .taken) (not-false _ (c .if1 .left))
+loop-again c = tested-more (c .before .before .loop .inv) (c .before .loop-test .taken)
 
-returns-2 : tie.Need-returns-2 Inv-loop μ-loop
-returns-2 c = sym (tested-end (c .before .loop .inv) (c .loop-test .left))
+returns : tie.Need-returns Inv-loop μ-loop
+returns c = tested-end (c .before .loop .inv) (c .loop-test .left)
 
 pub all-within-spec : {M : Type 1} → statement M
 all-within-spec =
@@ -45,8 +40,7 @@ all-within-spec =
     μ-loop
     loop-holds
     shared-slice-read-x
-    returns
     add-i
     loop-less
     loop-again
-    returns-2)
+    returns)

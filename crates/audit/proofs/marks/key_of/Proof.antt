@@ -1,4 +1,4 @@
--- `audit::key_of` meets its contract: the bytes passed are in the key.
+-- `audit::key_of` meets its contract: the bytes passed are in the number.
 use Prim.Native.Nat.{_-_}
 use native.Mathlib.Omega.{arith}
 use borrow.Author.Needs.{needs}
@@ -38,7 +38,7 @@ loop-again : tie.Need-loop-again Inv-loop μ-loop
 loop-again c = keyed-more _ (c .before .before .before .loop .inv) (c .before .before .loop-test .taken) (c .wide .ensures .0)
 
 returns : tie.Need-returns Inv-loop μ-loop
-returns c = (keyed-end (c .before .loop .inv) (c .loop-test .left), c .before .loop .inv .small)
+returns c = (keyed-end (c .before .loop .inv) (c .loop-test .left), omega arith)
 
 pub key-of-spec : {M : Type 1} → statement M
 key-of-spec =
