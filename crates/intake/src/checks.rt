@@ -107,7 +107,13 @@ pub fn cancel_stands(t: &[u8], message: &[u8], k: usize, o: Cancellation) -> Sta
     requires { ⌜ Market (now t) × (k ≡ holder (now t) (textOf (now message) (o .original))) ⌝ }
     ensures { λ r. ⌜ r ≡ cancelStands (now (t .entry)) (now (message .entry)) o ⌝ }
 {
-    change_stands(t, k, text_of(message, o.code), text_of(message, o.id), o.side)
+    change_stands(
+        t,
+        k,
+        text_of(message, o.code),
+        text_of(message, o.id),
+        o.side,
+    )
 }
 
 // A quantity above what is executed and decremented of record k.
@@ -127,7 +133,13 @@ pub fn replace_stands(t: &[u8], message: &[u8], k: usize, o: Replacement) -> Sta
     requires { ⌜ Market (now t) × (k ≡ holder (now t) (textOf (now message) (o .original))) ⌝ }
     ensures { λ r. ⌜ r ≡ replaceStands (now (t .entry)) (now (message .entry)) o ⌝ }
 {
-    match change_stands(t, k, text_of(message, o.code), text_of(message, o.id), o.side) {
+    match change_stands(
+        t,
+        k,
+        text_of(message, o.code),
+        text_of(message, o.id),
+        o.side,
+    ) {
         Standing::Fails(r) => Standing::Fails(r),
         Standing::Stands => is_above(t, k, o.quantity),
     }

@@ -19,7 +19,9 @@ use table::heading::work;
 
 // One message is submitted, and its report, if it has one, is written at the start of the report area.
 pub fn submit(table: &mut [u8], message: &[u8], area: &mut [u8]) -> SubmitAnswer
-    ensures { λ r. ⌜ (r ≡ submitted (now (table .entry)) (now (message .entry)) (length (now (area .entry))) .answer) × (now (table .exit) ≡ submitted (now (table .entry)) (now (message .entry)) (length (now (area .entry))) .table) × (now (area .exit) ≡ areaAfter (now (area .entry)) (submitted (now (table .entry)) (now (message .entry)) (length (now (area .entry))) .reports)) ⌝ }
+    ensures { λ r. ⌜ r ≡ submitted (now (table .entry)) (now (message .entry)) (length (now (area .entry))) .answer ⌝ }
+    ensures { λ r. ⌜ now (table .exit) ≡ submitted (now (table .entry)) (now (message .entry)) (length (now (area .entry))) .table ⌝ }
+    ensures { λ r. ⌜ now (area .exit) ≡ areaAfter (now (area .entry)) (submitted (now (table .entry)) (now (message .entry)) (length (now (area .entry))) .reports) ⌝ }
 {
     if area.len() < 1024 {
         return SubmitAnswer::NoRoom;

@@ -41,7 +41,13 @@ pub fn fault(table: &mut [u8], message: &[u8], area: &mut [u8], f: Refusal) -> S
 }
 
 // A new order, for a reason (103).
-pub fn reject_new(table: &mut [u8], message: &[u8], area: &mut [u8], o: NewOrder, reason: u64) -> SubmitAnswer
+pub fn reject_new(
+    table: &mut [u8],
+    message: &[u8],
+    area: &mut [u8],
+    o: NewOrder,
+    reason: u64,
+) -> SubmitAnswer
     requires { ⌜ Asking (now table) (now message) (Enters o) × (newStands (now table) (now message) o ≡ Fails reason) × (1024 ≤ length (now area)) ⌝ }
     ensures { λ r. ⌜ Left (newRejected (now (table .entry)) (now (message .entry)) o reason) (now (area .entry)) r (now (table .exit)) (now (area .exit)) ⌝ }
 {

@@ -139,7 +139,13 @@ pub fn enter(table: &mut [u8], message: &[u8], area: &mut [u8], o: NewOrder) -> 
 }
 
 // Record k takes new terms, a new ClOrdID and a new place, and is in work.
-pub fn renew(table: &mut [u8], message: &[u8], area: &mut [u8], o: Replacement, k: usize) -> SubmitAnswer
+pub fn renew(
+    table: &mut [u8],
+    message: &[u8],
+    area: &mut [u8],
+    o: Replacement,
+    k: usize,
+) -> SubmitAnswer
     requires { ⌜ Asking (now table) (now message) (Replaces o) × (replaceStands (now table) (now message) o ≡ Stands) × (k ≡ holder (now table) (textOf (now message) (o .original))) × (1024 ≤ length (now area)) ⌝ }
     ensures { λ r. ⌜ Left (replacementTaken (now (table .entry)) (now (message .entry)) o k) (now (area .entry)) r (now (table .exit)) (now (area .exit)) ⌝ }
 {
@@ -165,7 +171,13 @@ fn open_at(t: &[u8], k: usize) -> u64
 }
 
 // All that is open of record k is canceled, and it takes a new ClOrdID.
-pub fn withdraw(table: &mut [u8], message: &[u8], area: &mut [u8], o: Cancellation, k: usize) -> SubmitAnswer
+pub fn withdraw(
+    table: &mut [u8],
+    message: &[u8],
+    area: &mut [u8],
+    o: Cancellation,
+    k: usize,
+) -> SubmitAnswer
     requires { ⌜ Asking (now table) (now message) (Cancels o) × (cancelStands (now table) (now message) o ≡ Stands) × (k ≡ holder (now table) (textOf (now message) (o .original))) × (1024 ≤ length (now area)) ⌝ }
     ensures { λ r. ⌜ Left (cancelTaken (now (table .entry)) (now (message .entry)) o k) (now (area .entry)) r (now (table .exit)) (now (area .exit)) ⌝ }
 {

@@ -5,7 +5,10 @@ use Rattle.intake.proofs.submit.Statement.{statement}
 use Rattle.intake.proofs.submit.Tie as tie
 
 returns : tie.Need-returns
-returns c = let l = no-room (c .before .before .before .before .args .table .now) (c .before .before .before .before .args .message .now) (c .before .before .before .before .args .area .now) (c .if1 .taken) in (l .answers, l .table-is, l .area-is)
+returns c =
+    let s = c .before .before .before .before .args in
+    let l = no-room (s .table .now) (s .message .now) (s .area .now) (c .if1 .taken) in
+    (l .answers, (l .table-is, l .area-is))
 
 is-market-requires : tie.Need-is-market-requires
 is-market-requires c κs = search needs
@@ -14,7 +17,10 @@ same-length : tie.Need-same-length
 same-length c = search needs
 
 returns-2 : tie.Need-returns-2
-returns-2 c = let l = no-market (c .before .before .before .before .before .before .before .args .table .now) (c .before .before .before .before .before .before .before .args .message .now) (c .before .before .before .before .before .before .before .args .area .now) (c .before .before .before .if1 .left) _ (c .before .is-market .ensures) (c .if2 .taken) in (l .answers, l .table-is, l .area-is)
+returns-2 c =
+    let s = c .before .before .before .before .before .before .before .args in
+    let l = no-market (s .table .now) (s .message .now) (s .area .now) (c .before .before .before .if1 .left) _ (c .before .is-market .ensures) (c .if2 .taken) in
+    (l .answers, (l .table-is, l .area-is))
 
 work-requires : tie.Need-work-requires
 work-requires c κs = search (needs, market-long)
@@ -23,7 +29,14 @@ same-length-2 : tie.Need-same-length-2
 same-length-2 c = search needs
 
 returns-3 : tie.Need-returns-3
-returns-3 c = let l = in-work (c .before .before .before .before .before .before .before .before .before .before .args .table .now) (c .before .before .before .before .before .before .before .before .before .before .args .message .now) (c .before .before .before .before .before .before .before .before .before .before .args .area .now) (c .before .before .before .before .before .before .if1 .left) _ (c .before .before .before .before .is-market .ensures) (c .before .before .before .if2 .left) _ (c .before .work .ensures .0) (c .if3 .taken) in (l .answers, l .table-is, l .area-is)
+returns-3 c =
+    let found = c .before .before .before in
+    let room = found .before .before .before in
+    let s = room .before .before .before .before .args in
+    let l =
+    in-work (s .table .now) (s .message .now) (s .area .now) (room .if1 .left) _ (found .before .is-market .ensures) (found .if2 .left) _
+    (c .before .work .ensures .0) (c .if3 .taken) in
+    (l .answers, (l .table-is, l .area-is))
 
 next-requires : tie.Need-next-requires
 next-requires c κs = search (needs, market-long)
@@ -32,7 +45,15 @@ same-length-3 : tie.Need-same-length-3
 same-length-3 c = search needs
 
 returns-4 : tie.Need-returns-4
-returns-4 c = let l = numbers-spent (c .before .before .before .before .before .before .before .before .before .before .before .before .before .args .table .now) (c .before .before .before .before .before .before .before .before .before .before .before .before .before .args .message .now) (c .before .before .before .before .before .before .before .before .before .before .before .before .before .args .area .now) (c .before .before .before .before .before .before .before .before .before .if1 .left) _ (c .before .before .before .before .before .before .before .is-market .ensures) (c .before .before .before .before .before .before .if2 .left) _ (c .before .before .before .before .work .ensures .0) (c .before .before .before .if3 .left) _ (c .before .next .ensures) (c .if4 .taken) in (l .answers, l .table-is, l .area-is)
+returns-4 c =
+    let idle = c .before .before .before in
+    let found = idle .before .before .before in
+    let room = found .before .before .before in
+    let s = room .before .before .before .before .args in
+    let l =
+    numbers-spent (s .table .now) (s .message .now) (s .area .now) (room .if1 .left) _ (found .before .is-market .ensures) (found .if2 .left) _
+    (idle .before .work .ensures .0) (idle .if3 .left) _ (c .before .next .ensures) (c .if4 .taken) in
+    (l .answers, (l .table-is, l .area-is))
 
 venue-requires : tie.Need-venue-requires
 venue-requires c κs = search needs
@@ -44,7 +65,19 @@ asked-requires : tie.Need-asked-requires
 asked-requires c κs = search needs
 
 handle-requires : tie.Need-handle-requires
-handle-requires c κs = (asked-of (c .before .before .before .before .before .before .before .before .before .before .before .before .before .before .before .before .before .before .before .args .table .now) (c .before .before .before .before .before .before .before .before .before .before .before .before .before .before .before .before .before .before .before .args .message .now) (c .before .before .before .before .before .before .before .before .before .before .before .before .before .before .before .before .before .before .before .args .area .now) (c .before .before .before .before .before .before .before .before .before .before .before .before .before .before .before .if1 .left) _ (c .before .before .before .before .before .before .before .before .before .before .before .before .before .is-market .ensures) (c .before .before .before .before .before .before .before .before .before .before .before .before .if2 .left) _ (c .before .before .before .before .before .before .before .before .before .before .work .ensures .0) (c .before .before .before .before .before .before .before .before .before .if3 .left) _ (c .before .before .before .before .before .before .before .next .ensures) (c .before .before .before .before .before .before .if4 .left) _ _ (c .before .before .before .before .venue .ensures) (c .before .before .before .port .ensures) _ (c .before .before .asked .ensures), search needs)
+handle-requires c κs =
+    let asks = c .before .before in
+    let left = asks .before .before .before .before in
+    let idle = left .before .before .before in
+    let found = idle .before .before .before in
+    let room = found .before .before .before in
+    let s = room .before .before .before .before .args in
+    (
+      asked-of (s .table .now) (s .message .now) (s .area .now) (room .if1 .left) _ (found .before .is-market .ensures) (found .if2 .left) _
+      (idle .before .work .ensures .0) (idle .if3 .left) _ (left .before .next .ensures) (left .if4 .left) _ _ (asks .before .before .venue .ensures) (asks .before .port .ensures) _
+      (asks .asked .ensures),
+      search needs,
+    )
 
 same-length-4 : tie.Need-same-length-4
 same-length-4 c = search needs
@@ -53,7 +86,19 @@ same-length-5 : tie.Need-same-length-5
 same-length-5 c = search needs
 
 returns-5 : tie.Need-returns-5
-returns-5 c = let l = submitted-left (c .before .before .before .before .before .before .before .before .before .before .before .before .before .before .before .before .before .before .before .before .before .before .before .before .args .table .now) (c .before .before .before .before .before .before .before .before .before .before .before .before .before .before .before .before .before .before .before .before .before .before .before .before .args .message .now) (c .before .before .before .before .before .before .before .before .before .before .before .before .before .before .before .before .before .before .before .before .before .before .before .before .args .area .now) (c .before .before .before .before .before .before .before .before .before .before .before .before .before .before .before .before .before .before .before .before .if1 .left) _ (c .before .before .before .before .before .before .before .before .before .before .before .before .before .before .before .before .before .before .is-market .ensures) (c .before .before .before .before .before .before .before .before .before .before .before .before .before .before .before .before .before .if2 .left) _ (c .before .before .before .before .before .before .before .before .before .before .before .before .before .before .before .work .ensures .0) (c .before .before .before .before .before .before .before .before .before .before .before .before .before .before .if3 .left) _ (c .before .before .before .before .before .before .before .before .before .before .before .before .next .ensures) (c .before .before .before .before .before .before .before .before .before .before .before .if4 .left) _ _ (c .before .before .before .before .before .before .before .before .before .venue .ensures) (c .before .before .before .before .before .before .before .before .port .ensures) _ (c .before .before .before .before .before .before .before .asked .ensures) _ _ _ (c .before .before .before .before .handle .ensures) in (l .answers, l .table-is, l .area-is)
+returns-5 c =
+    let done = c .before .before .before .before in
+    let asks = done .before .before .before in
+    let left = asks .before .before .before .before in
+    let idle = left .before .before .before in
+    let found = idle .before .before .before in
+    let room = found .before .before .before in
+    let s = room .before .before .before .before .args in
+    let l =
+    submitted-left (s .table .now) (s .message .now) (s .area .now) (room .if1 .left) _ (found .before .is-market .ensures) (found .if2 .left) _
+    (idle .before .work .ensures .0) (idle .if3 .left) _ (left .before .next .ensures) (left .if4 .left) _ _ (asks .before .before .venue .ensures) (asks .before .port .ensures) _
+    (asks .asked .ensures) _ _ _ (done .handle .ensures) in
+    (l .answers, (l .table-is, l .area-is))
 
 pub submit-spec : {M : Type 1} → statement M
 submit-spec =

@@ -27,7 +27,15 @@ tell-requires : tie.Need-tell-requires
 tell-requires c κs = (search (needs, enter-told), search needs)
 
 raise-and-work-requires : tie.Need-raise-and-work-requires
-raise-and-work-requires c κs = let p = c .before .before .before .before .before .before .before .before .before .before .before .before .before .before .before .before .before .before .before .pre in (accepted-long _ _ _ _ _ _ _ _ (p .0 .market .long) (c .before .before .before .before .before .before .before .before .before .write-new .ensures), record-small _ _ _ (p .0) (p .1) _ (c .before .before .before .before .before .before .before .before .before .before .before .before .filled .ensures .0), new-stamp-short _ _ _ (p .0))
+raise-and-work-requires c κs =
+    let wrote = c .before .before .before .before .before .before .before .before .before in
+    let held = wrote .before .before .before in
+    let p = held .before .before .before .before .before .before .before .pre in
+    (
+      accepted-long _ _ _ _ _ _ _ _ (p .0 .market .long) (wrote .write-new .ensures),
+      record-small _ _ _ (p .0) (p .1) _ (held .filled .ensures .0),
+      new-stamp-short _ _ _ (p .0),
+    )
 
 same-length : tie.Need-same-length
 same-length c = search needs

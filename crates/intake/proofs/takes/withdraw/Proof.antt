@@ -21,10 +21,21 @@ cause-with-requires : tie.Need-cause-with-requires
 cause-with-requires c κs = search needs
 
 tell-requires : tie.Need-tell-requires
-tell-requires c κs = let p = c .before .before .before .before .before .before .before .before .before .before .before .before .before .before .before .pre in (withdraw-told _ _ _ (p .0) _ (p .2) (p .1) _ (c .before .before .before .before .before .before .before .before .open-at .ensures) _ (c .before .before .before .before .before .before .before .before .before .before .next .ensures) _ (c .before .before .before .before .before .before .text-of .ensures) _ (c .cause-with .ensures) _ (c .before .before .before .before .before .withdraw .ensures), search needs)
+tell-requires c κs =
+    let wrote = c .before .before .before .before .before in
+    let amount = wrote .before .before .before in
+    let read = amount .before .before in
+    let p = read .before .before .before .before .before .pre in
+    (
+      withdraw-told _ _ _ (p .0) _ (p .2) (p .1) _ (amount .open-at .ensures) _ (read .next .ensures) _ (wrote .before .text-of .ensures) _
+      (c .cause-with .ensures) _ (wrote .withdraw .ensures),
+      search needs,
+    )
 
 raise-requires : tie.Need-raise-requires
-raise-requires c κs = withdrawn-long _ _ _ _ (c .before .before .before .before .before .before .before .before .before .before .before .before .before .before .before .before .before .before .before .pre .0 .market .long) (c .before .before .before .before .before .before .before .before .before .withdraw .ensures)
+raise-requires c κs =
+    let wrote = c .before .before .before .before .before .before .before .before .before in
+    withdrawn-long _ _ _ _ (wrote .before .before .before .before .before .before .before .before .before .before .pre .0 .market .long) (wrote .withdraw .ensures)
 
 same-length : tie.Need-same-length
 same-length c = search needs
