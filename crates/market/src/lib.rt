@@ -4,11 +4,17 @@
 pub mod depth;
 
 use calls::OpenAnswer;
+use calls::RunAnswer;
+use calls::SubmitAnswer;
 use report::Reading;
 ghost use mathlib.Core.Path.{_≡_};
+ghost use lib.ListN.{length};
 ghost use Rattle.table.specs.Opened.{opened};
 ghost use Rattle.report.specs.Reports.{readOf};
+ghost use Rattle.calls.specs.Told.{areaAfter};
 ghost use Rattle.calls.specs.Open.{openAnswer};
+ghost use Rattle.calls.specs.Run.{ran};
+ghost use Rattle.calls.specs.Submit.{submitted};
 
 // Opens a market: writes the whole table from the settings and the lists of MPIDs and modes, or changes nothing.
 pub fn open(
@@ -27,6 +33,24 @@ pub fn open(
         return OpenAnswer::Opened;
     }
     OpenAnswer::BadSetting
+}
+
+// Takes one message: refuses it, or rejects it with a report, or does what it asks and writes its first report.
+pub fn submit(table: &mut [u8], message: &[u8], area: &mut [u8]) -> SubmitAnswer
+    ensures { λ r. ⌜ (r ≡ submitted (now (table .entry)) (now (message .entry)) (length (now (area .entry))) .answer)
+        × (now (table .exit) ≡ submitted (now (table .entry)) (now (message .entry)) (length (now (area .entry))) .table)
+        × (now (area .exit) ≡ areaAfter (now (area .entry)) (submitted (now (table .entry)) (now (message .entry)) (length (now (area .entry))) .reports)) ⌝ }
+{
+    intake::submit(table, message, area)
+}
+
+// Takes steps of the order in work, at most as many as the budget, while there is room for their reports in the area.
+pub fn run(table: &mut [u8], area: &mut [u8], budget: u64) -> RunAnswer
+    ensures { λ r. ⌜ (r ≡ ran (now (table .entry)) (length (now (area .entry))) budget .answer)
+        × (now (table .exit) ≡ ran (now (table .entry)) (length (now (area .entry))) budget .table)
+        × (now (area .exit) ≡ areaAfter (now (area .entry)) (ran (now (table .entry)) (length (now (area .entry))) budget .reports)) ⌝ }
+{
+    turns::run(table, area, budget)
 }
 
 // The kind and the fields of a report, or that the bytes are none.

@@ -1,45 +1,41 @@
+-- `kamurjesh_run` meets its contract: it is Run, its answer as the paper's number, bytes, reports and steps.
+use mathlib.Core.Path.{_∙_, ap}
+use Rattle.calls.specs.Run.{runNumber, runBytes, runReports, runSteps}
 use borrow.Author.Needs.{needs}
 use Rattle.kamurjesh.proofs.kamurjesh_run.Statement.{statement}
 use Rattle.kamurjesh.proofs.kamurjesh_run.Tie as tie
-use Rattle.kamurjesh.proofs.kamurjesh_run.Reads as reads
-use Rattle.kamurjesh.proofs.kamurjesh_run.Lts as lts
-use Rattle.kamurjesh.proofs.numbers.run_bytes.Reads as run-bytes-reads
-use Rattle.kamurjesh.proofs.numbers.run_number.Reads as run-number-reads
-use Rattle.kamurjesh.proofs.numbers.run_reports.Reads as run-reports-reads
-use Rattle.kamurjesh.proofs.numbers.run_steps.Reads as run-steps-reads
-use Rattle.market.proofs.run.Reads as run-reads
 
--- src/lib.rt:95:9
 run-requires : tie.Need-run-requires
 run-requires c κs = search needs
 
--- src/lib.rt:96:14
 run-bytes-requires : tie.Need-run-bytes-requires
 run-bytes-requires c κs = search needs
 
--- src/lib.rt:97:16
 run-reports-requires : tie.Need-run-reports-requires
 run-reports-requires c κs = search needs
 
--- src/lib.rt:98:14
 run-steps-requires : tie.Need-run-steps-requires
 run-steps-requires c κs = search needs
 
--- src/lib.rt:99:5
 run-number-requires : tie.Need-run-number-requires
 run-number-requires c κs = search needs
 
--- src/lib.rt:79:1
 same-length : tie.Need-same-length
 same-length c = search needs
 
--- src/lib.rt:79:1
 same-length-2 : tie.Need-same-length-2
 same-length-2 c = search needs
 
--- src/lib.rt:79:1
 returns : tie.Need-returns
-returns c = ?
+returns c =
+    let answer = c .before .before .before .before .before .before .before .before .run .ensures in (
+      c .run-number .ensures ∙ ap runNumber (answer .0),
+      c .before .before .before .run-bytes .ensures ∙ ap runBytes (answer .0),
+      c .before .before .run-reports .ensures ∙ ap runReports (answer .0),
+      c .before .run-steps .ensures ∙ ap runSteps (answer .0),
+      answer .1,
+      answer .2,
+    )
 
 pub kamurjesh-run-spec : {M : Type 1} → statement M
 kamurjesh-run-spec =
