@@ -3,9 +3,9 @@
  *     rt staticlib kamurjesh
  *     cc -Iinclude -o host examples/host.c target/staticlib/libkamurjesh.a        (on x86-64 Linux)
  *
- * The library allocates nothing, keeps nothing between calls and opens no file: everything is in the buffers that you lend. A
- * market is the KAMURJESH_TABLE_BYTES bytes of its table. Copy them, and you have a second market; write them to a file, and you
- * have saved it. docs/TABLE.md says what each byte is.
+ * The library allocates nothing, keeps nothing between calls and opens no file; of the C library it calls memcpy and memset, and
+ * it uses less than 8 KB of stack. Everything is in the buffers that you lend: a market is the KAMURJESH_TABLE_BYTES bytes of its
+ * table. Copy them, and you have a second market; write them to a file, and you have saved it. docs/TABLE.md says what each byte is.
  *
  * Any bytes may be given to any call: a table that is no market, a damaged message, a short area are refused by a number, and
  * nothing is ever read or written outside what is lent. You answer for what the library cannot see: every pointer is good for
