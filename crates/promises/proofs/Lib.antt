@@ -12,6 +12,6 @@ pub mod Telling
 pub mod Agreeing
 pub mod Depths
 pub mod Kept
+pub mod Spending
 pub mod Theorems
 pub mod Cases
-pub mod Lived
