@@ -1,15 +1,15 @@
 -- How many steps the order in work can still take: each step leaves one fewer, so all Runs together take no more.
-use mathlib.Core.Path.{_≡_, refl, sym, ap, _∙_}
-use mathlib.Core.Bool.{Bool, true, false, cond}
+use mathlib.Core.Path.{_≡_, refl}
+use mathlib.Core.Bool.{true, cond}
 use mathlib.Core.List.{List, [], _∷_}
-use Prim.Native.Nat.{ℕ, zero, suc, _+_, _-_, _≤_, _<_}
+use Prim.Native.Nat.{ℕ, zero, suc, _+_, _-_, _≤_}
 use native.Mathlib.Omega.{arith}
 use lib.Dec.{eqb, ltb}
 use lib.ListN.{length}
 use borrow.Author.Tests.{ne-eqb}
 use Rattle.octets.proofs.Bools.{split, not-both}
 use Rattle.matching.specs.declared.Event.{Event}
-use Rattle.matching.specs.Matching.{Book, metBy, play, workAfter}
+use Rattle.matching.specs.Matching.{Book, metBy, play}
 use Rattle.matching.specs.Held.{In}
 use Rattle.matching.proofs.Steps.{Stepped, rests, expires, matched, step-is, step-fits}
 use Rattle.matching.proofs.Ends.{left, left-most, match-less}
@@ -24,7 +24,7 @@ use Rattle.calls.specs.Told.{joined, roomAsked}
 use Rattle.calls.specs.Run.{stepReports, stops, worked, ran, runSteps}
 use Rattle.turns.proofs.Stepping.{in-work, step-book, step-work}
 use Rattle.turns.proofs.Taking.{goes-busy}
-use Rattle.promises.specs.History.{Call, Submit, Run, Depth, Read, tableOf, tableAfter, stepsOf, stepsAfter, noSubmit}
+use Rattle.promises.specs.History.{Call, Submit, Run, Depth, Read, tableAfter, stepsAfter, noSubmit}
 use Rattle.promises.proofs.Histories.{call-keeps}
 
 -- the steps that order w of book b can still take: none if nothing is in work

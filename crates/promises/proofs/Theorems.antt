@@ -1,7 +1,7 @@
 -- What the market promises, of every history: any calls in turn, from an accepted Open with any settings, refused calls among them. A
 -- statement about the table and the reports after a history holds after each of its calls, since what went before a call is a history
 -- too. Everything is said of the definitions that the contracts of the calls cite, and of the bytes of the reports as Read gives them.
-use mathlib.Core.Path.{_≡_, sym, ap, _∙_}
+use mathlib.Core.Path.{_≡_}
 use mathlib.Core.Bool.{true}
 use mathlib.Core.List.{List}
 use mathlib.Core.Logic.{_≢_}
