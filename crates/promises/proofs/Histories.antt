@@ -1,7 +1,7 @@
 -- Every history: each table on the way is a market, and all reports lead from the first table to the last.
-use mathlib.Core.Path.{_≡_, refl, sym, ap, _∙_}
+use mathlib.Core.Path.{_≡_, refl}
 use mathlib.Core.Bool.{true}
-use mathlib.Core.List.{List, [], _∷_, _++_}
+use mathlib.Core.List.{List, [], _∷_}
 use Prim.Native.Nat.{ℕ, _≤_}
 use Rattle.table.specs.Heading.{workOf}
 use Rattle.table.specs.Market.{isMarket}

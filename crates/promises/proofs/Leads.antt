@@ -1,13 +1,12 @@
 -- Reports lead from one table to another: each order's account by its amounts before becomes that by its amounts after; they buy what
 -- they sell, and none is a self-trade. Reports one after the other do if their parts do.
 use mathlib.Core.Path.{_≡_, refl, sym, ap, _∙_}
-use mathlib.Core.Bool.{Bool, true, false, cond}
+use mathlib.Core.Bool.{Bool, true, false}
 use mathlib.Core.List.{List, [], _∷_, _++_}
 use Prim.Native.Nat.{ℕ, _+_}
 use native.Mathlib.Omega.{arith}
 use lib.Dec.{eqb}
 use Rattle.octets.proofs.Bools.{split, not-both}
-use Rattle.matching.specs.declared.Order.{Order}
 use Rattle.matching.specs.Matching.{Book, at}
 use Rattle.table.specs.Orders.{bookOf}
 use Rattle.report.specs.declared.Kind.{Kind}
