@@ -71,11 +71,10 @@ handle-requires c κs =
     let idle = left .before .before .before in
     let found = idle .before .before .before in
     let room = found .before .before .before in
-    let s = room .before .before .before .before .args in
-    (
+    let s = room .before .before .before .before .args in (
       asked-of (s .table .now) (s .message .now) (s .area .now) (room .if1 .left) _ (found .before .is-market .ensures) (found .if2 .left) _
-      (idle .before .work .ensures .0) (idle .if3 .left) _ (left .before .next .ensures) (left .if4 .left) _ _ (asks .before .before .venue .ensures) (asks .before .port .ensures) _
-      (asks .asked .ensures),
+          (idle .before .work .ensures .0) (idle .if3 .left) _ (left .before .next .ensures) (left .if4 .left) _ _ (asks .before .before .venue .ensures) (asks .before .port .ensures) _
+          (asks .asked .ensures),
       search needs,
     )
 

@@ -30,8 +30,7 @@ raise-and-work-requires : tie.Need-raise-and-work-requires
 raise-and-work-requires c κs =
     let wrote = c .before .before .before .before .before .before .before .before .before in
     let held = wrote .before .before .before in
-    let p = held .before .before .before .before .before .before .before .pre in
-    (
+    let p = held .before .before .before .before .before .before .before .pre in (
       accepted-long _ _ _ _ _ _ _ _ (p .0 .market .long) (wrote .write-new .ensures),
       record-small _ _ _ (p .0) (p .1) _ (held .filled .ensures .0),
       new-stamp-short _ _ _ (p .0),

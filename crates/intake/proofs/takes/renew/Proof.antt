@@ -21,16 +21,14 @@ tell-requires : tie.Need-tell-requires
 tell-requires c κs =
     let wrote = c .before .before .before .before .before in
     let read = wrote .before .before .before in
-    let p = read .before .before .before .before .before .pre in
-    (
+    let p = read .before .before .before .before .before .pre in (
       renew-told _ _ _ (p .0) _ (p .2) (p .1) _ (read .next .ensures) _ (wrote .before .text-of .ensures) _ (c .cause-with .ensures) _ (wrote .replace .ensures),
       search needs,
     )
 
 raise-and-work-requires : tie.Need-raise-and-work-requires
 raise-and-work-requires c κs =
-    let wrote = c .before .before .before .before .before .before .before .before .before in
-    (
+    let wrote = c .before .before .before .before .before .before .before .before .before in (
       replaced-long _ _ _ _ (wrote .before .before .before .before .before .before .before .before .pre .0 .market .long) (wrote .replace .ensures),
       search (needs, replaced-small),
       search (needs, replaced-stamp-short),

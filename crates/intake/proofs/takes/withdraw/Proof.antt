@@ -25,10 +25,9 @@ tell-requires c κs =
     let wrote = c .before .before .before .before .before in
     let amount = wrote .before .before .before in
     let read = amount .before .before in
-    let p = read .before .before .before .before .before .pre in
-    (
+    let p = read .before .before .before .before .before .pre in (
       withdraw-told _ _ _ (p .0) _ (p .2) (p .1) _ (amount .open-at .ensures) _ (read .next .ensures) _ (wrote .before .text-of .ensures) _
-      (c .cause-with .ensures) _ (wrote .withdraw .ensures),
+          (c .cause-with .ensures) _ (wrote .withdraw .ensures),
       search needs,
     )
 
