@@ -1,5 +1,4 @@
 // What a message asks of a market that can take it: done, or rejected.
-ghost use mathlib.Core.Path.{_≡_};
 ghost use Prim.Native.Nat.{_≤_};
 ghost use lib.ListN.{length};
 ghost use Rattle.request.specs.declared.Asked.the-variants.{Enters, Replaces, Cancels};
