@@ -1,8 +1,8 @@
--- `intake::checks::is_above` meets its contract.
+-- `intake::checks::quantity_stands` meets its contract.
 use Rattle.intake.proofs.Checking.{below-256, above-fits, above-yes, above-no}
 use borrow.Author.Needs.{needs}
-use Rattle.intake.proofs.checks.is_above.Statement.{statement}
-use Rattle.intake.proofs.checks.is_above.Tie as tie
+use Rattle.intake.proofs.checks.quantity_stands.Statement.{statement}
+use Rattle.intake.proofs.checks.quantity_stands.Tie as tie
 
 load-requires : tie.Need-load-requires
 load-requires c κs = (search needs, search (needs, below-256))
@@ -16,8 +16,8 @@ returns c = search (needs, above-yes)
 returns-2 : tie.Need-returns-2
 returns-2 c = search (needs, above-no)
 
-pub is-above-spec : {M : Type 1} → statement M
-is-above-spec =
+pub quantity-stands-spec : {M : Type 1} → statement M
+quantity-stands-spec =
     tie.close
     (tie.spec
     load-requires
