@@ -1,0 +1,170 @@
+/* driver SCENARIO CALLS: prepares one scenario and, if CALLS is 1, makes its calls once. bench/run counts the instructions of both and
+ * takes the difference, so that preparing costs nothing. Exit status 1 where a call answers something else than the scenario means,
+ * 2 if there is no such scenario.
+ *
+ * Open orders of a scenario with N open are sells at N yields, all different, but in depth, where they are 127 buys and 128 sells. */
+#include <stdio.h>
+#include <stdlib.h>
+#include <string.h>
+
+#include "kamurjesh.h"
+#include "messages.h"
+
+static uint8_t table[KAMURJESH_TABLE_BYTES];
+static uint8_t area[300000];
+static uint64_t length, bytes, reports, steps;
+
+static void must(int holds)
+{
+    if (!holds)
+        exit(1);
+}
+
+static uint64_t open_market(void)
+{
+    static const uint64_t mpids[] = {10, 11, 12, 13, 14}, modes[] = {1, 1, 1, 1, 1};
+    return kamurjesh_open(table, sizeof table, (const uint8_t *)"V", 1, (const uint8_t *)"P", 1, (const uint8_t *)"350", 3, 1,
+                          mpids, 5, modes, 5);
+}
+
+static uint64_t submit(const struct message *m)
+{
+    return kamurjesh_submit(table, sizeof table, m->bytes, m->length, area, sizeof area, &length);
+}
+
+static uint64_t run(void)
+{
+    return kamurjesh_run(table, sizeof table, area, sizeof area, 1000, &bytes, &reports, &steps);
+}
+
+/* The n-th order of one side: 100 at a yield of its own, with a ClOrdID of 12 characters. */
+static struct message nth(unsigned n, int side)
+{
+    char id[32], yield[32];
+    snprintf(id, sizeof id, "ORDER-%06u", n);
+    snprintf(yield, sizeof yield, side == KAMURJESH_SELL ? "0.%03u" : "1.%03u", n);
+    return new_order(id, side, 100, yield, side == KAMURJESH_SELL ? 11 : 12, '0');
+}
+
+static void enter(struct message m)
+{
+    must(submit(&m) == 0);
+    must(run() == 0);
+}
+
+static void enter_sells(unsigned from, unsigned to)
+{
+    for (unsigned i = from; i <= to; i++)
+        enter(nth(i, KAMURJESH_SELL));
+}
+
+/* ---- scenarios: each prepares, and then makes its calls or not */
+
+static void opening(int calls)
+{
+    if (calls)
+        must(open_market() == 0);
+}
+
+static void submitting(unsigned n, int calls)
+{
+    struct message m = nth(n + 1, KAMURJESH_SELL);
+    must(open_market() == 0);
+    enter_sells(1, n);
+    if (calls)
+        must(submit(&m) == 0);
+}
+
+static void running(unsigned n, int calls)
+{
+    struct message m = nth(n + 1, KAMURJESH_SELL);
+    must(open_market() == 0);
+    enter_sells(1, n);
+    must(submit(&m) == 0);
+    if (calls)
+        must(run() == 0 && steps == 1 && reports == 0);
+}
+
+/* An order that trades with n resting ones and ends. */
+static void sweeping(unsigned n, int calls)
+{
+    struct message m = new_order("SWEEP", KAMURJESH_BUY, 100 * n, "0.000", 12, '0');
+    must(open_market() == 0);
+    enter_sells(1, n);
+    must(submit(&m) == 0);
+    if (calls)
+        must(run() == 0 && steps == n + 1 && reports == 2 * n);
+}
+
+static void depth(uint64_t k, int calls)
+{
+    uint64_t found, total, orders;
+    int64_t yield;
+    must(open_market() == 0);
+    enter_sells(1, 128);
+    for (unsigned i = 129; i <= 255; i++)
+        enter(nth(i, KAMURJESH_BUY));
+    if (calls)
+        must(kamurjesh_depth(table, sizeof table, KAMURJESH_BUY, k, &found, &yield, &total, &orders) == 0 && found == 1 &&
+             total == 100 && orders == 1);
+}
+
+/* The second report of a trade: that of the order in work. */
+static const uint8_t *trade_report(size_t *size)
+{
+    struct message m = new_order("BUY", KAMURJESH_BUY, 50, "0.001", 12, '0');
+    uint64_t start, digits;
+    must(open_market() == 0);
+    enter_sells(1, 1);
+    enter(m);
+    must(reports == 2);
+    must(kamurjesh_field(area, bytes, 9, &start, &digits) == 1);
+    size_t first = (size_t)(start + digits) + 8 + strtoul((const char *)area + start, NULL, 10);
+    *size = bytes - first;
+    return area + first;
+}
+
+static void reading(int calls)
+{
+    size_t size;
+    uint64_t kind;
+    const uint8_t *report = trade_report(&size);
+    if (calls)
+        must(kamurjesh_read(report, size, &kind) == 0 && kind == KAMURJESH_IS_TRADE);
+}
+
+static void finding(int calls)
+{
+    size_t size;
+    uint64_t start, digits;
+    const uint8_t *report = trade_report(&size);
+    if (calls)
+        must(kamurjesh_field(report, size, 8060, &start, &digits) == 1);
+}
+
+int main(int count, char **words)
+{
+    if (count != 3)
+        return 2;
+    const char *name = words[1];
+    int calls = words[2][0] == '1';
+    unsigned n;
+    char rest;
+    if (strcmp(name, "open") == 0)
+        opening(calls);
+    else if (sscanf(name, "submit-%u%c", &n, &rest) == 1 && n <= 254)
+        submitting(n, calls);
+    else if (sscanf(name, "run-%u%c", &n, &rest) == 1 && n <= 254)
+        running(n, calls);
+    else if (sscanf(name, "sweep-%u%c", &n, &rest) == 1 && n >= 1 && n <= 254)
+        sweeping(n, calls);
+    else if (sscanf(name, "depth-%u%c", &n, &rest) == 1 && n <= 126)
+        depth(n, calls);
+    else if (strcmp(name, "read") == 0)
+        reading(calls);
+    else if (strcmp(name, "field") == 0)
+        finding(calls);
+    else
+        return 2;
+    return 0;
+}

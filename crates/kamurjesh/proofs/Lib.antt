@@ -1,0 +1,2 @@
+-- The laws of `kamurjesh`. Nothing here need be believed.
+pub mod Yields

@@ -1,0 +1,96 @@
+-- A level in range as a signed yield of 64 bits; and every level that Depth finds is in range.
+use mathlib.Core.Path.{_≡_, refl, sym, _∙_}
+use mathlib.Core.Bool.{Bool, true, false, cond, not, _&&_, _||_}
+use mathlib.Core.List.{List}
+use Prim.Native.Nat.{ℕ, zero, suc, _≤_, _<_, _-_}
+use native.Mathlib.Omega.{arith}
+use lib.Dec.{eqb, ltb}
+use lib.IntN.{ℤ, pos, negsuc, subℕ, _-ℤ_}
+use lib.ListN.{length}
+use mir.Syntax.{w64}
+use mir.Val.{SFits, toZ, ofZ}
+use mir.Facts.{toZ-ofZ}
+use Rattle.matching.specs.declared.Order.{Order}
+use Rattle.matching.specs.declared.Depth.{Depth}
+use Rattle.matching.specs.declared.Depth.the-variants.{Level, NoLevel}
+use Rattle.matching.specs.Matching.{Book, at, ahead, buys}
+use Rattle.matching.specs.Held.{Sound, In}
+use Rattle.matching.specs.Depth.{stands, behind, nearer, next, levelAt, depth}
+use Rattle.table.specs.Heading.{workOf}
+use Rattle.table.specs.Orders.{bookOf}
+use Rattle.table.specs.Market.{isMarket}
+use Rattle.table.specs.Facts.{Market}
+use Rattle.table.proofs.Facts.{market-facts}
+use Rattle.market.specs.declared.depth.DepthAnswer.{DepthAnswer}
+use Rattle.market.specs.declared.depth.DepthAnswer.the-variants.{NoMarket, InWork, BadSide, Found}
+use Rattle.market.specs.Depth.{isSide, depthAnswer, levelIs}
+use Rattle.kamurjesh.specs.Numbers.{levelIn, yieldOf}
+
+-- ---- the numbers
+
+module _ (l : ℕ) (h : l ≤ 1_999_999_999) where
+  pub level-fits : SFits w64 (pos l)
+  level-fits = record { sfits = omega arith }
+
+  same : toZ w64 l ≡ pos l
+  same = toZ-ofZ {w = w64} {z = pos l} level-fits
+
+  either : (b : Bool) → SFits w64 (cond b (negsuc (1_000_000_000 - suc l)) (pos (l - 1_000_000_000)))
+  either true = record { sfits = omega arith }
+  either false = record { sfits = omega arith }
+
+  -- 1,000,000,000 less
+  pub yield-fits : SFits w64 (toZ w64 l -ℤ pos 1_000_000_000)
+  yield-fits = rw same (either (ltb l 1_000_000_000))
+
+  pub yield-is : toZ w64 (ofZ w64 (toZ w64 l -ℤ pos 1_000_000_000)) ≡ subℕ l 1_000_000_000
+  yield-is = toZ-ofZ {w = w64} yield-fits ∙ rw same
+
+  yield-kept : (z : ℤ) → z ≡ subℕ l 1_000_000_000 → toZ w64 (ofZ w64 z) ≡ subℕ l 1_000_000_000
+  yield-kept z p = rw p (toZ-ofZ {w = w64} {z = subℕ l 1_000_000_000} (either (ltb l 1_000_000_000)))
+
+-- a yield that is handed on as the bits of a signed number
+pub handed : (d : Depth) (z : ℤ) → levelIs d ≤ 1_999_999_999 → z ≡ yieldOf d → toZ w64 (ofZ w64 z) ≡ yieldOf d
+handed (Level l t n) z h p = yield-kept l h z p
+handed NoLevel z h p = rw p refl
+
+-- ---- the levels
+
+one-of : (b : Bool) (x y m : ℕ) → x ≤ m → y ≤ m → cond b x y ≤ m
+one-of true x y m p q = p
+one-of false x y m p q = q
+
+module _ (b : Book) (s : ℕ) (sound : (k : ℕ) → In b k → Sound (at b k)) where
+  next-low : (x n : ℕ) → n ≤ length b → next b s x n ≤ 1_999_999_999
+  unfolding next nearer
+  next-low x zero h = omega arith
+  next-low x (suc n) h =
+      one-of (stands s (at b (suc n)) && behind s x (at b (suc n) .level) && (eqb (next b s x n) 0 || ahead (buys s) (at b (suc n) .level) (next b s x n))) _ _ _ (sound (suc n) (record { low = omega arith; high = h }) .level-high) (next-low x n (omega arith))
+
+  level-low : (k : ℕ) → levelAt b s k ≤ 1_999_999_999
+  unfolding levelAt
+  level-low zero = next-low 0 (length b) (omega arith)
+  level-low (suc k) = one-of (eqb (levelAt b s k) 0) _ _ _ (omega arith) (next-low (levelAt b s k) (length b) (omega arith))
+
+there : (e : Bool) (l t n m : ℕ) → l ≤ m → levelIs (cond e NoLevel (Level l t n)) ≤ m
+there true l t n m h = omega arith
+there false l t n m h = h
+
+depth-low : (t : List ℕ) (side k : ℕ) → Market t → levelIs (depth (bookOf t) side k) ≤ 1_999_999_999
+unfolding depth
+depth-low t side k m = there (eqb (levelAt (bookOf t) side k) 0) _ _ _ _ (level-low (bookOf t) side (m .held .sound) k)
+
+chosen : (m w s : Bool) (d : Depth) (most : ℕ) → (m ≡ true → levelIs d ≤ most)
+    → levelIs (levelIn (cond (not m) NoMarket (cond w InWork (cond s BadSide (Found d))))) ≤ most
+chosen true true s d most f = omega arith
+chosen true false true d most f = omega arith
+chosen true false false d most f = f refl
+chosen false w s d most f = omega arith
+
+answer-low : (t : List ℕ) (side k : ℕ) → levelIs (levelIn (depthAnswer t side k)) ≤ 1_999_999_999
+unfolding depthAnswer
+answer-low t side k =
+    chosen (isMarket t) (not (eqb (workOf t) 0)) (not (isSide side)) _ _ (λ e. depth-low t side k (market-facts t e))
+
+pub found-low : (t : List ℕ) (side k : ℕ) (a : DepthAnswer) (d : Depth) → a ≡ depthAnswer t side k → d ≡ levelIn a → levelIs d ≤ 1_999_999_999
+found-low t side k a d p q = rw (q, p) (answer-low t side k)

@@ -1,0 +1,55 @@
+-- `kamurjesh_depth` meets its contract: it is Depth, its answer as the paper's number and values. Every level found is in range.
+use mathlib.Core.Path.{_∙_, ap}
+use Rattle.matching.specs.Depth.{totalOf, ordersOf}
+use Rattle.market.specs.Depth.{depthNumber}
+use Rattle.kamurjesh.specs.Numbers.{levelIn, hasLevel, yieldOf}
+use Rattle.kamurjesh.proofs.Yields.{handed, found-low}
+use borrow.Author.Needs.{needs}
+use Rattle.kamurjesh.proofs.kamurjesh_depth.Statement.{statement}
+use Rattle.kamurjesh.proofs.kamurjesh_depth.Tie as tie
+
+depth-requires : tie.Need-depth-requires
+depth-requires c κs = search needs
+
+level-in-requires : tie.Need-level-in-requires
+level-in-requires c κs = search needs
+
+has-level-requires : tie.Need-has-level-requires
+has-level-requires c κs = search needs
+
+yield-of-requires : tie.Need-yield-of-requires
+yield-of-requires c κs = found-low _ _ _ _ _ (c .before .before .depth .ensures) (c .before .level-in .ensures)
+
+total-of-requires : tie.Need-total-of-requires
+total-of-requires c κs = search needs
+
+orders-of-requires : tie.Need-orders-of-requires
+orders-of-requires c κs = search needs
+
+depth-number-requires : tie.Need-depth-number-requires
+depth-number-requires c κs = search needs
+
+returns : tie.Need-returns
+returns c =
+    let answer = c .before .before .before .before .before .before .depth .ensures in
+    let level = c .before .before .before .before .before .level-in .ensures in
+    let is = level ∙ ap levelIn answer in (
+      c .depth-number .ensures ∙ ap depthNumber answer,
+      c .before .before .before .before .has-level .ensures ∙ ap hasLevel is,
+      handed (c .before .before .before .before .before .level-in .result) _ (found-low _ _ _ _ _ answer level) (c .before .before .before .yield-of .ensures) ∙ ap yieldOf is,
+      c .before .before .total-of .ensures ∙ ap totalOf is,
+      c .before .orders-of .ensures ∙ ap ordersOf is,
+    )
+
+pub kamurjesh-depth-spec : {M : Type 1} → statement M
+kamurjesh-depth-spec =
+    tie.close
+    (tie.spec
+    depth-requires
+    level-in-requires
+    has-level-requires
+    yield-of-requires
+    total-of-requires
+    orders-of-requires
+    depth-number-requires
+    returns)

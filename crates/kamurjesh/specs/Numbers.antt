@@ -1,0 +1,43 @@
+-- The numbers that the C interface gives for a level that Depth finds and for the place of a field, each 0 where there is nothing to
+-- say (document 01, "The table and its calls"). The yield is signed, in thousandths. Assumes nothing.
+use Prim.Native.Nat.{ℕ}
+use lib.IntN.{ℤ, pos, subℕ}
+use Rattle.matching.specs.declared.Depth.{Depth}
+use Rattle.matching.specs.declared.Depth.the-variants.{Level, NoLevel}
+use Rattle.market.specs.declared.depth.DepthAnswer.{DepthAnswer}
+use Rattle.market.specs.declared.depth.DepthAnswer.the-variants.{NoMarket, InWork, BadSide, Found}
+use Rattle.report.specs.declared.Part.{Part}
+use Rattle.report.specs.declared.Part.the-variants.{At, Nowhere}
+
+-- ---- Depth
+
+-- the level that an answer has, or none
+abbrev pub levelIn : DepthAnswer → Depth
+levelIn NoMarket = NoLevel
+levelIn InWork = NoLevel
+levelIn BadSide = NoLevel
+levelIn (Found d) = d
+
+-- whether there is one
+abbrev pub hasLevel : Depth → ℕ
+hasLevel (Level level total orders) = 1
+hasLevel NoLevel = 0
+
+-- its yield in thousandths: a level is 1,000,000,000 and the yield
+abbrev pub yieldOf : Depth → ℤ
+yieldOf (Level level total orders) = subℕ level 1_000_000_000
+yieldOf NoLevel = pos 0
+
+-- ---- the place of a field
+
+abbrev pub isThere : Part → ℕ
+isThere (At start len) = 1
+isThere Nowhere = 0
+
+abbrev pub startOf : Part → ℕ
+startOf (At start len) = start
+startOf Nowhere = 0
+
+abbrev pub lenOf : Part → ℕ
+lenOf (At start len) = len
+lenOf Nowhere = 0

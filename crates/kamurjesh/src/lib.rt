@@ -1,0 +1,150 @@
+// The market for programs in C (include/kamurjesh.h). Each call is a thin function over the proved one: an answer becomes the paper's
+// number, and each of its values is written through a pointer, 0 where it has none. A slice passes as a pointer and a length.
+ghost use mathlib.Core.Path.{_≡_};
+ghost use lib.ListN.{length};
+ghost use Rattle.matching.specs.Depth.{totalOf, ordersOf};
+ghost use Rattle.table.specs.Opened.{opened};
+ghost use Rattle.calls.specs.Open.{openAnswer, openNumberOf};
+ghost use Rattle.calls.specs.Told.{areaAfter};
+ghost use Rattle.calls.specs.Submit.{submitted, submitNumber, submitLength};
+ghost use Rattle.calls.specs.Run.{ran, runNumber, runBytes, runReports, runSteps};
+ghost use Rattle.market.specs.Depth.{depthAnswer, depthNumber};
+ghost use Rattle.report.specs.Reports.{readOf, partOf};
+ghost use Rattle.calls.specs.Read.{readNumber, kindNumber};
+ghost use Rattle.kamurjesh.specs.Numbers.{levelIn, hasLevel, yieldOf, isThere, startOf, lenOf};
+
+pub mod numbers;
+
+use crate::numbers::depth_number;
+use crate::numbers::has_level;
+use crate::numbers::is_there;
+use crate::numbers::kind_number;
+use crate::numbers::len_of;
+use crate::numbers::level_in;
+use crate::numbers::open_number;
+use crate::numbers::orders_of;
+use crate::numbers::read_number;
+use crate::numbers::run_bytes;
+use crate::numbers::run_number;
+use crate::numbers::run_reports;
+use crate::numbers::run_steps;
+use crate::numbers::start_of;
+use crate::numbers::submit_length;
+use crate::numbers::submit_number;
+use crate::numbers::total_of;
+use crate::numbers::yield_of;
+use market::depth::depth;
+use market::open;
+use market::read;
+use market::run;
+use market::submit;
+use report::read::field;
+
+// Opens a market in the table: 0, or refusal 9 with nothing changed.
+#[no_mangle]
+pub extern "C" fn kamurjesh_open(
+    table: &mut [u8],
+    venue: &[u8],
+    port: &[u8],
+    code: &[u8],
+    first: u64,
+    mpids: &[u64],
+    modes: &[u64],
+) -> u64
+    ensures { λ r. ⌜ (r ≡ openNumberOf (openAnswer (now (table .entry)) (now (venue .entry)) (now (port .entry)) (now (code .entry)) first (now (mpids .entry)) (now (modes .entry))))
+        × (now (table .exit) ≡ opened (now (table .entry)) (now (venue .entry)) (now (port .entry)) (now (code .entry)) first (now (mpids .entry)) (now (modes .entry))) ⌝ }
+{
+    open_number(open(table, venue, port, code, first, mpids, modes))
+}
+
+// Takes one message: 0, or a refusal; with the length of the report that it writes, 0 where it writes none.
+#[no_mangle]
+pub extern "C" fn kamurjesh_submit(
+    table: &mut [u8],
+    message: &[u8],
+    area: &mut [u8],
+    len: &mut u64,
+) -> u64
+    ensures { λ r. ⌜ (r ≡ submitNumber (submitted (now (table .entry)) (now (message .entry)) (length (now (area .entry))) .answer))
+        × (now (len .exit) ≡ submitLength (submitted (now (table .entry)) (now (message .entry)) (length (now (area .entry))) .answer))
+        × (now (table .exit) ≡ submitted (now (table .entry)) (now (message .entry)) (length (now (area .entry))) .table)
+        × (now (area .exit) ≡ areaAfter (now (area .entry)) (submitted (now (table .entry)) (now (message .entry)) (length (now (area .entry))) .reports)) ⌝ }
+{
+    let answer = submit(table, message, area);
+    *len = submit_length(answer);
+    submit_number(answer)
+}
+
+// Takes steps of the order in work: 0 with the bytes and reports written and the steps taken, or a refusal.
+#[no_mangle]
+pub extern "C" fn kamurjesh_run(
+    table: &mut [u8],
+    area: &mut [u8],
+    budget: u64,
+    bytes: &mut u64,
+    reports: &mut u64,
+    steps: &mut u64,
+) -> u64
+    ensures { λ r. ⌜ (r ≡ runNumber (ran (now (table .entry)) (length (now (area .entry))) budget .answer))
+        × (now (bytes .exit) ≡ runBytes (ran (now (table .entry)) (length (now (area .entry))) budget .answer))
+        × (now (reports .exit) ≡ runReports (ran (now (table .entry)) (length (now (area .entry))) budget .answer))
+        × (now (steps .exit) ≡ runSteps (ran (now (table .entry)) (length (now (area .entry))) budget .answer))
+        × (now (table .exit) ≡ ran (now (table .entry)) (length (now (area .entry))) budget .table)
+        × (now (area .exit) ≡ areaAfter (now (area .entry)) (ran (now (table .entry)) (length (now (area .entry))) budget .reports)) ⌝ }
+{
+    let answer = run(table, area, budget);
+    *bytes = run_bytes(answer);
+    *reports = run_reports(answer);
+    *steps = run_steps(answer);
+    run_number(answer)
+}
+
+// The k-th level of a side from the best: 0 with whether there is one, its yield, total and number of orders; or a refusal.
+#[no_mangle]
+pub extern "C" fn kamurjesh_depth(
+    table: &[u8],
+    side: u64,
+    k: u64,
+    found: &mut u64,
+    yield_thousandths: &mut i64,
+    total: &mut u64,
+    orders: &mut u64,
+) -> u64
+    ensures { λ r. ⌜ (r ≡ depthNumber (depthAnswer (now (table .entry)) side k))
+        × (now (found .exit) ≡ hasLevel (levelIn (depthAnswer (now (table .entry)) side k)))
+        × (now («yield_thousandths» .exit) ≡ yieldOf (levelIn (depthAnswer (now (table .entry)) side k)))
+        × (now (total .exit) ≡ totalOf (levelIn (depthAnswer (now (table .entry)) side k)))
+        × (now (orders .exit) ≡ ordersOf (levelIn (depthAnswer (now (table .entry)) side k))) ⌝ }
+{
+    let answer = depth(table, side, k);
+    let level = level_in(answer);
+    *found = has_level(level);
+    *yield_thousandths = yield_of(level);
+    *total = total_of(level);
+    *orders = orders_of(level);
+    depth_number(answer)
+}
+
+// The kind of a report: 0 and the kind, or refusal 11.
+#[no_mangle]
+pub extern "C" fn kamurjesh_read(report: &[u8], kind: &mut u64) -> u64
+    ensures { λ r. ⌜ (r ≡ readNumber (readOf (now (report .entry)) .kind)) × (now (kind .exit) ≡ kindNumber (readOf (now (report .entry)) .kind)) ⌝ }
+{
+    let reading = read(report);
+    let is = reading.kind;
+    *kind = kind_number(is);
+    read_number(is)
+}
+
+// Where the value of a tag stands: 1 with its first byte and its length, or 0 where no field has the tag.
+#[no_mangle]
+pub extern "C" fn kamurjesh_field(report: &[u8], tag: u64, start: &mut u64, len: &mut u64) -> u64
+    ensures { λ r. ⌜ (r ≡ isThere (partOf (now (report .entry)) tag))
+        × (now (start .exit) ≡ startOf (partOf (now (report .entry)) tag))
+        × (now (len .exit) ≡ lenOf (partOf (now (report .entry)) tag)) ⌝ }
+{
+    let part = field(report, tag);
+    *start = start_of(part);
+    *len = len_of(part);
+    is_there(part)
+}

@@ -1,0 +1,124 @@
+/* The rehearsal bond market for C and C++: one bond, one FIX port, up to 255 orders.
+ *
+ *     rt staticlib kamurjesh
+ *     cc -Iinclude -o host examples/host.c target/staticlib/libkamurjesh.a        (on x86-64 Linux)
+ *
+ * The library allocates nothing, keeps nothing between calls and opens no file: everything is in the buffers that you lend. A
+ * market is the KAMURJESH_TABLE_BYTES bytes of its table. Copy them, and you have a second market; write them to a file, and you
+ * have saved it. docs/TABLE.md says what each byte is.
+ *
+ * Any bytes may be given to any call: a table that is no market, a damaged message, a short area are refused by a number, and
+ * nothing is ever read or written outside what is lent. You answer for what the library cannot see: every pointer is good for
+ * as many elements as the length says, out pointers are good, and no two buffers of one call overlap, unless both are only
+ * read (a const pointer). With length 0 a pointer is not used and may be NULL.
+ *
+ * One table is used by one thread at a time; threads that share a table take a lock of their own. Calls on different tables
+ * don't disturb each other.
+ *
+ * A call returns 0, or the number of the first refusal that applies. Every out value is written at every call; those of
+ * a refused call are 0, but for the length of the report that goes with refusals 6 to 8. */
+#ifndef KAMURJESH_H
+#define KAMURJESH_H
+
+#include <stddef.h>
+#include <stdint.h>
+
+#ifdef __cplusplus
+extern "C" {
+#endif
+
+enum {
+    KAMURJESH_TABLE_BYTES = 32768, /* a table has exactly this length */
+    KAMURJESH_LEAST_AREA = 1024,   /* the shortest report area that Submit and Run take */
+    KAMURJESH_LONGEST_REPORT = 512 /* no report is longer */
+};
+
+/* Refusals. After 1 to 5 and 9 to 11 every lent byte is what it was. */
+enum kamurjesh_refusal {
+    KAMURJESH_TAKEN = 0,          /* not refused */
+    KAMURJESH_NO_ROOM = 1,        /* Submit, Run: the report area is shorter than KAMURJESH_LEAST_AREA */
+    KAMURJESH_NO_MARKET = 2,      /* Submit, Run, Depth: the table is no market */
+    KAMURJESH_IN_WORK = 3,        /* Submit, Depth: an order is in work; Run first */
+    KAMURJESH_NUMBERS_SPENT = 4,  /* Submit: the next report number is above 999,998,976 */
+    KAMURJESH_GARBLED = 5,        /* Submit: the message is garbled */
+    KAMURJESH_SESSION_REJECT = 6, /* Submit: a Session Reject is written, the next number goes up by 1 */
+    KAMURJESH_ORDER_REJECT = 7,   /* Submit: a Rejected is written, the next number goes up by 1 */
+    KAMURJESH_CHANGE_REJECT = 8,  /* Submit: a Cancel reject is written, the next number goes up by 1 */
+    KAMURJESH_BAD_SETTING = 9,    /* Open: the table's length or a setting is wrong */
+    KAMURJESH_BAD_SIDE = 10,      /* Depth: the side is neither 1 nor 2 */
+    KAMURJESH_NO_REPORT = 11      /* Read: the bytes are no report */
+};
+
+/* What happens when orders with the same MPID meet. */
+enum kamurjesh_mode {
+    KAMURJESH_CANCEL_NEWEST = 1, /* the order in work is canceled */
+    KAMURJESH_CANCEL_OLDEST = 2, /* the resting order is canceled */
+    KAMURJESH_DECREMENT = 3      /* the smaller is canceled and the larger loses as much; both are canceled if equal */
+};
+
+enum kamurjesh_side { KAMURJESH_BUY = 1, KAMURJESH_SELL = 2 };
+
+/* Kinds of reports. */
+enum kamurjesh_kind {
+    KAMURJESH_IS_ACCEPTED = 1,
+    KAMURJESH_IS_REPLACED = 2,
+    KAMURJESH_IS_CANCELED = 3,
+    KAMURJESH_IS_TRADE = 4,
+    KAMURJESH_IS_REJECTED = 5,
+    KAMURJESH_IS_CANCEL_REJECT = 6,
+    KAMURJESH_IS_SESSION_REJECT = 7
+};
+
+/* Opens a market without orders: writes the whole table, whatever was in it.
+ * venue, port: 1 to 8 characters, 21 to 7E hex. code: 1 to 9 digits. first: the number of the first report, 1 to 999,999,999.
+ * mpids, modes: two lists of the same length, 1 to 8; MPIDs 1 to 999,999, all different; modes as in kamurjesh_mode.
+ * Refusals: 9. */
+uint64_t kamurjesh_open(uint8_t *table, size_t table_length,
+                        const uint8_t *venue, size_t venue_length,
+                        const uint8_t *port, size_t port_length,
+                        const uint8_t *code, size_t code_length,
+                        uint64_t first,
+                        const uint64_t *mpids, size_t mpids_count,
+                        const uint64_t *modes, size_t modes_count);
+
+/* Takes one FIX message and writes its first report at the start of the area. A new order or a replacement that is taken is
+ * then in work: call kamurjesh_run until it is done. A cancel is done at once.
+ * length: of the report; the area's bytes behind it stay as they were.
+ * Refusals: 1 to 8. */
+uint64_t kamurjesh_submit(uint8_t *table, size_t table_length,
+                          const uint8_t *message, size_t message_length,
+                          uint8_t *area, size_t area_length,
+                          uint64_t *length);
+
+/* Matches the order in work, at most budget steps, and writes the reports one behind the other from the start of the area. It
+ * stops when nothing is in work, the budget is spent, or fewer than KAMURJESH_LEAST_AREA bytes of the area are free; a
+ * later call goes on from there. With nothing in work it does nothing and returns 0 with 0 steps.
+ * bytes, reports, steps: written and taken by this call; the area's bytes behind the written ones stay as they were.
+ * Refusals: 1, 2. */
+uint64_t kamurjesh_run(uint8_t *table, size_t table_length,
+                       uint8_t *area, size_t area_length,
+                       uint64_t budget,
+                       uint64_t *bytes, uint64_t *reports, uint64_t *steps);
+
+/* The k-th level of a side from the best, k from 0. Nothing is changed.
+ * found: 1 if there is such a level, 0 if there is none (then the others are 0). yield_thousandths: 100 is a yield of 0.100.
+ * total: what is open there. orders: how many orders that is.
+ * Refusals: 2, 3, 10. */
+uint64_t kamurjesh_depth(const uint8_t *table, size_t table_length,
+                         uint64_t side, uint64_t k,
+                         uint64_t *found, int64_t *yield_thousandths, uint64_t *total, uint64_t *orders);
+
+/* Whether the bytes are one report, whole and nothing behind it, written as this market writes; its kind as in kamurjesh_kind,
+ * 0 if refused. Nothing is changed.
+ * Refusals: 11. */
+uint64_t kamurjesh_read(const uint8_t *report, size_t report_length, uint64_t *kind);
+
+/* Where the value of a tag stands in a report: returns 1, and its first byte and its length in bytes; or 0 if no field of the
+ * report has the tag. Works on any bytes, in which it finds the first such field; kamurjesh_read says if they are a report. */
+uint64_t kamurjesh_field(const uint8_t *report, size_t report_length, uint64_t tag, uint64_t *start, uint64_t *length);
+
+#ifdef __cplusplus
+}
+#endif
+
+#endif

@@ -1,0 +1,67 @@
+/* FIX messages for tests and measurements, written with | for SOH. */
+#ifndef MESSAGES_H
+#define MESSAGES_H
+
+#include <stddef.h>
+#include <stdint.h>
+#include <stdio.h>
+#include <string.h>
+
+#define SOH '\001'
+
+struct message {
+    uint8_t bytes[1100];
+    size_t length;
+};
+
+/* The message whose fields between 9 and 10 are these. */
+static struct message framed(const char *fields)
+{
+    struct message m;
+    unsigned sum = 0;
+    int n = snprintf((char *)m.bytes, sizeof m.bytes, "8=FIX.4.2|9=%zu|%s", strlen(fields), fields);
+    for (int i = 0; i < n; i++) {
+        if (m.bytes[i] == '|')
+            m.bytes[i] = SOH;
+        sum += m.bytes[i];
+    }
+    n += snprintf((char *)m.bytes + n, sizeof m.bytes - (size_t)n, "10=%03u%c", sum % 256, SOH);
+    m.length = (size_t)n;
+    return m;
+}
+
+/* Header fields of port P to venue V, and a body. */
+static struct message sent(const char *type, const char *body)
+{
+    char fields[1100];
+    snprintf(fields, sizeof fields, "35=%s|34=7|49=P|52=20260105-09:00:01|56=V|%s", type, body);
+    return framed(fields);
+}
+
+/* A new order with an MPID, or with none if it is 0. tif: '0' Day, '3' IOC. */
+static struct message new_order(const char *id, int side, unsigned long quantity, const char *yield, unsigned mpid, char tif)
+{
+    char body[600], client[32] = "";
+    if (mpid > 0)
+        snprintf(client, sizeof client, "109=%u|", mpid);
+    snprintf(body, sizeof body, "11=%s|21=1|38=%lu|40=2|44=%s|47=A|54=%d|55=350|59=%c|60=20260105-09:00:00|%s8060=1|", id, quantity,
+             yield, side, tif, client);
+    return sent("D", body);
+}
+
+static inline struct message replacement(const char *id, const char *original, int side, unsigned long quantity, const char *yield)
+{
+    char body[600];
+    snprintf(body, sizeof body, "11=%s|21=1|38=%lu|40=2|41=%s|44=%s|54=%d|55=350|60=20260105-09:00:00|", id, quantity, original,
+             yield, side);
+    return sent("G", body);
+}
+
+static inline struct message cancellation(const char *id, const char *original, int side)
+{
+    char body[600];
+    snprintf(body, sizeof body, "11=%s|41=%s|54=%d|55=350|60=20260105-09:00:00|", id, original, side);
+    return sent("F", body);
+}
+
+#endif

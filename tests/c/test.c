@@ -1,0 +1,646 @@
+/* Tests of the C interface: every function with good and bad input, every refusal from 1 to 11, and around every call the bytes that it
+ * must leave alone. Prints what failed and, last, how many checks there were; exit status 1 if any failed. */
+#include <inttypes.h>
+#include <stdio.h>
+#include <stdlib.h>
+#include <string.h>
+
+#include "kamurjesh.h"
+#include "messages.h"
+
+/* ---- checks */
+
+static unsigned checks, failures;
+
+static void expect_at(int line, const char *what, int holds)
+{
+    checks++;
+    if (!holds) {
+        failures++;
+        printf("line %d: not so: %s\n", line, what);
+    }
+}
+#define EXPECT(fact) expect_at(__LINE__, #fact, (fact))
+
+/* ---- lent buffers, each between guard bytes */
+
+enum { GUARD = 64, TABLE = KAMURJESH_TABLE_BYTES, AREA = 8192 };
+#define GUARDED 0x5a
+#define UNTOUCHED 0xa7
+
+struct lent {
+    uint8_t all[GUARD + TABLE + 1 + GUARD];
+};
+
+static struct lent lent_table, lent_area, kept;
+static uint8_t *const table = lent_table.all + GUARD;
+static uint8_t *const area = lent_area.all + GUARD;
+
+/* Guard bytes everywhere but for the given number of bytes. */
+static void guard(struct lent *l, size_t length)
+{
+    memset(l->all, GUARDED, GUARD);
+    memset(l->all + GUARD + length, GUARDED, sizeof l->all - GUARD - length);
+}
+
+static int is_guarded(const struct lent *l, size_t length)
+{
+    for (size_t i = 0; i < sizeof l->all; i++)
+        if ((i < GUARD || i >= GUARD + length) && l->all[i] != GUARDED)
+            return 0;
+    return 1;
+}
+
+/* An out value between guards, with a value that no call gives. */
+struct out {
+    uint64_t before, value, after;
+};
+static const struct out fresh = {0x5a5a5a5a5a5a5a5a, 0xa7a7a7a7a7a7a7a7, 0x5a5a5a5a5a5a5a5a};
+
+static int is_fine(const struct out *o)
+{
+    return o->before == fresh.before && o->after == fresh.after && o->value != fresh.value;
+}
+
+static void keep_table(void)
+{
+    memcpy(kept.all, lent_table.all, sizeof kept.all);
+}
+
+static int table_is_kept(void)
+{
+    return memcmp(kept.all, lent_table.all, sizeof kept.all) == 0;
+}
+
+/* The next report number, bytes 28 to 31 of a table. */
+static uint64_t number_in(const uint8_t *t)
+{
+    return t[28] | (uint64_t)t[29] << 8 | (uint64_t)t[30] << 16 | (uint64_t)t[31] << 24;
+}
+
+static uint64_t next_number(void)
+{
+    return number_in(table);
+}
+
+/* Whether the table is the one kept, but for the next number, which is one more. */
+static int only_number_rose(void)
+{
+    uint64_t now = next_number();
+    uint8_t changed[4];
+    memcpy(changed, table + 28, 4);
+    memcpy(table + 28, kept.all + GUARD + 28, 4);
+    int so = table_is_kept() && next_number() + 1 == now;
+    memcpy(table + 28, changed, 4);
+    return so;
+}
+
+/* ---- the calls, with all that holds around every call of theirs */
+
+struct settings {
+    const char *venue, *port, *code;
+    uint64_t first;
+    uint64_t mpids[10], modes[10];
+    size_t mpids_count, modes_count;
+};
+
+static const struct settings usual = {"V", "P", "350", 1, {10, 11, 12, 13, 14}, {1, 1, 1, 1, 1}, 5, 5};
+
+static uint64_t open_in(size_t length, const struct settings *s)
+{
+    struct settings before = *s;
+    guard(&lent_table, length);
+    keep_table();
+    uint64_t number = kamurjesh_open(table, length, (const uint8_t *)s->venue, strlen(s->venue), (const uint8_t *)s->port,
+                                     strlen(s->port), (const uint8_t *)s->code, strlen(s->code), s->first, s->mpids,
+                                     s->mpids_count, s->modes, s->modes_count);
+    EXPECT(is_guarded(&lent_table, length));
+    EXPECT(memcmp(&before, s, sizeof before) == 0);
+    EXPECT(number == 0 || number == 9);
+    EXPECT(number == 0 || table_is_kept());
+    return number;
+}
+
+static uint64_t open_usual(uint64_t mode)
+{
+    struct settings s = usual;
+    for (size_t i = 0; i < s.modes_count; i++)
+        s.modes[i] = mode;
+    return open_in(TABLE, &s);
+}
+
+static int area_is_untouched_from(size_t written, size_t length)
+{
+    for (size_t i = written; i < length; i++)
+        if (area[i] != UNTOUCHED)
+            return 0;
+    return is_guarded(&lent_area, length);
+}
+
+static void lend_area(size_t length)
+{
+    memset(area, UNTOUCHED, length);
+    guard(&lent_area, length);
+}
+
+static uint64_t report_length;
+
+static uint64_t submit_in(size_t table_length, size_t area_length, const uint8_t *message, size_t message_length)
+{
+    static uint8_t copy[2048];
+    struct out length = fresh;
+    if (message_length > 0)
+        memcpy(copy, message, message_length);
+    lend_area(area_length);
+    keep_table();
+    uint64_t number = kamurjesh_submit(table, table_length, message, message_length, area, area_length, &length.value);
+    EXPECT(is_fine(&length));
+    EXPECT(message_length == 0 || memcmp(copy, message, message_length) == 0);
+    EXPECT(area_is_untouched_from((size_t)length.value, area_length));
+    EXPECT(is_guarded(&lent_table, TABLE));
+    EXPECT(number <= 8);
+    EXPECT(length.value <= KAMURJESH_LONGEST_REPORT);
+    EXPECT((number >= 1 && number <= 5) == (length.value == 0));
+    EXPECT(length.value > 0 || table_is_kept());
+    EXPECT(number < 6 || only_number_rose());
+    EXPECT(number != 0 || next_number() == number_in(kept.all + GUARD) + 1);
+    report_length = length.value;
+    return number;
+}
+
+static uint64_t submit(struct message m)
+{
+    return submit_in(TABLE, AREA, m.bytes, m.length);
+}
+
+static struct {
+    uint64_t bytes, reports, steps;
+} ran;
+
+static uint64_t run_in(size_t table_length, size_t area_length, uint64_t budget)
+{
+    struct out bytes = fresh, reports = fresh, steps = fresh;
+    lend_area(area_length);
+    keep_table();
+    uint64_t number =
+        kamurjesh_run(table, table_length, area, area_length, budget, &bytes.value, &reports.value, &steps.value);
+    EXPECT(is_fine(&bytes) && is_fine(&reports) && is_fine(&steps));
+    EXPECT(area_is_untouched_from((size_t)bytes.value, area_length));
+    EXPECT(is_guarded(&lent_table, TABLE));
+    EXPECT(number <= 2);
+    EXPECT(number == 0 || (bytes.value == 0 && reports.value == 0 && steps.value == 0));
+    EXPECT(steps.value <= budget && reports.value <= 2 * steps.value);
+    EXPECT(steps.value > 0 || table_is_kept());
+    ran.bytes = bytes.value;
+    ran.reports = reports.value;
+    ran.steps = steps.value;
+    return number;
+}
+
+static uint64_t run(void)
+{
+    return run_in(TABLE, AREA, 1000);
+}
+
+/* Submits an order that is taken and runs it to its end. */
+static void enter(struct message m)
+{
+    EXPECT(submit(m) == 0);
+    EXPECT(run() == 0);
+}
+
+static struct {
+    uint64_t found;
+    int64_t yield;
+    uint64_t total, orders;
+} level;
+
+static uint64_t depth_in(size_t table_length, uint64_t side, uint64_t k)
+{
+    struct out found = fresh, total = fresh, orders = fresh;
+    int64_t yield[3] = {-7777, INT64_MIN, -7777};
+    keep_table();
+    uint64_t number = kamurjesh_depth(table, table_length, side, k, &found.value, &yield[1], &total.value, &orders.value);
+    EXPECT(is_fine(&found) && is_fine(&total) && is_fine(&orders));
+    EXPECT(yield[0] == -7777 && yield[2] == -7777 && yield[1] != INT64_MIN);
+    EXPECT(table_is_kept());
+    EXPECT(number == 0 || number == 2 || number == 3 || number == 10);
+    EXPECT(number == 0 || found.value == 0);
+    EXPECT(found.value == 1 || (found.value == 0 && yield[1] == 0 && total.value == 0 && orders.value == 0));
+    level.found = found.value;
+    level.yield = yield[1];
+    level.total = total.value;
+    level.orders = orders.value;
+    return number;
+}
+
+static int level_is(uint64_t side, uint64_t k, int64_t yield, uint64_t total, uint64_t orders)
+{
+    return depth_in(TABLE, side, k) == 0 && level.found == 1 && level.yield == yield && level.total == total &&
+           level.orders == orders;
+}
+
+static int no_level(uint64_t side, uint64_t k)
+{
+    return depth_in(TABLE, side, k) == 0 && level.found == 0;
+}
+
+/* The kind of a report, 0 if it is refused. */
+static uint64_t kind_of(const uint8_t *report, size_t length)
+{
+    struct out kind = fresh;
+    uint64_t number = kamurjesh_read(report, length, &kind.value);
+    EXPECT(is_fine(&kind));
+    EXPECT((number == 11) == (kind.value == 0));
+    EXPECT(number == 0 || number == 11);
+    return kind.value;
+}
+
+/* Whether the field of a tag has this value; NULL: whether it is absent. */
+static int field_is(const uint8_t *report, size_t length, uint64_t tag, const char *value)
+{
+    struct out start = fresh, size = fresh;
+    uint64_t there = kamurjesh_field(report, length, tag, &start.value, &size.value);
+    EXPECT(is_fine(&start) && is_fine(&size));
+    EXPECT(there <= 1);
+    if (there == 0)
+        return value == NULL && start.value == 0 && size.value == 0;
+    EXPECT(start.value <= length && size.value <= length - start.value);
+    return value != NULL && size.value == strlen(value) && memcmp(report + start.value, value, size.value) == 0;
+}
+
+/* The same of the report that Submit has just written. */
+static int says(uint64_t tag, const char *value)
+{
+    return field_is(area, (size_t)report_length, tag, value);
+}
+
+/* The report of the given number (from 0) among those that Run has just written. */
+static struct message ran_report(unsigned number)
+{
+    struct message m = {{0}, 0};
+    size_t at = 0;
+    for (;;) {
+        uint64_t start = 0, digits = 0;
+        EXPECT(kamurjesh_field(area + at, (size_t)ran.bytes - at, 9, &start, &digits) == 1);
+        size_t length = (size_t)(start + digits) + 8 + strtoul((const char *)area + at + start, NULL, 10);
+        if (number-- == 0) {
+            memcpy(m.bytes, area + at, length);
+            m.length = length;
+            return m;
+        }
+        at += length;
+    }
+}
+
+/* ---- Open */
+
+static void test_open(void)
+{
+    static uint8_t first[TABLE];
+    struct settings s = usual;
+    memset(table, 0, TABLE);
+    EXPECT(open_in(TABLE, &s) == 0);
+    memcpy(first, table, TABLE);
+    memset(table, 0xff, TABLE);
+    EXPECT(open_in(TABLE, &s) == 0);
+    EXPECT(memcmp(first, table, TABLE) == 0); /* nothing of what was there is left */
+    EXPECT(next_number() == 1);
+    EXPECT(no_level(1, 0) && no_level(2, 0));
+
+    s.venue = "!~!~!~!~", s.port = "a", s.code = "000000000", s.first = 999999999;
+    EXPECT(open_in(TABLE, &s) == 0);
+    s.mpids[0] = 1, s.mpids[1] = 999999;
+    EXPECT(open_in(TABLE, &s) == 0);
+    for (size_t i = 0; i < 10; i++)
+        s.mpids[i] = 100 + i, s.modes[i] = 1 + i % 3;
+    s.mpids_count = s.modes_count = 8;
+    EXPECT(open_in(TABLE, &s) == 0);
+    s.mpids_count = s.modes_count = 1;
+    EXPECT(open_in(TABLE, &s) == 0);
+}
+
+static void test_open_refused(void)
+{
+    const struct {
+        const char *venue, *port, *code;
+    } names[] = {{"", "P", "350"},  {"V", "", "350"},  {"V", "P", ""},         {"123456789", "P", "350"}, {"V", "123456789", "350"},
+                 {"V W", "P", "350"}, {"V", "\x7f", "350"}, {"V", "P", "1234567890"}, {"V", "P", "35a"},        {"V", "P\001", "350"}};
+    struct settings s = usual;
+    EXPECT(open_in(TABLE, &s) == 0);
+    EXPECT(open_in(TABLE - 1, &s) == 9);
+    EXPECT(open_in(TABLE + 1, &s) == 9);
+    EXPECT(open_in(0, &s) == 9);
+    for (size_t i = 0; i < sizeof names / sizeof *names; i++) {
+        s = usual;
+        s.venue = names[i].venue, s.port = names[i].port, s.code = names[i].code;
+        EXPECT(open_in(TABLE, &s) == 9);
+    }
+    const uint64_t firsts[] = {0, 1000000000, UINT64_MAX};
+    const uint64_t mpids[] = {0, 1000000, UINT64_MAX, 10 /* also the second entry's */};
+    const uint64_t modes[] = {0, 4, 256 + 1, UINT64_MAX};
+    for (size_t i = 0; i < 3; i++) {
+        s = usual, s.first = firsts[i];
+        EXPECT(open_in(TABLE, &s) == 9);
+    }
+    for (size_t i = 0; i < 4; i++) {
+        s = usual, s.mpids[1] = mpids[i];
+        EXPECT(open_in(TABLE, &s) == 9);
+        s = usual, s.modes[4] = modes[i];
+        EXPECT(open_in(TABLE, &s) == 9);
+    }
+    const size_t counts[][2] = {{0, 0}, {9, 9}, {5, 4}, {4, 5}, {0, 5}, {5, 0}};
+    for (size_t i = 0; i < 6; i++) {
+        s = usual, s.mpids_count = counts[i][0], s.modes_count = counts[i][1];
+        for (size_t j = 5; j < 10; j++)
+            s.mpids[j] = 100 + j, s.modes[j] = 2;
+        EXPECT(open_in(TABLE, &s) == 9);
+    }
+    /* lengths of 0 with no pointer */
+    keep_table();
+    EXPECT(kamurjesh_open(NULL, 0, NULL, 0, NULL, 0, NULL, 0, 1, NULL, 0, NULL, 0) == 9);
+    EXPECT(kamurjesh_open(table, TABLE, NULL, 0, NULL, 0, NULL, 0, 1, NULL, 0, NULL, 0) == 9);
+    EXPECT(table_is_kept());
+}
+
+/* ---- Submit */
+
+static void test_submit_taken(void)
+{
+    EXPECT(open_usual(1) == 0);
+    EXPECT(submit(new_order("A-1", 1, 500, "-0.005", 10, '0')) == 0);
+    EXPECT(kind_of(area, (size_t)report_length) == KAMURJESH_IS_ACCEPTED);
+    EXPECT(says(8, "FIX.4.2") && says(35, "8") && says(34, "1") && says(49, "V") && says(56, "P") && says(50, "DJGB"));
+    EXPECT(says(11, "A-1") && says(17, "1") && says(37, "1") && says(38, "500") && says(44, "-0.005") && says(151, "500"));
+    EXPECT(says(109, "10") && says(6, "0.000000") && says(1, NULL) && says(41, NULL) && says(60, "20260105-09:00:01"));
+    EXPECT(run() == 0);
+    EXPECT(ran.bytes == 0 && ran.reports == 0 && ran.steps == 1);
+    EXPECT(level_is(1, 0, -5, 500, 1));
+
+    EXPECT(submit(replacement("A-2", "A-1", 1, 700, "0.000")) == 0);
+    EXPECT(kind_of(area, (size_t)report_length) == KAMURJESH_IS_REPLACED);
+    EXPECT(says(11, "A-2") && says(41, "A-1") && says(38, "700") && says(151, "700") && says(39, "5") && says(378, NULL));
+    EXPECT(run() == 0 && ran.steps == 1);
+    EXPECT(level_is(1, 0, 0, 700, 1));
+
+    EXPECT(submit(cancellation("A-3", "A-2", 1)) == 0);
+    EXPECT(kind_of(area, (size_t)report_length) == KAMURJESH_IS_CANCELED);
+    EXPECT(says(11, "A-3") && says(41, "A-2") && says(151, "0") && says(39, "4"));
+    EXPECT(run() == 0 && ran.steps == 0); /* a cancel leaves nothing in work */
+    EXPECT(no_level(1, 0));
+}
+
+static void test_submit_unreported(void)
+{
+    struct message good = new_order("A-1", 1, 500, "0.100", 10, '0');
+    struct settings s = usual;
+    EXPECT(open_usual(1) == 0);
+    /* 1 before all others */
+    EXPECT(submit_in(TABLE, 1023, good.bytes, good.length) == 1);
+    EXPECT(submit_in(TABLE, 0, good.bytes, good.length) == 1);
+    EXPECT(submit_in(TABLE - 1, 1023, good.bytes, good.length) == 1);
+    struct out length = fresh;
+    EXPECT(kamurjesh_submit(NULL, 0, NULL, 0, NULL, 0, &length.value) == 1 && is_fine(&length) && length.value == 0);
+    /* 2 */
+    EXPECT(submit_in(TABLE - 1, 1024, good.bytes, good.length) == 2);
+    EXPECT(submit_in(0, 1024, good.bytes, good.length) == 2);
+    const size_t places[] = {0, 9, 18, 31, 32, 33, 55, 59, 88, 96, 127, 128, 200, 32767};
+    for (size_t i = 0; i < sizeof places / sizeof *places; i++) {
+        uint8_t was = table[places[i]];
+        table[places[i]] = 0xff;
+        EXPECT(submit(good) == 2);
+        table[places[i]] = was;
+    }
+    /* 5 */
+    EXPECT(submit_in(TABLE, AREA, NULL, 0) == 5);
+    EXPECT(submit_in(TABLE, AREA, good.bytes, good.length - 1) == 5);
+    struct message bad = good;
+    bad.bytes[bad.length - 2] ^= 1; /* CheckSum */
+    EXPECT(submit(bad) == 5);
+    static uint8_t longer[1025];
+    memset(longer, 'x', sizeof longer);
+    EXPECT(submit_in(TABLE, AREA, longer, sizeof longer) == 5);
+    /* the shortest area, and 3 while the order is in work, even where the message is garbled */
+    EXPECT(submit_in(TABLE, 1024, good.bytes, good.length) == 0);
+    EXPECT(submit(good) == 3);
+    EXPECT(submit(bad) == 3);
+    EXPECT(submit_in(TABLE, 1023, good.bytes, good.length) == 1);
+    /* 4 before 5 */
+    s.first = 999998976;
+    EXPECT(open_in(TABLE, &s) == 0);
+    EXPECT(submit(bad) == 5);
+    EXPECT(submit(good) == 0);
+    EXPECT(run() == 0);
+    EXPECT(submit(good) == 4);
+    EXPECT(submit(bad) == 4);
+}
+
+static void test_submit_reported(void)
+{
+    EXPECT(open_usual(1) == 0);
+    /* 6 */
+    EXPECT(submit(sent("A", "98=0|108=30|")) == 6);
+    EXPECT(kind_of(area, (size_t)report_length) == KAMURJESH_IS_SESSION_REJECT);
+    EXPECT(says(45, "7") && says(371, "35") && says(372, "A") && says(373, "11") && says(34, "1") && says(17, NULL));
+    EXPECT(submit(new_order("A-1", 1, 0, "0.100", 10, '0')) == 6);
+    EXPECT(says(371, "38") && says(373, "5") && says(34, "2"));
+    EXPECT(submit(new_order("A-1", 3, 5, "0.100", 10, '0')) == 6 && says(371, "54"));
+    EXPECT(submit(new_order("A-1", 1, 5, "0.1000", 10, '0')) == 6 && says(371, "44") && says(373, "6"));
+    /* 7 */
+    EXPECT(submit(new_order("A-1", 1, 5, "0.100", 99, '0')) == 7);
+    EXPECT(kind_of(area, (size_t)report_length) == KAMURJESH_IS_REJECTED);
+    EXPECT(says(103, "99") && says(37, "NONE") && says(39, "8") && says(38, "5"));
+    enter(new_order("A-1", 1, 5, "0.100", 10, '0'));
+    EXPECT(submit(new_order("A-1", 1, 5, "0.100", 10, '0')) == 7 && says(103, "6"));
+    /* 8 */
+    EXPECT(submit(cancellation("A-2", "A-9", 1)) == 8);
+    EXPECT(kind_of(area, (size_t)report_length) == KAMURJESH_IS_CANCEL_REJECT);
+    EXPECT(says(102, "1") && says(434, "1") && says(37, "NONE") && says(41, "A-9") && says(39, "8"));
+    EXPECT(submit(replacement("A-2", "A-1", 2, 5, "0.100")) == 8 && says(102, "2") && says(434, "2") && says(37, "1"));
+    EXPECT(submit(cancellation("A-2", "A-1", 1)) == 0);
+    EXPECT(submit(cancellation("A-3", "A-2", 1)) == 8 && says(102, "0") && says(39, "4"));
+}
+
+static void test_full_table(void)
+{
+    char id[8];
+    EXPECT(open_usual(1) == 0);
+    for (unsigned i = 1; i <= 255; i++) {
+        snprintf(id, sizeof id, "N%u", i);
+        enter(new_order(id, 2, 999999999, "999999.999", 0, '0'));
+    }
+    EXPECT(level_is(2, 0, 999999999, 255ull * 999999999, 255));
+    EXPECT(submit(new_order("N256", 2, 1, "0.100", 0, '0')) == 7 && says(103, "0"));
+    EXPECT(submit(new_order("N255", 2, 1, "0.100", 0, '0')) == 7 && says(103, "6"));
+    EXPECT(submit(replacement("N256", "N255", 2, 1, "-999999.999")) == 0);
+    EXPECT(run() == 0 && ran.steps == 1);
+    EXPECT(level_is(2, 0, 999999999, 254ull * 999999999, 254) && level_is(2, 1, -999999999, 1, 1));
+}
+
+/* ---- Run */
+
+/* Book R: sells of 100 at 0.101 (MPID 11), then at 0.100 of 200 (12), 200 (10) and 500 (13). */
+static void enter_book_r(uint64_t mode)
+{
+    EXPECT(open_usual(mode) == 0);
+    enter(new_order("S-1", 2, 100, "0.101", 11, '0'));
+    enter(new_order("S-2", 2, 200, "0.100", 12, '0'));
+    enter(new_order("S-3", 2, 200, "0.100", 10, '0'));
+    enter(new_order("S-4", 2, 500, "0.100", 13, '0'));
+    EXPECT(level_is(2, 0, 101, 100, 1) && level_is(2, 1, 100, 900, 3) && no_level(2, 2) && no_level(1, 0));
+}
+
+static void test_run_modes(void)
+{
+    const struct {
+        uint64_t steps, reports, sells_left, buys_left;
+    } after[] = {{4, 5, 700, 0}, {5, 7, 0, 400}, {5, 8, 0, 200}};
+    for (uint64_t mode = 1; mode <= 3; mode++) {
+        enter_book_r(mode);
+        EXPECT(submit(new_order("B-1", 1, 1200, "0.100", 10, '0')) == 0);
+        EXPECT(run() == 0);
+        EXPECT(ran.steps == after[mode - 1].steps && ran.reports == after[mode - 1].reports);
+        for (unsigned i = 0; i < ran.reports; i++) {
+            struct message m = ran_report(i);
+            EXPECT(m.length <= KAMURJESH_LONGEST_REPORT && kind_of(m.bytes, m.length) != 0);
+        }
+        if (after[mode - 1].sells_left > 0)
+            EXPECT(level_is(2, 0, 100, after[mode - 1].sells_left, 2));
+        else
+            EXPECT(no_level(2, 0));
+        if (after[mode - 1].buys_left > 0)
+            EXPECT(level_is(1, 0, 100, after[mode - 1].buys_left, 1));
+        else
+            EXPECT(no_level(1, 0));
+    }
+}
+
+static void test_run_reports(void)
+{
+    enter_book_r(3);
+    EXPECT(submit(new_order("B-1", 1, 1200, "0.100", 10, '3')) == 0);
+    EXPECT(run() == 0 && ran.steps == 5 && ran.reports == 9);
+    struct message resting = ran_report(0), in_work = ran_report(1), canceled = ran_report(4), decremented = ran_report(5),
+                   rest = ran_report(8);
+    EXPECT(kind_of(resting.bytes, resting.length) == KAMURJESH_IS_TRADE);
+    EXPECT(field_is(resting.bytes, resting.length, 11, "S-1") && field_is(resting.bytes, resting.length, 851, "1"));
+    EXPECT(field_is(resting.bytes, resting.length, 31, "0.101") && field_is(resting.bytes, resting.length, 39, "2"));
+    EXPECT(field_is(in_work.bytes, in_work.length, 11, "B-1") && field_is(in_work.bytes, in_work.length, 851, "2"));
+    EXPECT(field_is(in_work.bytes, in_work.length, 880, "6") && field_is(in_work.bytes, in_work.length, 34, "7"));
+    EXPECT(kind_of(canceled.bytes, canceled.length) == KAMURJESH_IS_CANCELED);
+    EXPECT(field_is(canceled.bytes, canceled.length, 378, "100") && field_is(canceled.bytes, canceled.length, 11, "S-3"));
+    EXPECT(kind_of(decremented.bytes, decremented.length) == KAMURJESH_IS_REPLACED);
+    EXPECT(field_is(decremented.bytes, decremented.length, 38, "1200") && field_is(decremented.bytes, decremented.length, 151, "700"));
+    EXPECT(kind_of(rest.bytes, rest.length) == KAMURJESH_IS_CANCELED);
+    EXPECT(field_is(rest.bytes, rest.length, 378, "99") && field_is(rest.bytes, rest.length, 14, "800"));
+}
+
+static void test_run_stops(void)
+{
+    EXPECT(open_usual(1) == 0);
+    /* nothing in work */
+    EXPECT(run() == 0 && ran.steps == 0 && ran.reports == 0 && ran.bytes == 0);
+    /* refusals */
+    EXPECT(run_in(TABLE, 1023, 10) == 1);
+    EXPECT(run_in(TABLE, 0, 0) == 1);
+    EXPECT(run_in(TABLE - 1, 1023, 10) == 1);
+    EXPECT(run_in(TABLE - 1, 1024, 10) == 2);
+    EXPECT(run_in(0, 1024, 10) == 2);
+    table[55] = 1;
+    EXPECT(run_in(TABLE, 1024, 0) == 2);
+    table[55] = 0;
+    struct out a = fresh, b = fresh, c = fresh;
+    EXPECT(kamurjesh_run(NULL, 0, NULL, 0, 1, &a.value, &b.value, &c.value) == 1);
+    EXPECT(is_fine(&a) && is_fine(&b) && is_fine(&c) && a.value == 0 && b.value == 0 && c.value == 0);
+    /* the budget */
+    enter_book_r(2);
+    EXPECT(submit(new_order("B-1", 1, 1200, "0.100", 10, '0')) == 0);
+    EXPECT(run_in(TABLE, AREA, 0) == 0 && ran.steps == 0);
+    EXPECT(depth_in(TABLE, 1, 0) == 3);
+    EXPECT(run_in(TABLE, AREA, 2) == 0 && ran.steps == 2 && ran.reports == 4);
+    EXPECT(run_in(TABLE, AREA, 2) == 0 && ran.steps == 2 && ran.reports == 3);
+    EXPECT(depth_in(TABLE, 1, 0) == 3);
+    EXPECT(run_in(TABLE, AREA, UINT64_MAX) == 0 && ran.steps == 1 && ran.reports == 0);
+    EXPECT(level_is(1, 0, 100, 400, 1));
+    /* room: one step fills the shortest area so far that there is none for the next */
+    enter_book_r(2);
+    EXPECT(submit(new_order("B-1", 1, 1200, "0.100", 10, '0')) == 0);
+    for (unsigned i = 0; i < 4; i++)
+        EXPECT(run_in(TABLE, 1024, 1000) == 0 && ran.steps == 1);
+    EXPECT(run_in(TABLE, 1024, 1000) == 0 && ran.steps == 1 && ran.bytes == 0);
+    EXPECT(run_in(TABLE, 1024, 1000) == 0 && ran.steps == 0);
+    EXPECT(level_is(1, 0, 100, 400, 1));
+}
+
+/* ---- Depth */
+
+static void test_depth(void)
+{
+    const uint64_t sides[] = {0, 3, 256 + 1, UINT64_MAX};
+    enter_book_r(1);
+    for (size_t i = 0; i < 4; i++)
+        EXPECT(depth_in(TABLE, sides[i], 0) == 10);
+    EXPECT(no_level(2, 2) && no_level(2, 255) && no_level(2, UINT64_MAX) && no_level(1, UINT64_MAX));
+    EXPECT(depth_in(TABLE - 1, 2, 0) == 2);
+    EXPECT(depth_in(0, 2, 0) == 2);
+    EXPECT(depth_in(TABLE - 1, 9, 0) == 2); /* 2 before 10 */
+    uint8_t was = table[127];
+    table[127] = 1;
+    EXPECT(depth_in(TABLE, 2, 0) == 2);
+    table[127] = was;
+    EXPECT(submit(new_order("B-1", 1, 1200, "0.102", 14, '0')) == 0);
+    EXPECT(depth_in(TABLE, 2, 0) == 3);
+    EXPECT(depth_in(TABLE, 9, 0) == 3); /* 3 before 10 */
+    EXPECT(run() == 0);
+    EXPECT(level_is(1, 0, 102, 1200, 1) && level_is(2, 0, 101, 100, 1));
+    struct out found = fresh, total = fresh, orders = fresh;
+    int64_t yield = INT64_MIN;
+    EXPECT(kamurjesh_depth(NULL, 0, 1, 0, &found.value, &yield, &total.value, &orders.value) == 2);
+    EXPECT(is_fine(&found) && is_fine(&total) && is_fine(&orders) && yield == 0);
+}
+
+/* ---- Read and fields */
+
+static void test_read(void)
+{
+    enter_book_r(1);
+    EXPECT(submit(new_order("B-1", 1, 50, "0.100", 14, '0')) == 0);
+    EXPECT(run() == 0 && ran.reports == 2);
+    struct message m = ran_report(1);
+    EXPECT(kind_of(m.bytes, m.length) == KAMURJESH_IS_TRADE);
+    EXPECT(kind_of(area, (size_t)ran.bytes) == 0); /* two reports are not one */
+    EXPECT(kind_of(NULL, 0) == 0);
+    for (size_t n = 0; n < m.length; n++)
+        EXPECT(kind_of(m.bytes, n) == 0);
+    for (size_t i = 0; i < m.length; i++) {
+        m.bytes[i] ^= 1;
+        EXPECT(kind_of(m.bytes, m.length) == 0); /* the CheckSum sees one changed byte, and is seen if it changes */
+        m.bytes[i] ^= 1;
+    }
+    EXPECT(kind_of(m.bytes, m.length) == KAMURJESH_IS_TRADE);
+    struct message order = new_order("B-2", 1, 50, "0.100", 14, '0');
+    EXPECT(kind_of(order.bytes, order.length) == 0); /* a good message, but no report */
+
+    EXPECT(field_is(m.bytes, m.length, 8, "FIX.4.2") && field_is(m.bytes, m.length, 11, "B-1"));
+    EXPECT(field_is(m.bytes, m.length, 8060, "1") && field_is(m.bytes, m.length, 375, "11"));
+    EXPECT(field_is(m.bytes, m.length, 1, NULL) && field_is(m.bytes, m.length, 41, NULL) && field_is(m.bytes, m.length, 806, NULL));
+    EXPECT(field_is(m.bytes, m.length, 0, NULL) && field_is(m.bytes, m.length, UINT64_MAX, NULL));
+    EXPECT(field_is(NULL, 0, 8, NULL) && field_is(m.bytes, 1, 8, NULL));
+}
+
+int main(void)
+{
+    test_open();
+    test_open_refused();
+    test_submit_taken();
+    test_submit_unreported();
+    test_submit_reported();
+    test_full_table();
+    test_run_modes();
+    test_run_reports();
+    test_run_stops();
+    test_depth();
+    test_read();
+    printf("%u checks, %u failed\n", checks, failures);
+    return failures > 0;
+}
