@@ -1,0 +1,3 @@
+-- The laws of `sheet`, for its proofs. Nothing here need be believed.
+pub mod Lines
+pub mod Sheets

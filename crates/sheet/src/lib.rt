@@ -1,0 +1,2 @@
+// What is printed for a table.
+pub mod print;
