@@ -4,3 +4,4 @@ pub mod Open
 pub mod Checks
 pub mod Submit
 pub mod Run
+pub mod Read

@@ -7,3 +7,5 @@ pub mod Tails
 pub mod Opening
 pub mod Verdict
 pub mod Plain
+pub mod Values
+pub mod Bodies

@@ -84,7 +84,7 @@ runs-plain (b ∷ s) zero at e (suc i) h l =
     (λ m. runs-plain s (valueFrom (b ∷ s) + f .len) (suc at) (rw n at r) i m (le-of-suc-le-suc l))
     (below-or i (valueFrom (b ∷ s) + f .len))
 
-clear-unbroken : (s : List ℕ) → garbledMessage s ≡ false → hasTag 0 (fieldsOf s) ≡ false
+pub clear-unbroken : (s : List ℕ) → garbledMessage s ≡ false → hasTag 0 (fieldsOf s) ≡ false
 unfolding garbledMessage ordered cleanFields
 clear-unbroken s h =
     let all = not-false _ h in

@@ -15,6 +15,10 @@ use Rattle.table.specs.Orders.{bookOf}
 use Rattle.table.specs.Market.{isMarket}
 use Rattle.table.specs.Facts.{Market}
 use Rattle.table.proofs.Facts.{market-facts}
+use Rattle.octets.proofs.Bools.{split}
+use Rattle.table.specs.Opened.{isOpening, openNumber}
+use Rattle.calls.specs.declared.OpenAnswer.the-variants.{Opened, BadSetting}
+use Rattle.calls.specs.Open.{openAnswer}
 use Rattle.market.specs.declared.depth.DepthAnswer.the-variants.{NoMarket, InWork, BadSide, Found}
 use Rattle.market.specs.Depth.{isSide, depthAnswer}
 
@@ -59,3 +63,16 @@ module _ (t : List ℕ) (side k : ℕ) (f : Bool) (p : f ≡ isMarket t) where
       pub depth-found : not g ≡ false → (d : Depth) → d ≡ depth (bookOf t) side k → Found d ≡ depthAnswer t side k
       unfolding depthAnswer
       depth-found h d e = rw (some-market t f p m, idle, ← s, h, e)
+
+-- ---- Open
+
+module _ (t venue port code : List ℕ) (first : ℕ) (mpids modes : List ℕ) (n : ℕ) (e : n ≡ openNumber t venue port code first mpids modes) where
+  pub open-taken : n ≡ 0 → Opened ≡ openAnswer t venue port code first mpids modes
+  unfolding openAnswer openNumber
+  open-taken z =
+      split (isOpening t venue port code first mpids modes) (λ h. rw h)
+      (λ h. let q : n ≡ 9 = e ∙ rw h in let f : ⊥ = omega arith in absurd f)
+
+  pub open-refused : (n ≡ 0 → ⊥) → BadSetting ≡ openAnswer t venue port code first mpids modes
+  unfolding openAnswer openNumber
+  open-refused d = split (isOpening t venue port code first mpids modes) (λ h. absurd (d (e ∙ rw h))) (λ h. rw h)

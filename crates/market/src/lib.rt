@@ -1,2 +1,37 @@
-// The calls of a market.
+// The five calls of a market: open, submit, run, depth, read. They ask nothing of their caller: a table, a message, a report area
+// may be any bytes of any length. Each contract says what is answered and what every lent byte is afterwards, by the
+// definitions of the crate calls.
 pub mod depth;
+
+use calls::OpenAnswer;
+use report::Reading;
+ghost use mathlib.Core.Path.{_≡_};
+ghost use Rattle.table.specs.Opened.{opened};
+ghost use Rattle.report.specs.Reports.{readOf};
+ghost use Rattle.calls.specs.Open.{openAnswer};
+
+// Opens a market: writes the whole table from the settings and the lists of MPIDs and modes, or changes nothing.
+pub fn open(
+    table: &mut [u8],
+    venue: &[u8],
+    port: &[u8],
+    code: &[u8],
+    first: u64,
+    mpids: &[u64],
+    modes: &[u64],
+) -> OpenAnswer
+    ensures { λ r. ⌜ (r ≡ openAnswer (now (table .entry)) (now (venue .entry)) (now (port .entry)) (now (code .entry)) first (now (mpids .entry)) (now (modes .entry)))
+        × (now (table .exit) ≡ opened (now (table .entry)) (now (venue .entry)) (now (port .entry)) (now (code .entry)) first (now (mpids .entry)) (now (modes .entry))) ⌝ }
+{
+    if table::opening::open_table(table, venue, port, code, first, mpids, modes) == 0 {
+        return OpenAnswer::Opened;
+    }
+    OpenAnswer::BadSetting
+}
+
+// The kind and the fields of a report, or that the bytes are none.
+pub fn read(report: &[u8]) -> Reading
+    ensures { λ r. ⌜ r ≡ readOf (now (report .entry)) ⌝ }
+{
+    report::read::read(report)
+}

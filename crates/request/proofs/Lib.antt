@@ -5,3 +5,5 @@ pub mod Gathering
 pub mod Answers
 pub mod Told
 pub mod Requests
+pub mod Saying
+pub mod Refusals

@@ -36,21 +36,21 @@ pub record Sized (quantity level side id : ℕ) : Type 0 where
 no : _≡_ {A = ℕ} 0 1 → ⊥
 no z = suc-ne-zero 0 (sym z)
 
-enters-kind : (k : Kind) (h : Head) (b : List ℕ) (from : ℕ) (o : NewOrderAsked) → requestIn k h b from ≡ Enters o → k ≡ NewOrder
+pub enters-kind : (k : Kind) (h : Head) (b : List ℕ) (from : ℕ) (o : NewOrderAsked) → requestIn k h b from ≡ Enters o → k ≡ NewOrder
 unfolding requestIn refusalOf
 enters-kind NewOrder h b from o e = refl
 enters-kind Replacement h b from o e = let z : _≡_ {A = ℕ} 0 1 = cc in absurd (no z)
 enters-kind Cancel h b from o e = let z : _≡_ {A = ℕ} 0 1 = cc in absurd (no z)
 enters-kind Unknown h b from o e = let z : _≡_ {A = ℕ} 0 1 = cc in absurd (no z)
 
-replaces-kind : (k : Kind) (h : Head) (b : List ℕ) (from : ℕ) (o : ReplacementAsked) → requestIn k h b from ≡ Replaces o → k ≡ Replacement
+pub replaces-kind : (k : Kind) (h : Head) (b : List ℕ) (from : ℕ) (o : ReplacementAsked) → requestIn k h b from ≡ Replaces o → k ≡ Replacement
 unfolding requestIn refusalOf
 replaces-kind Replacement h b from o e = refl
 replaces-kind NewOrder h b from o e = let z : _≡_ {A = ℕ} 0 1 = cc in absurd (no z)
 replaces-kind Cancel h b from o e = let z : _≡_ {A = ℕ} 0 1 = cc in absurd (no z)
 replaces-kind Unknown h b from o e = let z : _≡_ {A = ℕ} 0 1 = cc in absurd (no z)
 
-cancels-kind : (k : Kind) (h : Head) (b : List ℕ) (from : ℕ) (o : Cancellation) → requestIn k h b from ≡ Cancels o → k ≡ Cancel
+pub cancels-kind : (k : Kind) (h : Head) (b : List ℕ) (from : ℕ) (o : Cancellation) → requestIn k h b from ≡ Cancels o → k ≡ Cancel
 unfolding requestIn refusalOf
 cancels-kind Cancel h b from o e = refl
 cancels-kind NewOrder h b from o e = let z : _≡_ {A = ℕ} 0 1 = cc in absurd (no z)

@@ -1,2 +1,7 @@
--- The laws of `ticket`, for the proofs of this crate and of those above it. Nothing here need be believed.
+-- The laws of `ticket`, for the proofs of this crate and of those above it: Short, no report is too long; Formed, what a table's
+-- heading and records give a report; Running, all reports of a step are legible. Nothing here need be believed.
 pub mod Events
+pub mod Short
+pub mod Told
+pub mod Formed
+pub mod Running

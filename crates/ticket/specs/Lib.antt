@@ -1,2 +1,4 @@
--- What the contracts of `ticket` cite. A reader believes Tickets: the report of an event, from the table after it.
+-- What the contracts of `ticket` cite. A reader believes Tickets: the report of an event, from the table after it; Legible: what it
+-- is written from, in range.
 pub mod Tickets
+pub mod Legible

@@ -1,4 +1,7 @@
 // The report of what happens on a table.
+pub mod refusals;
+pub mod tell;
+
 ghost use mathlib.Core.Path.{_≡_};
 ghost use Prim.Native.Nat.{_≤_, _<_};
 ghost use lib.ListN.{length};

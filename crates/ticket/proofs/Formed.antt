@@ -1,0 +1,75 @@
+-- What the heading and the records of a table give a report. It holds of every table that has a market's form, whatever its numbers:
+-- of a market, and of the tables between the events of one step and before the next number is raised.
+use Prim.Native.Nat.{ℕ, _+_, _*_, _≤_, _<_}
+use native.Mathlib.Omega.{arith}
+use mathlib.Core.Bool.{Bool, true, false, _||_}
+use mathlib.Core.Path.{_≡_}
+use mathlib.Core.List.{List}
+use lib.Dec.{eqb}
+use lib.ListN.{length}
+use borrow.Author.Tests.{eqb-true}
+use Rattle.octets.specs.Octets.{textAt}
+use Rattle.octets.proofs.Bools.{split, both-l, both-r, or-r}
+use Rattle.octets.proofs.Parts.{length-text}
+use Rattle.decimal.specs.Reading.{isDigit, isTime}
+use Rattle.matching.specs.Held.{Sound}
+use Rattle.table.specs.Heading.{venueOf, portOf, codeOf, isListed}
+use Rattle.table.specs.Orders.{orderAt, filled}
+use Rattle.table.specs.Market.{isGraphic, isPrintable, isText, hasNames, hasList, hasSettings}
+use Rattle.table.proofs.Same.{filled-few}
+use Rattle.table.proofs.Texts.{text-low, text-high, text-every}
+use Rattle.table.proofs.Naming.{record-id, record-account, record-capacity, record-class}
+use Rattle.table.proofs.Frames.{Formed}
+use Rattle.table.proofs.Kept.{listed-small}
+use Rattle.report.specs.declared.Place.{Place}
+use Rattle.ticket.specs.Legible.{Spelt, textBy, Headed, Recorded}
+
+spelt : (f : ℕ → Bool) (low high : ℕ) (t : List ℕ) (p : ℕ) → p + 1 + high ≤ length t → isText f low high t p ≡ true → Spelt f low high (textAt t p)
+spelt f low high t p room h =
+    let e = length-text t p high room (text-high f low high t p h) in
+    record { least = omega (arith, text-low f low high t p h); most = omega (arith, text-high f low high t p h); good = text-every f low high t p h }
+
+module _ (t : List ℕ) (m : Formed t) where
+  -- the settings
+  has-names : hasNames t ≡ true
+  unfolding hasSettings
+  has-names = both-l (hasNames t) (hasList t) (m .settings)
+
+  pub formed-venue : Spelt isGraphic 1 8 (venueOf t)
+  unfolding hasNames
+  formed-venue = let h = has-names in spelt isGraphic 1 8 t 0 (omega (arith, m .long)) (search both-l)
+
+  pub formed-port : Spelt isGraphic 1 8 (portOf t)
+  unfolding hasNames
+  formed-port = let h = has-names in spelt isGraphic 1 8 t 9 (omega (arith, m .long)) (search (both-l, both-r))
+
+  pub formed-code : Spelt isDigit 1 9 (codeOf t)
+  unfolding hasNames
+  formed-code = let h = has-names in spelt isDigit 1 9 t 18 (omega (arith, m .long)) (search both-r)
+
+  -- so the heading of a report with a number and a time
+  pub formed-headed : (message : List ℕ) (n : ℕ) (time : Place) → 1 ≤ n → n < 1000000000 → isTime (textBy message t time) ≡ true → Headed t message n time
+  formed-headed message n time low high s =
+      record { long = m .long; number-low = low; number-high = high; stamped = s; venue = formed-venue; port = formed-port }
+
+  -- an MPID that an order may have is at most 999,999
+  pub owner-small : (x : ℕ) → (eqb x 0 || isListed t x) ≡ true → x < 1000000
+  owner-small x h =
+      split (eqb x 0)
+      (λ z. omega (arith, eqb-true x 0 z))
+      (λ z. omega (arith, listed-small t x (m .settings) (or-r (eqb x 0) (isListed t x) h z)))
+
+  -- a record whose order is in its ranges
+  pub formed-recorded : (k : ℕ) → 1 ≤ k → k ≤ filled t → Sound (orderAt t k) → (eqb (orderAt t k .mpid) 0 || isListed t (orderAt t k .mpid)) ≡ true → Recorded t k
+  formed-recorded k low high s o =
+      record {
+        low = low;
+        high = omega (arith, filled-few t);
+        code = formed-code;
+        clOrdId = spelt isPrintable 1 32 t (128 * k) (omega (arith, m .long, filled-few t)) (record-id t k (m .records k low high));
+        account = spelt isPrintable 0 10 t (128 * k + 33) (omega (arith, m .long, filled-few t)) (record-account t k (m .records k low high));
+        capacity = record-capacity t k (m .records k low high);
+        class = record-class t k (m .records k low high);
+        sound = s;
+        owner = owner-small (orderAt t k .mpid) o;
+      }
