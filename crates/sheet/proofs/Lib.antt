@@ -1,3 +1,6 @@
 -- The laws of `sheet`, for its proofs. Nothing here need be believed.
 pub mod Lines
 pub mod Sheets
+pub mod Messages
+pub mod Readings
+pub mod Programs
