@@ -4,11 +4,15 @@
 pub mod depth;
 
 use calls::OpenAnswer;
+use calls::RunAnswer;
 use report::Reading;
 ghost use mathlib.Core.Path.{_≡_};
+ghost use lib.ListN.{length};
 ghost use Rattle.table.specs.Opened.{opened};
 ghost use Rattle.report.specs.Reports.{readOf};
+ghost use Rattle.calls.specs.Told.{areaAfter};
 ghost use Rattle.calls.specs.Open.{openAnswer};
+ghost use Rattle.calls.specs.Run.{ran};
 
 // Opens a market: writes the whole table from the settings and the lists of MPIDs and modes, or changes nothing.
 pub fn open(
@@ -27,6 +31,15 @@ pub fn open(
         return OpenAnswer::Opened;
     }
     OpenAnswer::BadSetting
+}
+
+// Takes steps of the order in work, at most as many as the budget, while there is room for their reports in the area.
+pub fn run(table: &mut [u8], area: &mut [u8], budget: u64) -> RunAnswer
+    ensures { λ r. ⌜ (r ≡ ran (now (table .entry)) (length (now (area .entry))) budget .answer)
+        × (now (table .exit) ≡ ran (now (table .entry)) (length (now (area .entry))) budget .table)
+        × (now (area .exit) ≡ areaAfter (now (area .entry)) (ran (now (table .entry)) (length (now (area .entry))) budget .reports)) ⌝ }
+{
+    turns::run(table, area, budget)
 }
 
 // The kind and the fields of a report, or that the bytes are none.

@@ -1,5 +1,5 @@
--- What the heading and the records of a table give a report. It holds of every table that has a market's form, whatever its numbers:
--- of a market, and of the tables between the events of one step and before the next number is raised.
+-- What the heading and the records of a table give a report. It holds of every table that has a market's form and whose orders are in
+-- their ranges: of a market, and of the tables between the events of one step and before the next number is raised.
 use Prim.Native.Nat.{ℕ, _+_, _*_, _≤_, _<_}
 use native.Mathlib.Omega.{arith}
 use mathlib.Core.Bool.{Bool, true, false, _||_}
@@ -12,14 +12,17 @@ use Rattle.octets.specs.Octets.{textAt}
 use Rattle.octets.proofs.Bools.{split, both-l, both-r, or-r}
 use Rattle.octets.proofs.Parts.{length-text}
 use Rattle.decimal.specs.Reading.{isDigit, isTime}
-use Rattle.matching.specs.Held.{Sound}
+use Rattle.matching.specs.Matching.{at}
+use Rattle.matching.specs.Held.{Sound, In}
 use Rattle.table.specs.Heading.{venueOf, portOf, codeOf, isListed}
-use Rattle.table.specs.Orders.{orderAt, filled}
+use Rattle.table.specs.Orders.{orderAt, filled, bookOf}
 use Rattle.table.specs.Market.{isGraphic, isPrintable, isText, hasNames, hasList, hasSettings}
 use Rattle.table.proofs.Same.{filled-few}
 use Rattle.table.proofs.Texts.{text-low, text-high, text-every}
 use Rattle.table.proofs.Naming.{record-id, record-account, record-capacity, record-class}
-use Rattle.table.proofs.Frames.{Formed}
+use Rattle.table.specs.Facts.{Market}
+use Rattle.table.proofs.Books.{length-book, at-book}
+use Rattle.table.proofs.Frames.{Formed, market-formed}
 use Rattle.table.proofs.Kept.{listed-small}
 use Rattle.report.specs.declared.Place.{Place}
 use Rattle.ticket.specs.Legible.{Spelt, textBy, Headed, Recorded}
@@ -73,3 +76,19 @@ module _ (t : List ℕ) (m : Formed t) where
         sound = s;
         owner = owner-small (orderAt t k .mpid) o;
       }
+
+-- ---- a table of a market's form, each order of its book in its ranges, with an MPID that is listed or none
+
+pub record Orderly (t : List ℕ) : Type 0 where
+  pub formed : Formed t
+  pub sound : (k : ℕ) → In (bookOf t) k → Sound (at (bookOf t) k)
+  pub owned : (k : ℕ) → In (bookOf t) k → (eqb (at (bookOf t) k .mpid) 0 || isListed t (at (bookOf t) k .mpid)) ≡ true
+
+pub market-orderly : (t : List ℕ) → Market t → Orderly t
+market-orderly t m = record { formed = market-formed t m; sound = m .held .sound; owned = m .held .owned }
+
+pub orderly-recorded : (t : List ℕ) → Orderly t → (k : ℕ) → In (bookOf t) k → Recorded t k
+orderly-recorded t m k i =
+    let l : k ≤ filled t = omega (arith, i .high, length-book t) in
+    let e : at (bookOf t) k ≡ orderAt t k = at-book t k (i .low) l in
+    formed-recorded t (m .formed) k (i .low) l (rw e at (m .sound k i)) (rw e at (m .owned k i))

@@ -1,7 +1,9 @@
 -- The laws of `ticket`, for the proofs of this crate and of those above it: Short, no report is too long; Formed, what a table's
--- heading and records give a report; Running, all reports of a step are legible. Nothing here need be believed.
+-- heading and records give a report; Running, all reports of a step are legible; Taking, so are those that Submit writes. Nothing
+-- here need be believed.
 pub mod Events
 pub mod Short
 pub mod Told
 pub mod Formed
 pub mod Running
+pub mod Taking

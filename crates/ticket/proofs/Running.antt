@@ -21,31 +21,29 @@ use Rattle.matching.proofs.Steps.{Meeting, trade, newest, oldest, equal, less, 
 use Rattle.matching.proofs.Sounds.{Worth, Worths, step-worth, play-sound, play-ready}
 use Rattle.matching.proofs.Holding.{step-held}
 use Rattle.table.specs.Heading.{nextOf, workOf, stampOf, modeOf, isListed}
-use Rattle.table.specs.Orders.{orderAt, filled, bookOf, applied}
+use Rattle.table.specs.Orders.{filled, bookOf, applied}
 use Rattle.table.specs.Market.{hasWork, isPadded}
 use Rattle.table.specs.Facts.{Market}
 use Rattle.table.specs.Changes.{stepEvents}
 use Rattle.table.proofs.Same.{Same, same-in, work-same}
-use Rattle.table.proofs.Books.{length-book, at-book}
-use Rattle.table.proofs.Frames.{Framed, Formed, market-formed, framed-formed, framed-filled, framed-listed}
+use Rattle.table.proofs.Books.{length-book}
+use Rattle.table.proofs.Frames.{Framed, framed-formed, framed-filled, framed-listed}
 use Rattle.table.proofs.Applied.{framed-applied, book-applied, heading-applied}
 use Rattle.table.proofs.Working.{work-some, has-work-kept}
 use Rattle.rows.specs.Rows.{text}
 use Rattle.ticket.specs.Tickets.{keptCause}
-use Rattle.ticket.specs.Legible.{textBy, Recorded, Dealt, Details, Legible}
-use Rattle.ticket.proofs.Formed.{formed-headed, formed-recorded}
+use Rattle.ticket.specs.Legible.{textBy, Details, Legible}
+use Rattle.ticket.proofs.Formed.{formed-headed, Orderly, market-orderly, orderly-recorded}
 
 -- ---- a table with an order in work: a market, and what it is after each event of a step
 
 pub record Working (t : List ℕ) : Type 0 where
-  pub formed : Formed t
+  pub orderly : Orderly t
   pub work : hasWork t ≡ true
   pub some : 1 ≤ workOf t
-  pub sound : (k : ℕ) → In (bookOf t) k → Sound (at (bookOf t) k)
-  pub owned : (k : ℕ) → In (bookOf t) k → (eqb (at (bookOf t) k .mpid) 0 || isListed t (at (bookOf t) k .mpid)) ≡ true
 
 pub market-working : (t : List ℕ) → Market t → 1 ≤ workOf t → Working t
-market-working t m l = record { formed = market-formed t m; work = m .work; some = l; sound = m .held .sound; owned = m .held .owned }
+market-working t m l = record { orderly = market-orderly t m; work = m .work; some = l }
 
 -- ---- what a step trades: with an order of the table, at a level in range; the order in work second
 
@@ -114,14 +112,6 @@ module _ (t : List ℕ) (m : Working t) where
   unfolding text textAt
   kept-time = both-l (isTime (stampOf t)) (isPadded 21 t 33) (work-some t (m .work) (λ e. omega (arith, m .some)))
 
-  order-there : (k : ℕ) → In (bookOf t) k → at (bookOf t) k ≡ orderAt t k
-  order-there k i = at-book t k (i .low) (omega (arith, i .high, length-book t))
-
-  pub working-recorded : (k : ℕ) → In (bookOf t) k → Recorded t k
-  working-recorded k i =
-      let e = order-there k i in
-      formed-recorded t (m .formed) k (i .low) (omega (arith, i .high, length-book t)) (rw e at (m .sound k i)) (rw e at (m .owned k i))
-
   details : (n : ℕ) (e : Event) → Bargain (filled t) (workOf t) n e → Details t [] n (keptCause t) e
   details n (Accepted i o) h = tt
   details n (Replaced i l q p) h = absurd h
@@ -129,7 +119,7 @@ module _ (t : List ℕ) (m : Working t) where
   details n (Canceled i q) h = tt
   details n (Decremented i q) h = tt
   details n (Traded i o q l) h =
-      let r = working-recorded o (record { low = h .other-low; high = omega (arith, h .other-high, length-book t) }) in
+      let r = orderly-recorded t (m .orderly) o (record { low = h .other-low; high = omega (arith, h .other-high, length-book t) }) in
       record {
         other-in = r .high;
         other-owner = r .owner;
@@ -143,27 +133,27 @@ module _ (t : List ℕ) (m : Working t) where
   pub working-legible : (n : ℕ) (e : Event) → In (bookOf t) (who e) → Bargain (filled t) (workOf t) n e → 1 ≤ n → n < 1000000000 → Legible t [] n (keptCause t) e
   working-legible n e i h low high =
       record {
-        heading = formed-headed t (m .formed) [] n (keptCause t .time) low high kept-time;
-        order = working-recorded (who e) i;
+        heading = formed-headed t (m .orderly .formed) [] n (keptCause t .time) low high kept-time;
+        order = orderly-recorded t (m .orderly) (who e) i;
         details = details n e h;
       }
 
   -- an event that fits leaves such a table
   module _ (e : Event) (f : Fit (bookOf t) e) (v : Worth e) where
     ready : Ready (bookOf t) e
-    ready = play-ready (e ∷ []) (bookOf t) (f, tt) (v, tt) (m .sound) .0
+    ready = play-ready (e ∷ []) (bookOf t) (f, tt) (v, tt) (m .orderly .sound) .0
 
     framed : Framed t (applied t e)
-    framed = framed-applied t e (m .formed .long) (f .moving) ready
+    framed = framed-applied t e (m .orderly .formed .long) (f .moving) ready
 
     heading : Same (applied t e) t 0 128
     heading = heading-applied t e (f .inside .low)
 
     pub applied-book : bookOf (applied t e) ≡ after (bookOf t) e
-    applied-book = book-applied t e (m .formed .long) (f .moving) ready
+    applied-book = book-applied t e (m .orderly .formed .long) (f .moving) ready
 
     pub applied-filled : filled (applied t e) ≡ filled t
-    applied-filled = framed-filled t (applied t e) (m .formed .long) framed
+    applied-filled = framed-filled t (applied t e) (m .orderly .formed .long) framed
 
     pub applied-work : workOf (applied t e) ≡ workOf t
     applied-work = work-same (same-in 32 33 heading (lit≤ tt) (lit≤ tt))
@@ -171,20 +161,26 @@ module _ (t : List ℕ) (m : Working t) where
     back : (k : ℕ) → In (after (bookOf t) e) k → In (bookOf t) k
     back k j = record { low = j .low; high = rw (length-after (bookOf t) e f) at (j .high) }
 
-    pub applied-working : Working (applied t e)
+    pub applied-orderly : Orderly (applied t e)
     unfolding play
-    applied-working =
+    applied-orderly =
         record {
-          formed = framed-formed t (applied t e) (m .formed .long) framed (m .formed);
-          work = has-work-kept t (applied t e) (m .formed .long) (same-in 32 55 heading (lit≤ tt) (lit≤ tt)) (omega (arith, applied-filled)) (m .work);
-          some = omega (arith, applied-work, m .some);
+          formed = framed-formed t (applied t e) (m .orderly .formed .long) framed (m .orderly .formed);
           sound = λ k j.
               let i = back k (rw applied-book at j) in
-              rw applied-book (play-sound k (e ∷ []) (bookOf t) (f, tt) (v, tt) (m .sound k i));
+              rw applied-book (play-sound k (e ∷ []) (bookOf t) (f, tt) (v, tt) (m .orderly .sound k i));
           owned = λ k j.
               let i = back k (rw applied-book at j) in
               let x : at (after (bookOf t) e) k .mpid ≡ at (bookOf t) k .mpid = ap (λ (y : Terms). y .mpid) (play-terms k (e ∷ []) (bookOf t) (f, tt)) in
-              rw (applied-book, x, framed-listed t (applied t e) (m .formed .long) framed) (m .owned k i);
+              rw (applied-book, x, framed-listed t (applied t e) (m .orderly .formed .long) framed) (m .orderly .owned k i);
+        }
+
+    pub applied-working : Working (applied t e)
+    applied-working =
+        record {
+          orderly = applied-orderly;
+          work = has-work-kept t (applied t e) (m .orderly .formed .long) (same-in 32 55 heading (lit≤ tt) (lit≤ tt)) (omega (arith, applied-filled)) (m .work);
+          some = omega (arith, applied-work, m .some);
         }
 
 -- ---- events one after another, numbered from n on: each on the table after it

@@ -1,0 +1,2 @@
+-- The laws of `changes`.
+pub mod Counting

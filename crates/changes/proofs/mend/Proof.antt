@@ -1,0 +1,38 @@
+-- `changes::mend`: 10 has room in the last seven bytes, and is true of those before it.
+use borrow.Author.Needs.{needs}
+use Rattle.changes.proofs.Counting.{mend-room, mend-cut, mend-wrote}
+use Rattle.changes.proofs.mend.Statement.{statement}
+use Rattle.changes.proofs.mend.Tie as tie
+
+sub-end : tie.Need-sub-end
+sub-end c = search needs
+
+slice-reshare-prefix-check-sum : tie.Need-slice-reshare-prefix-check-sum
+slice-reshare-prefix-check-sum c = search needs
+
+slice-aggregate-check-sum : tie.Need-slice-aggregate-check-sum
+slice-aggregate-check-sum c = search (needs, mend-cut)
+
+check-sum-requires : tie.Need-check-sum-requires
+check-sum-requires c κs = search needs
+
+put-trailer-requires : tie.Need-put-trailer-requires
+put-trailer-requires c κs = search (needs, mend-room)
+
+same-length : tie.Need-same-length
+same-length c = search needs
+
+returns : tie.Need-returns
+returns c = search (needs, mend-wrote)
+
+pub mend-spec : {M : Type 1} → statement M
+mend-spec =
+    tie.close
+    (tie.spec
+    sub-end
+    slice-reshare-prefix-check-sum
+    slice-aggregate-check-sum
+    check-sum-requires
+    put-trailer-requires
+    same-length
+    returns)

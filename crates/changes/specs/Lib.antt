@@ -1,0 +1,2 @@
+-- What the contracts of `changes` cite.
+pub mod Changes

@@ -1,0 +1,2 @@
+// Submit: one message, and its first report.
+pub mod checks;

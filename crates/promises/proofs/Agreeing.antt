@@ -1,0 +1,161 @@
+-- Steps on a market are matching's steps on its book, where there is room: the book and the order in work at the end, as many steps, and a
+-- report of each event in turn.
+use mathlib.Core.Path.{_≡_, refl, sym, ap, _∙_}
+use mathlib.Core.Bool.{Bool, true, false, _||_}
+use mathlib.Core.List.{List, [], _∷_, _++_, append-nil}
+use Prim.Native.Nat.{ℕ, zero, suc, _+_, _*_, _-_, _≤_, _<_}
+use native.Mathlib.Nat.{add-zero}
+use native.Mathlib.Omega.{arith}
+use lib.Dec.{eqb, ltb}
+use lib.ListN.{length, length-append}
+use borrow.Author.Tests.{eqb-true, eqb-false, eq-eqb, ne-eqb, le-ltb, ltb-false}
+use Rattle.octets.proofs.Bools.{split}
+use Rattle.matching.specs.declared.Event.{Event}
+use Rattle.matching.specs.Matching.{Book, metBy, happens, bookAfter, workAfter, Ran, run}
+use Rattle.matching.proofs.Steps.{step-is}
+use Rattle.matching.proofs.Ends.{step-two}
+use Rattle.matching.proofs.Theorems.{done as done-in-time}
+use Rattle.table.specs.Heading.{nextOf, workOf, modeOf}
+use Rattle.table.specs.Orders.{bookOf, applied}
+use Rattle.table.specs.Market.{isMarket}
+use Rattle.table.specs.Facts.{Market}
+use Rattle.table.specs.Changes.{stepEvents, stepped}
+use Rattle.table.proofs.Facts.{market-facts}
+use Rattle.table.proofs.Kept.{stepped-kept}
+use Rattle.report.specs.Reports.{readOf}
+use Rattle.ticket.specs.Tickets.{keptCause}
+use Rattle.ticket.proofs.Running.{Legibles, step-legibles}
+use Rattle.ticket.proofs.Short.{ticket-short}
+use Rattle.readback.proofs.Events.{event-says}
+use Rattle.calls.specs.Told.{joined, roomAsked}
+use Rattle.calls.specs.Run.{eventReport, eventReports, stepReports, Worked, stops, still, worked, Ran as RanBy, ran, runSteps}
+use Rattle.turns.proofs.Stepping.{step-book, step-work, step-modes}
+use Rattle.turns.proofs.Taking.{stops-still, worked-on}
+use Rattle.promises.specs.Shown.{ReportOf, ReportsOf}
+
+-- ---- the reports of a step
+reports-of : (es : List Event) (t : List ℕ) (n : ℕ) → Legibles t n es → ReportsOf (eventReports t n es) es
+unfolding eventReports eventReport
+reports-of [] t n h = tt
+reports-of (e ∷ es) t n h =
+    let s = event-says (applied t e) [] n (keptCause (applied t e)) e (h .0) in
+    (record { kind = s .is-kind; order = s .says-37; quantity = s .says-32; reason = s .says-378 }, reports-of es (applied t e) (n + 1) (h .1))
+
+reports-short : (es : List Event) (t : List ℕ) (n : ℕ) → Legibles t n es → length (joined (eventReports t n es)) ≤ 512 * length es
+unfolding eventReports eventReport joined
+reports-short [] t n h = omega arith
+reports-short (e ∷ es) t n h =
+    let a = ticket-short (applied t e) [] n (keptCause (applied t e)) e (h .0) in
+    let b = reports-short es (applied t e) (n + 1) (h .1) in
+    omega (arith, length-append (eventReport (applied t e) n e) (joined (eventReports (applied t e) (n + 1) es)))
+
+module _ (t : List ℕ) (m : Market t) (l : 1 ≤ workOf t) where
+  step-reports : ReportsOf (stepReports t) (stepEvents t)
+  unfolding stepReports
+  step-reports = reports-of (stepEvents t) t (nextOf t) (step-legibles t m l)
+
+  step-few : length (stepEvents t) ≤ 2
+  unfolding stepEvents
+  step-few = step-two (bookOf t) (workOf t) _ (step-is (modeOf t) (bookOf t) (workOf t))
+
+  step-room : length (joined (stepReports t)) ≤ 1024
+  unfolding stepReports
+  step-room = omega (arith, reports-short (stepEvents t) t (nextOf t) (step-legibles t m l), step-few)
+
+-- ---- steps
+run-busy : (modes : ℕ → ℕ) (n : ℕ) (b : Book) (w : ℕ) → 1 ≤ w
+    → let rest = run modes n (bookAfter modes b w) (workAfter b w) in
+    run modes (suc n) b w ≡ record { book = rest .book; work = rest .work; events = happens modes b w ++ rest .events; steps = suc (rest .steps) }
+unfolding run
+run-busy modes n b zero l = absurd (omega arith)
+run-busy modes n b (suc k) l = refl
+
+run-idle : (modes : ℕ → ℕ) (n : ℕ) (b : Book) → run modes n b 0 ≡ record { book = b; work = 0; events = []; steps = 0 }
+unfolding run
+run-idle modes zero b = refl
+run-idle modes (suc n) b = refl
+
+reports-append : (rs qs : List (List ℕ)) (es fs : List Event) → ReportsOf rs es → ReportsOf qs fs → ReportsOf (rs ++ qs) (es ++ fs)
+reports-append [] qs [] fs x y = y
+reports-append [] qs (e ∷ es) fs x y = absurd x
+reports-append (r ∷ rs) qs [] fs x y = absurd x
+reports-append (r ∷ rs) qs (e ∷ es) fs x y = (x .0, reports-append rs qs es fs (x .1) y)
+
+-- what was worked on a table is what was run on a book
+pub record Matches (w : Worked) (r : Ran) : Type 0 where
+  pub book : bookOf (w .table) ≡ r .book
+  pub work : workOf (w .table) ≡ r .work
+  pub steps : w .steps ≡ r .steps
+  pub events : ReportsOf (w .reports) (r .events)
+
+pub worked-matches : (n : ℕ) (t : List ℕ) (room : ℕ) → Market t → 1024 * n ≤ room → Matches (worked n t room) (run (modeOf t) n (bookOf t) (workOf t))
+unfolding worked run stepEvents
+worked-matches zero t room m h = record { book = refl; work = refl; steps = refl; events = tt }
+worked-matches (suc n) t room m h =
+    split (eqb (workOf t) 0)
+    (λ z.
+    let e = eqb-true (workOf t) 0 z in
+    let s : stops t room ≡ true = rw z in
+    rw (s, e) (record { book = refl; work = e; steps = refl; events = tt }))
+    (λ z.
+    let l : 1 ≤ workOf t = omega (arith, eqb-false (workOf t) 0 z) in
+    let s : stops t room ≡ false = rw (z, le-ltb room 1024 (omega arith)) in
+    let rs = stepReports t in
+    let short = step-room t m l in
+    let g = worked-matches n (stepped t) (room - length (joined rs)) (stepped-kept t m l) (omega arith) in
+    let k = rw (step-modes t m l, step-book t m l, step-work t m l) at g in
+    rw (s, run-busy (modeOf t) n (bookOf t) (workOf t) l)
+    (record {
+      book = k .book;
+      work = k .work;
+      steps = ap suc (k .steps);
+      events = reports-append rs _ _ _ (step-reports t m l) (k .events);
+    }))
+
+-- ---- a budget beyond the end of the work
+module _ (n k : ℕ) (t : List ℕ) (room : ℕ) (m : Market t) (h : 1024 * n ≤ room) (z : run (modeOf t) n (bookOf t) (workOf t) .work ≡ 0) where
+  first : Matches (worked n t room) (run (modeOf t) n (bookOf t) (workOf t))
+  first = worked-matches n t room m h
+
+  rest : worked k (worked n t room .table) (room - length (joined (worked n t room .reports))) ≡ still (worked n t room .table)
+  rest =
+      let e : workOf (worked n t room .table) ≡ 0 = first .work ∙ z in
+      stops-still (worked n t room .table) (room - length (joined (worked n t room .reports))) k (rw (eq-eqb (workOf (worked n t room .table)) 0 e))
+
+  pub worked-beyond : Matches (worked (n + k) t room) (run (modeOf t) n (bookOf t) (workOf t))
+  worked-beyond =
+      let g = worked-on n k t room in
+      let e : worked (n + k) t room .table ≡ worked n t room .table = g .table ∙ ap (λ (x : Worked). x .table) rest in
+      let d : worked (n + k) t room .reports ≡ worked n t room .reports =
+      g .reports ∙ ap (λ (x : Worked). worked n t room .reports ++ x .reports) rest ∙ append-nil _ in
+      let s : worked (n + k) t room .steps ≡ worked n t room .steps = g .steps ∙ ap (λ (x : Worked). worked n t room .steps + x .steps) rest ∙ add-zero _ in
+      record {
+        book = ap bookOf e ∙ first .book;
+        work = ap (λ (x : List ℕ). workOf x) e ∙ first .work;
+        steps = s ∙ first .steps;
+        events = rw d (first .events);
+      }
+
+-- ---- Run, where n steps end the work
+pub record RunsAs (r : RanBy) (q : Ran) : Type 0 where
+  pub book : bookOf (r .table) ≡ q .book
+  pub work : workOf (r .table) ≡ q .work
+  pub steps : runSteps (r .answer) ≡ q .steps
+  pub events : ReportsOf (r .reports) (q .events)
+
+pub ran-matches : (n : ℕ) (t : List ℕ) (room budget : ℕ) → isMarket t ≡ true → 1 ≤ n → 1024 * n ≤ room → n ≤ budget
+    → run (modeOf t) n (bookOf t) (workOf t) .work ≡ 0 → RunsAs (ran t room budget) (run (modeOf t) n (bookOf t) (workOf t))
+unfolding ran
+ran-matches n t room budget m low h l z =
+    let e : budget ≡ n + (budget - n) = omega arith in
+    let g = rw (← e) at (worked-beyond n (budget - n) t room (market-facts t m) h z) in
+    rw (le-ltb room 1024 (omega arith), m) (record { book = g .book; work = g .work; steps = g .steps; events = g .events })
+
+-- m + 1 steps end the work
+pub ran-ends : (t : List ℕ) (room budget : ℕ) → isMarket t ≡ true → 1024 * (metBy (bookOf t) (workOf t) + 1) ≤ room → metBy (bookOf t) (workOf t) + 1 ≤ budget
+    → (workOf (ran t room budget .table) ≡ 0) × (runSteps (ran t room budget .answer) ≤ metBy (bookOf t) (workOf t) + 1)
+ran-ends t room budget m h l =
+    let n : ℕ = metBy (bookOf t) (workOf t) + 1 in
+    let d = done-in-time (modeOf t) (bookOf t) (workOf t) (market-facts t m .held .work) in
+    let g = ran-matches n t room budget m (omega arith) h l (d .ended) in
+    (g .work ∙ d .ended, omega (arith, g .steps, d .within))

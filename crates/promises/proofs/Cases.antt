@@ -1,0 +1,109 @@
+-- The rehearsed cases (document 01, "Rehearsed books"), each over any table that is a market, whose book is the printed one with its last
+-- order in work, and whose modes are as said: which events the reports of Run are of, what is left open, and in how many steps.
+use mathlib.Core.Path.{_≡_, refl, sym, ap, _∙_}
+use mathlib.Core.Bool.{true}
+use mathlib.Core.List.{List, [], _∷_, map}
+use Prim.Native.Nat.{ℕ, _+_, _*_, _≤_}
+use native.Mathlib.Nat.{add-zero}
+use native.Mathlib.Omega.{arith}
+use Rattle.matching.specs.declared.Order.{Order}
+use Rattle.matching.specs.declared.Event.{Event}
+use Rattle.matching.specs.declared.Depth.the-variants.{Level, NoLevel}
+use Rattle.matching.specs.Matching.{Book, at, openOf, meets, faces, sumOver, countOf, metBy, run}
+use Rattle.matching.specs.Rehearsed.{yield, bookA, events1, events2, events3, book4, events4, book5, events5, book6, events6, book7, events7, book8, book9, events9, book10, book11, Shows, Averages}
+use Rattle.matching.proofs.Theorems.{done}
+use Rattle.matching.proofs.Cases.{case1, case2, case3, case4, case5, case6, case7, case8, case9, case10, case11}
+use Rattle.table.specs.Heading.{workOf, modeOf}
+use Rattle.table.specs.Orders.{bookOf}
+use Rattle.table.specs.Market.{isMarket}
+use Rattle.calls.specs.Run.{ran}
+use Rattle.market.specs.declared.depth.DepthAnswer.the-variants.{Found}
+use Rattle.market.specs.Depth.{depthAnswer}
+use Rattle.promises.specs.Shown.{ReportsOf, ShowsIn, ShowsOn, AveragesIn, AveragesOn}
+use Rattle.promises.proofs.Agreeing.{RunsAs, ran-matches}
+use Rattle.promises.proofs.Depths.{found}
+
+-- what matching shows on the book, Run shows on the table
+on-table : (t : List ℕ) (w : ℕ) (es : List Event) (os : List ℕ) (n : ℕ) → isMarket t ≡ true → workOf t ≡ w → 1 ≤ n → Shows (modeOf t) (bookOf t) w es os n
+    → ShowsOn t es os n
+on-table t w es os n m e low s room budget h l =
+    let z : n + 0 ≡ n = add-zero n in
+    let ended = rw (z, ← e) at (s .ended 0) in
+    let events = rw (z, ← e) at (s .events 0) in
+    let left = rw (z, ← e) at (s .left 0) in
+    let steps = rw (z, ← e) at (s .steps 0) in
+    let g = ran-matches n t room budget m low h l ended in
+    record {
+      events = rw events at (g .events);
+      left = ap (λ (b : Book). map openOf b) (g .book) ∙ left;
+      steps = g .steps ∙ steps;
+      ended = g .work ∙ ended;
+    }
+
+-- the buy of case 11 meets two orders, so three steps end its work
+met11 : metBy book11 3 ≡ 2
+unfolding metBy countOf sumOver faces openOf meets
+met11 = refl
+
+ends11 : (modes : ℕ → ℕ) (b : Book) → b ≡ book11 → run modes 3 b 3 .work ≡ 0
+ends11 modes b e =
+    let d = done modes book11 3 (omega arith) .ended in
+    rw e (rw met11 at d)
+
+module _ (t : List ℕ) (m : isMarket t ≡ true) where
+  -- 1: A buys 1,200, mode 1: trades of 100 and 200, 900 canceled; 200 and 500 stay; 4 steps
+  pub table1 : bookOf t ≡ bookA → workOf t ≡ 5 → modeOf t 10 ≡ 1 → ShowsOn t events1 (0 ∷ 0 ∷ 200 ∷ 500 ∷ 0 ∷ []) 4
+  table1 b w d = on-table t 5 _ _ 4 m w (omega arith) (case1 (modeOf t) (bookOf t) d b)
+
+  -- 2: mode 2: A's sell canceled, a trade of 500; 400 rests; 5 steps
+  pub table2 : bookOf t ≡ bookA → workOf t ≡ 5 → modeOf t 10 ≡ 2 → ShowsOn t events2 (0 ∷ 0 ∷ 0 ∷ 0 ∷ 400 ∷ []) 5
+  table2 b w d = on-table t 5 _ _ 5 m w (omega arith) (case2 (modeOf t) (bookOf t) d b)
+
+  -- 3: mode 3: the buy decremented by 200; 200 rests
+  pub table3 : bookOf t ≡ bookA → workOf t ≡ 5 → modeOf t 10 ≡ 3 → ShowsOn t events3 (0 ∷ 0 ∷ 0 ∷ 0 ∷ 200 ∷ []) 5
+  table3 b w d = on-table t 5 _ _ 5 m w (omega arith) (case3 (modeOf t) (bookOf t) d b .0)
+
+  -- 4: mode 3, A's sell of 200 alone, A buys 200: both canceled
+  pub table4 : bookOf t ≡ book4 → workOf t ≡ 2 → modeOf t 10 ≡ 3 → ShowsOn t events4 (0 ∷ 0 ∷ []) 2
+  table4 b w d = on-table t 2 _ _ 2 m w (omega arith) (case4 (modeOf t) (bookOf t) d b)
+
+  -- 5: A buys 50: the buy canceled, the sell has 150 open, decremented by 50
+  pub table5 : bookOf t ≡ book5 → workOf t ≡ 2 → modeOf t 10 ≡ 3 → ShowsOn t events5 (150 ∷ 0 ∷ []) 2
+  table5 b w d = on-table t 2 _ _ 2 m w (omega arith) (case5 (modeOf t) (bookOf t) d b)
+
+  -- 6: two orders with no MPID that meet trade
+  pub table6 : bookOf t ≡ book6 → workOf t ≡ 2 → ShowsOn t events6 (150 ∷ 0 ∷ []) 2
+  table6 b w = on-table t 2 _ _ 2 m w (omega arith) (case6 (modeOf t) (bookOf t) b)
+
+  -- 7: MPID 14 buys 1,200 IOC: trades of 1,000, 200 expire; 5 steps
+  pub table7 : bookOf t ≡ book7 → workOf t ≡ 5 → ShowsOn t events7 (0 ∷ 0 ∷ 0 ∷ 0 ∷ 0 ∷ []) 5
+  table7 b w = on-table t 5 _ _ 5 m w (omega arith) (case7 (modeOf t) (bookOf t) b)
+
+  -- 8: a sell at 0.101, a buy at 0.102: no trade
+  pub table8 : bookOf t ≡ book8 → workOf t ≡ 2 → ShowsOn t [] (100 ∷ 100 ∷ []) 1
+  table8 b w = on-table t 2 _ _ 1 m w (omega arith) (case8 (modeOf t) (bookOf t) b)
+
+  -- 9: a sell and a buy at -0.005: a trade at -0.005
+  pub table9 : bookOf t ≡ book9 → workOf t ≡ 2 → ShowsOn t events9 (0 ∷ 0 ∷ []) 2
+  table9 b w = on-table t 2 _ _ 2 m w (omega arith) (case9 (modeOf t) (bookOf t) b)
+
+  -- 10: five sells of 999,999,999 at 0.100: one level of 4,999,999,995 and 5 orders
+  pub table10 : bookOf t ≡ book10 → workOf t ≡ 0
+      → (depthAnswer t 2 0 ≡ Found (Level (yield 100) 4_999_999_995 5)) × (depthAnswer t 2 1 ≡ Found NoLevel)
+  table10 b w =
+      let c = case10 (bookOf t) b in
+      (found t m w 2 0 refl ∙ ap Found (c .0), found t m w 2 1 refl ∙ ap Found (c .1))
+
+  -- 11: 1 at 0.100 and 2 at 0.101: AvgPx 0.100666
+  pub table11 : bookOf t ≡ book11 → workOf t ≡ 3 → AveragesOn t 3 3 3_000_000_302 3 1_000_000_100_666 (48 ∷ 46 ∷ 49 ∷ 48 ∷ 48 ∷ 54 ∷ 54 ∷ 54 ∷ [])
+  table11 b w room budget h l =
+      let ended = ends11 (modeOf t) (bookOf t) b in
+      let g = ran-matches 3 t room budget m (omega arith) h l (rw w ended) in
+      let c = case11 (modeOf t) (bookOf t) b in
+      let q = rw w at (g .book) in
+      record {
+        is-sum = ap (λ (x : Book). at x 3 .sum) q ∙ c .is-sum 0;
+        is-executed = ap (λ (x : Book). at x 3 .executed) q ∙ c .is-executed 0;
+        is-mean = c .is-mean;
+        is-text = c .is-text;
+      }

@@ -1,0 +1,185 @@
+-- From the first table on: what the reports of a history tell of its last table.
+use mathlib.Core.Path.{_≡_, refl, sym, ap, _∙_}
+use mathlib.Core.Bool.{Bool, true, false, cond, not}
+use mathlib.Core.List.{List, [], _∷_}
+use mathlib.Core.Logic.{_≢_}
+use Prim.Native.Nat.{ℕ, zero, suc, _+_, _≤_, _<_}
+use native.Mathlib.Omega.{arith}
+use lib.Dec.{eqb, ltb}
+use lib.ListN.{length, getD, List·getD-eq-default}
+use borrow.Author.Tests.{eq-eqb}
+use Rattle.octets.proofs.Bools.{split, not-both}
+use Rattle.request.specs.declared.NewOrder.{NewOrder}
+use Rattle.request.specs.declared.Replacement.{Replacement}
+use Rattle.request.specs.declared.Cancellation.{Cancellation}
+use Rattle.request.specs.declared.Asked.{Asked}
+use Rattle.request.specs.declared.Asked.the-variants.{Garbled, Refused, Enters, Replaces, Cancels}
+use Rattle.request.specs.Asks.{askedOf}
+use Rattle.matching.specs.declared.Order.{Order}
+use Rattle.matching.specs.Depth.{depth}
+use Rattle.matching.specs.Matching.{Book, none, at, openOf, isBuy}
+use Rattle.matching.specs.Held.{Covered, In}
+use Rattle.table.specs.Heading.{venueOf, portOf, workOf}
+use Rattle.table.specs.Orders.{orderAt, filled, bookOf}
+use Rattle.table.specs.Market.{isMarket}
+use Rattle.table.specs.Facts.{Market}
+use Rattle.table.specs.Opened.{isOpening, opened}
+use Rattle.table.proofs.Facts.{market-facts}
+use Rattle.table.proofs.Books.{length-book, at-book}
+use Rattle.table.proofs.Theorems.{opening-makes-a-market}
+use Rattle.calls.specs.declared.SubmitAnswer.the-variants as submit-answer
+use Rattle.calls.specs.declared.RunAnswer.the-variants as run-answer
+use Rattle.calls.specs.declared.SubmitAnswer.{SubmitAnswer}
+use Rattle.calls.specs.declared.Standing.{Standing}
+use Rattle.calls.specs.declared.Standing.the-variants.{Stands, Fails}
+use Rattle.calls.specs.Told.{joined, roomAsked}
+use Rattle.calls.specs.Checks.{newStands, cancelStands, replaceStands}
+use Rattle.calls.specs.Submit.{rejecting, faulted, newRejected, changeRejected, newTaken, replacementTaken, cancelTaken, entering, replacing, canceling, handled, submitted}
+use Rattle.calls.specs.Run.{worked, ran}
+use Rattle.intake.proofs.Keeping.{Comes, no-room, no-market, in-work, spent, heard, comes}
+use Rattle.market.specs.declared.depth.DepthAnswer.the-variants as depth-answer
+use Rattle.market.specs.Depth.{isSide, depthAnswer}
+use Rattle.promises.specs.History.{Call, tableAfter, reportsAfter}
+use Rattle.promises.specs.Tallies.{Account, blank, accountFrom, accountOf, bought, sold, selfTrades}
+use Rattle.promises.proofs.Tells.{accountIn}
+use Rattle.promises.proofs.Leads.{Leads}
+use Rattle.promises.proofs.Opening.{opened-book}
+use Rattle.promises.proofs.Histories.{history-keeps, history-leads}
+use Rattle.promises.proofs.Telling.{step-tells, all-told}
+
+-- what reports tell of a table
+pub record Told (t : List ℕ) (rs : List (List ℕ)) : Type 0 where
+  pub accounts : (k : ℕ) → accountOf k rs ≡ accountIn (at (bookOf t) k)
+  pub balanced : bought rs ≡ sold rs
+  pub fair : selfTrades rs ≡ 0
+
+-- ---- every history
+empty-account : (k : ℕ) → accountIn (at [] k) ≡ blank
+unfolding openOf
+empty-account zero = refl
+empty-account (suc k) = refl
+
+module _ (before venue port code : List ℕ) (first : ℕ) (mpids modes : List ℕ) (taken : isOpening before venue port code first mpids modes ≡ true)
+    (calls : List Call) where
+  abbrev start : List ℕ
+  start = opened before venue port code first mpids modes
+
+  pub after-market : isMarket (tableAfter start calls) ≡ true
+  after-market = history-keeps calls start (opening-makes-a-market before venue port code first mpids modes taken)
+
+  pub after-told : Told (tableAfter start calls) (reportsAfter start calls)
+  after-told =
+      let g = history-leads all-told step-tells calls start (opening-makes-a-market before venue port code first mpids modes taken) in
+      let e = opened-book before venue port code first mpids modes taken in
+      record {
+        accounts = λ k.
+            ap (λ (a : Account). accountFrom k a (reportsAfter start calls)) (sym (empty-account k) ∙ ap (λ (b : Book). accountIn (at b k)) (sym e))
+            ∙ g .accounts k;
+        balanced = g .balanced;
+        fair = g .fair;
+      }
+
+-- ---- what that comes to
+module _ (t : List ℕ) (rs : List (List ℕ)) where
+  adds : (o : Order) → Covered o
+      → accountIn o .accepted ≡ accountIn o .executions + accountIn o .decrements + accountIn o .cancels + openOf o
+  unfolding openOf
+  adds o c = omega arith
+
+  pub account-adds : isMarket t ≡ true → Told t rs → (k : ℕ) → 1 ≤ k → k ≤ filled t
+      → let a = accountOf k rs in
+      a .accepted ≡ a .executions + a .decrements + a .cancels + openOf (orderAt t k)
+  account-adds m g k l h =
+      let i : In (bookOf t) k = record { low = l; high = omega (arith, length-book t) } in
+      let c = market-facts t m .held .sound k i .covered in
+      rw (g .accounts k, ← at-book t k l h) (adds (at (bookOf t) k) c)
+
+  pub account-left : Told t rs → (k : ℕ) → 1 ≤ k → k ≤ filled t → accountOf k rs .left ≡ openOf (orderAt t k)
+  account-left g k l h = rw (g .accounts k, ← at-book t k l h)
+
+  pub account-none : Told t rs → (k : ℕ) → filled t < k → accountOf k rs ≡ blank
+  account-none g zero h = g .accounts zero ∙ empty-account zero
+  account-none g (suc k) h =
+      let z : getD (bookOf t) k none ≡ none = List·getD-eq-default (bookOf t) none (omega (arith, length-book t)) in
+      g .accounts (suc k) ∙ ap accountIn z ∙ empty-account (suc k)
+
+-- ---- no call finds no market
+abbrev isNoMarket : SubmitAnswer → Bool
+isNoMarket submit-answer.NoRoom = false
+isNoMarket submit-answer.NoMarket = true
+isNoMarket submit-answer.InWork = false
+isNoMarket submit-answer.NumbersSpent = false
+isNoMarket submit-answer.Garbled = false
+isNoMarket (submit-answer.SessionReject n) = false
+isNoMarket (submit-answer.OrderReject n) = false
+isNoMarket (submit-answer.ChangeReject n) = false
+isNoMarket (submit-answer.Taken n) = false
+
+module _ (t message : List ℕ) where
+  entering-found : (o : NewOrder) (s : Standing) → isNoMarket (entering t message o s .answer) ≡ false
+  unfolding newTaken newRejected rejecting
+  entering-found o Stands = refl
+  entering-found o (Fails n) = refl
+
+  replacing-found : (o : Replacement) (s : Standing) → isNoMarket (replacing t message o s .answer) ≡ false
+  unfolding replacementTaken changeRejected rejecting
+  replacing-found o Stands = refl
+  replacing-found o (Fails n) = refl
+
+  canceling-found : (o : Cancellation) (s : Standing) → isNoMarket (canceling t message o s .answer) ≡ false
+  unfolding cancelTaken changeRejected rejecting
+  canceling-found o Stands = refl
+  canceling-found o (Fails n) = refl
+
+  handled-found : (x : Asked) → isNoMarket (handled t message x .answer) ≡ false
+  unfolding faulted rejecting
+  handled-found Garbled = refl
+  handled-found (Refused r) = refl
+  handled-found (Enters o) = entering-found o (newStands t message o)
+  handled-found (Replaces o) = replacing-found o (replaceStands t message o)
+  handled-found (Cancels o) = canceling-found o (cancelStands t message o)
+
+  submitted-found : (room : ℕ) → isMarket t ≡ true → isNoMarket (submitted t message room .answer) ≡ false
+  submitted-found room m = by (comes t message room)
+    where
+      by : Comes t message room → isNoMarket (submitted t message room .answer) ≡ false
+      by (no-room a e) = rw e
+      by (no-market a n e) = absurd (not-both m n)
+      by (in-work a n w e) = rw e
+      by (spent a n w h e) = rw e
+      by (heard a n q e) = rw e (handled-found (askedOf (venueOf t) (portOf t) message))
+
+module _ (t : List ℕ) (m : isMarket t ≡ true) where
+  pub submit-found : (message : List ℕ) (room : ℕ) → submitted t message room .answer ≢ submit-answer.NoMarket
+  submit-found message room e = not-both (ap isNoMarket e) (submitted-found t message room m)
+
+  pub run-found : (room budget : ℕ) → ran t room budget .answer ≢ run-answer.NoMarket
+  unfolding ran
+  run-found room budget e =
+      split (ltb room roomAsked)
+      (λ z. let q : run-answer.NoRoom ≡ run-answer.NoMarket = rw z at e in let y : _≡_ {A = ℕ} 0 1 = cc in omega arith)
+      (λ z.
+      let w = worked budget t room in
+      let q : run-answer.Ran (length (joined (w .reports))) (length (w .reports)) (w .steps) ≡ run-answer.NoMarket = rw (z, m) at e in
+      let y : _≡_ {A = ℕ} 0 1 = cc in
+      omega arith)
+
+  pub depth-found : (side k : ℕ) → depthAnswer t side k ≢ depth-answer.NoMarket
+  unfolding depthAnswer
+  depth-found side k e =
+      split (eqb (workOf t) 0)
+      (λ z.
+      split (isSide side)
+      (λ w. let q : depth-answer.Found (depth (bookOf t) side k) ≡ depth-answer.NoMarket = rw (m, z, w) at e in let y : _≡_ {A = ℕ} 0 1 = cc in omega arith)
+      (λ w. let q : depth-answer.BadSide ≡ depth-answer.NoMarket = rw (m, z, w) at e in let y : _≡_ {A = ℕ} 0 1 = cc in omega arith))
+      (λ z. let q : depth-answer.InWork ≡ depth-answer.NoMarket = rw (m, z) at e in let y : _≡_ {A = ℕ} 0 1 = cc in omega arith)
+
+  -- ---- an open buy is above an open sell
+  pub buys-above : workOf t ≡ 0 → (i j : ℕ) → 1 ≤ i → i ≤ filled t → 1 ≤ j → j ≤ filled t → orderAt t i .side ≡ 1 → orderAt t j .side ≡ 2
+      → 0 < openOf (orderAt t i) → 0 < openOf (orderAt t j) → orderAt t j .level < orderAt t i .level
+  buys-above idle i j li hi lj hj si sj oi oj =
+      let p = at-book t i li hi in
+      let q = at-book t j lj hj in
+      let u = market-facts t m .held .uncrossed i j (λ e. omega arith) (λ e. omega arith) in
+      let v = rw (p, q) at u in
+      v (rw si) (rw sj) oi oj

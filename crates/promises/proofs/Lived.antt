@@ -1,0 +1,107 @@
+-- A history in which orders trade, are decremented, canceled and rest, so that what is promised of every history is not said of nothing:
+-- rehearsed case 3 from Open on, message by message. The definitions are run on all bytes: of the messages, of the table, and of the
+-- reports as they are read.
+use mathlib.Core.Path.{_≡_, refl}
+use mathlib.Core.Bool.{true}
+use mathlib.Core.List.{List, [], _∷_}
+use Prim.Native.Nat.{ℕ}
+use lib.ListN.{replicate}
+use Rattle.octets.specs.Octets.{leAt, bytesOf, put, partAt, textAt, textBytes, sameBytes, allZero}
+use Rattle.octets.specs.Tests.{allUpTo, firstFrom}
+use Rattle.decimal.specs.Writing.{decimal, places, plain, fixed, shareOf, meanOf}
+use Rattle.decimal.specs.Canonical.{bare, bareOf, exactlyOf, amountOf, fixedOf}
+use Rattle.decimal.specs.Reading.{isDigit, digitOf, runOf, numberAfter, isNumber, numOf, digitAt, isFraction, fractionOf, sizeOf, levelOf, isTimeLength, twoAt, timeShaped, timeRanged, isTime}
+use Rattle.fix.specs.Fields.{isText as isFieldText, startsTag, leading, tagOf, valueFrom, valueLen, fieldOf, fieldsAfter, fieldsFrom, stepOf, findTag, valueOf, hasTag, repeats, cleanFields, lastTagOr}
+use Rattle.fix.specs.Garbled.{headedBy, ordered, headerRight, partOf, endOf, tenAt, lengthTrue, sumOf, checkSum, sumTrue, garbledMessage, bodyPart, headOf, frameOf}
+use Rattle.request.specs.Asks.{bodyOf, saidIn, lengthIn, refusalOf, termsIn, requestIn, completed, bodyAsked, headAsked, askedOf}
+use Rattle.request.specs.Session.{kindOf, oneOf, belongs, listed, shapeOf, charSays, lookAs, judge, firstFailing, firstMissing}
+use Rattle.matching.specs.Matching.{openOf, meets, better, faces, sameOwner, sumOver, countOf, choose, best, partner, prevention, meeting, ending, outcome, preventing, causes, change, happens, workAfter, opposed, opposedTo}
+use Rattle.table.specs.Changes.{played, stepEvents, numbered, stepped, entered}
+use Rattle.table.specs.Heading.{entries, entryOf, isListed, modeOf, mpidBytes}
+use Rattle.table.specs.Market.{every, isPadded, isText, hasLength, hasNames, isEntry, hasList, hasSettings, hasNext, hasWork, hasSpare, restZero, isCapacity, isClass, isRecord, isRanged, isKnown, isWithin, isShut, isPriced, isOrder, hasOrders, isFreshId, hasIds, isFreshPlace, hasPlaces, isDone, noIoc, isClear, noCross, hasNumbers, isBook, isMarket}
+use Rattle.table.specs.Opened.{isName, isNew, isGiven, areGiven, areNames, areSettings, namedTable, freshTable, isOpening, opened}
+use Rattle.table.specs.Orders.{orderAt, filled, ordersFrom, bookOf, idIndex, recordWith, termBytes, amountBytes, fieldBytes, recordOf, applied, accepted}
+use Rattle.calls.specs.Checks.{holder, newStands}
+use Rattle.calls.specs.Submit.{newTaken, submitted}
+use Rattle.report.specs.Fields.{label, written, fieldBytes as writtenField}
+use Rattle.report.specs.Frame.{checkSum as checkSumOf, version, front, trailer, reportBytes}
+use Rattle.report.specs.Parse.{valueAt, fieldAt, hop, placeOf}
+use Rattle.report.specs.Reports.{bodyAt, trailerAt, readFramed, executionFor, kindFor, firstOf, kindOf as kindOfReport, oneReason, readOf}
+use Rattle.report.specs.Shapes.{oneIn, wordIn, recordIn, textIn, timeIn}
+use Rattle.report.specs.Slots.{acceptedSlots, replacedSlots, canceledSlots, tradeSlots}
+use Rattle.rows.specs.Rows.{text, orNumber, digit, avgPx, replacedStatus, tradeStatus, figuresOf, header, acceptedFields, replacedFields, canceledFields, tradeFields}
+use Rattle.ticket.specs.Tickets.{orStoredAt, stampOn, shownOn, rowOf, ticketOf}
+use Rattle.readback.specs.Says.{says}
+use Rattle.calls.specs.Told.{joined}
+use Rattle.calls.specs.Run.{eventReport, eventReports, stepReports, worked, ran}
+use Rattle.promises.specs.History.{Call, Submit, Run, tableAfter, reportsAfter}
+use Rattle.promises.specs.Tallies.{Account, noted, accountFrom, accountOf, tradedFor, traded, bought, sold, isSelfTrade, selfTrades}
+
+-- opens all definitions
+computes : ℕ
+unfolding leAt bytesOf put partAt textAt textBytes sameBytes allZero allUpTo firstFrom decimal places plain fixed shareOf meanOf bare bareOf exactlyOf amountOf fixedOf isDigit digitOf runOf numberAfter isNumber numOf digitAt isFraction fractionOf sizeOf levelOf isTimeLength twoAt timeShaped timeRanged isTime isFieldText startsTag leading tagOf valueFrom valueLen fieldOf fieldsAfter fieldsFrom stepOf findTag valueOf hasTag repeats cleanFields lastTagOr headedBy ordered headerRight partOf endOf tenAt lengthTrue sumOf checkSum sumTrue garbledMessage bodyPart headOf frameOf bodyOf saidIn lengthIn refusalOf termsIn requestIn completed bodyAsked headAsked askedOf kindOf oneOf belongs listed shapeOf charSays lookAs judge firstFailing firstMissing openOf meets better faces sameOwner sumOver countOf choose best partner prevention meeting ending outcome preventing causes change happens workAfter opposed opposedTo played stepEvents numbered stepped entered entries entryOf isListed modeOf mpidBytes every isPadded isText hasLength hasNames isEntry hasList hasSettings hasNext hasWork hasSpare restZero isCapacity isClass isRecord isRanged isKnown isWithin isShut isPriced isOrder hasOrders isFreshId hasIds isFreshPlace hasPlaces isDone noIoc isClear noCross hasNumbers isBook isMarket isName isNew isGiven areGiven areNames areSettings namedTable freshTable isOpening opened orderAt filled ordersFrom bookOf idIndex recordWith termBytes amountBytes fieldBytes recordOf applied accepted holder newStands newTaken submitted label written writtenField checkSumOf version front trailer reportBytes valueAt fieldAt hop placeOf bodyAt trailerAt readFramed executionFor kindFor firstOf kindOfReport oneReason readOf oneIn wordIn recordIn textIn timeIn acceptedSlots replacedSlots canceledSlots tradeSlots text orNumber digit avgPx replacedStatus tradeStatus figuresOf header acceptedFields replacedFields canceledFields tradeFields orStoredAt stampOn shownOn rowOf ticketOf says joined eventReport eventReports stepReports worked ran noted accountFrom tradedFor traded isSelfTrade selfTrades tableAfter reportsAfter
+computes = 0
+
+-- A is MPID 10 and has mode 3
+abbrev before : List ℕ
+before = replicate 32768 0
+
+abbrev mpids : List ℕ
+mpids = 10 ∷ 11 ∷ 12 ∷ 13 ∷ 14 ∷ []
+
+abbrev modes : List ℕ
+modes = 3 ∷ 1 ∷ 1 ∷ 1 ∷ 1 ∷ []
+
+abbrev pub opens : List ℕ
+opens = opened before (86 ∷ []) (80 ∷ []) (51 ∷ 53 ∷ 48 ∷ []) 1 mpids modes
+
+pub opens-right : isOpening before (86 ∷ []) (80 ∷ []) (51 ∷ 53 ∷ 48 ∷ []) 1 mpids modes ≡ true
+unfolding computes
+opens-right = refl
+
+-- book R: sells of 100 at 0.101 (MPID 11), and at 0.100 of 200 (12), 200 (A) and 500 (13); then A buys 1,200 at 0.100
+abbrev pub sell1 : List ℕ
+sell1 = 56 ∷ 61 ∷ 70 ∷ 73 ∷ 88 ∷ 46 ∷ 52 ∷ 46 ∷ 50 ∷ 1 ∷ 57 ∷ 61 ∷ 49 ∷ 50 ∷ 57 ∷ 1 ∷ 51 ∷ 53 ∷ 61 ∷ 68 ∷ 1 ∷ 51 ∷ 52 ∷ 61 ∷ 49 ∷ 1 ∷ 52 ∷ 57 ∷ 61 ∷ 80 ∷ 1 ∷ 53 ∷ 50 ∷ 61 ∷ 50 ∷ 48 ∷ 50 ∷ 54 ∷ 48 ∷ 49 ∷ 48 ∷ 53 ∷ 45 ∷ 48 ∷ 57 ∷ 58 ∷ 48 ∷ 48 ∷ 58 ∷ 48 ∷ 48 ∷ 1 ∷ 53 ∷ 54 ∷ 61 ∷ 86 ∷ 1 ∷ 49 ∷ 49 ∷ 61 ∷ 97 ∷ 1 ∷ 50 ∷ 49 ∷ 61 ∷ 49 ∷ 1 ∷ 51 ∷ 56 ∷ 61 ∷ 49 ∷ 48 ∷ 48 ∷ 1 ∷ 52 ∷ 48 ∷ 61 ∷ 50 ∷ 1 ∷ 52 ∷ 52 ∷ 61 ∷ 48 ∷ 46 ∷ 49 ∷ 48 ∷ 49 ∷ 1 ∷ 52 ∷ 55 ∷ 61 ∷ 65 ∷ 1 ∷ 53 ∷ 52 ∷ 61 ∷ 50 ∷ 1 ∷ 53 ∷ 53 ∷ 61 ∷ 51 ∷ 53 ∷ 48 ∷ 1 ∷ 53 ∷ 57 ∷ 61 ∷ 48 ∷ 1 ∷ 54 ∷ 48 ∷ 61 ∷ 50 ∷ 48 ∷ 50 ∷ 54 ∷ 48 ∷ 49 ∷ 48 ∷ 53 ∷ 45 ∷ 48 ∷ 57 ∷ 58 ∷ 48 ∷ 48 ∷ 58 ∷ 48 ∷ 48 ∷ 1 ∷ 56 ∷ 48 ∷ 54 ∷ 48 ∷ 61 ∷ 49 ∷ 1 ∷ 49 ∷ 48 ∷ 57 ∷ 61 ∷ 49 ∷ 49 ∷ 1 ∷ 49 ∷ 48 ∷ 61 ∷ 49 ∷ 56 ∷ 50 ∷ 1 ∷ []
+
+abbrev pub sell2 : List ℕ
+sell2 = 56 ∷ 61 ∷ 70 ∷ 73 ∷ 88 ∷ 46 ∷ 52 ∷ 46 ∷ 50 ∷ 1 ∷ 57 ∷ 61 ∷ 49 ∷ 50 ∷ 57 ∷ 1 ∷ 51 ∷ 53 ∷ 61 ∷ 68 ∷ 1 ∷ 51 ∷ 52 ∷ 61 ∷ 50 ∷ 1 ∷ 52 ∷ 57 ∷ 61 ∷ 80 ∷ 1 ∷ 53 ∷ 50 ∷ 61 ∷ 50 ∷ 48 ∷ 50 ∷ 54 ∷ 48 ∷ 49 ∷ 48 ∷ 53 ∷ 45 ∷ 48 ∷ 57 ∷ 58 ∷ 48 ∷ 48 ∷ 58 ∷ 48 ∷ 48 ∷ 1 ∷ 53 ∷ 54 ∷ 61 ∷ 86 ∷ 1 ∷ 49 ∷ 49 ∷ 61 ∷ 98 ∷ 1 ∷ 50 ∷ 49 ∷ 61 ∷ 49 ∷ 1 ∷ 51 ∷ 56 ∷ 61 ∷ 50 ∷ 48 ∷ 48 ∷ 1 ∷ 52 ∷ 48 ∷ 61 ∷ 50 ∷ 1 ∷ 52 ∷ 52 ∷ 61 ∷ 48 ∷ 46 ∷ 49 ∷ 48 ∷ 48 ∷ 1 ∷ 52 ∷ 55 ∷ 61 ∷ 65 ∷ 1 ∷ 53 ∷ 52 ∷ 61 ∷ 50 ∷ 1 ∷ 53 ∷ 53 ∷ 61 ∷ 51 ∷ 53 ∷ 48 ∷ 1 ∷ 53 ∷ 57 ∷ 61 ∷ 48 ∷ 1 ∷ 54 ∷ 48 ∷ 61 ∷ 50 ∷ 48 ∷ 50 ∷ 54 ∷ 48 ∷ 49 ∷ 48 ∷ 53 ∷ 45 ∷ 48 ∷ 57 ∷ 58 ∷ 48 ∷ 48 ∷ 58 ∷ 48 ∷ 48 ∷ 1 ∷ 56 ∷ 48 ∷ 54 ∷ 48 ∷ 61 ∷ 49 ∷ 1 ∷ 49 ∷ 48 ∷ 57 ∷ 61 ∷ 49 ∷ 50 ∷ 1 ∷ 49 ∷ 48 ∷ 61 ∷ 49 ∷ 56 ∷ 53 ∷ 1 ∷ []
+
+abbrev pub sell3 : List ℕ
+sell3 = 56 ∷ 61 ∷ 70 ∷ 73 ∷ 88 ∷ 46 ∷ 52 ∷ 46 ∷ 50 ∷ 1 ∷ 57 ∷ 61 ∷ 49 ∷ 50 ∷ 57 ∷ 1 ∷ 51 ∷ 53 ∷ 61 ∷ 68 ∷ 1 ∷ 51 ∷ 52 ∷ 61 ∷ 51 ∷ 1 ∷ 52 ∷ 57 ∷ 61 ∷ 80 ∷ 1 ∷ 53 ∷ 50 ∷ 61 ∷ 50 ∷ 48 ∷ 50 ∷ 54 ∷ 48 ∷ 49 ∷ 48 ∷ 53 ∷ 45 ∷ 48 ∷ 57 ∷ 58 ∷ 48 ∷ 48 ∷ 58 ∷ 48 ∷ 48 ∷ 1 ∷ 53 ∷ 54 ∷ 61 ∷ 86 ∷ 1 ∷ 49 ∷ 49 ∷ 61 ∷ 99 ∷ 1 ∷ 50 ∷ 49 ∷ 61 ∷ 49 ∷ 1 ∷ 51 ∷ 56 ∷ 61 ∷ 50 ∷ 48 ∷ 48 ∷ 1 ∷ 52 ∷ 48 ∷ 61 ∷ 50 ∷ 1 ∷ 52 ∷ 52 ∷ 61 ∷ 48 ∷ 46 ∷ 49 ∷ 48 ∷ 48 ∷ 1 ∷ 52 ∷ 55 ∷ 61 ∷ 65 ∷ 1 ∷ 53 ∷ 52 ∷ 61 ∷ 50 ∷ 1 ∷ 53 ∷ 53 ∷ 61 ∷ 51 ∷ 53 ∷ 48 ∷ 1 ∷ 53 ∷ 57 ∷ 61 ∷ 48 ∷ 1 ∷ 54 ∷ 48 ∷ 61 ∷ 50 ∷ 48 ∷ 50 ∷ 54 ∷ 48 ∷ 49 ∷ 48 ∷ 53 ∷ 45 ∷ 48 ∷ 57 ∷ 58 ∷ 48 ∷ 48 ∷ 58 ∷ 48 ∷ 48 ∷ 1 ∷ 56 ∷ 48 ∷ 54 ∷ 48 ∷ 61 ∷ 49 ∷ 1 ∷ 49 ∷ 48 ∷ 57 ∷ 61 ∷ 49 ∷ 48 ∷ 1 ∷ 49 ∷ 48 ∷ 61 ∷ 49 ∷ 56 ∷ 53 ∷ 1 ∷ []
+
+abbrev pub sell4 : List ℕ
+sell4 = 56 ∷ 61 ∷ 70 ∷ 73 ∷ 88 ∷ 46 ∷ 52 ∷ 46 ∷ 50 ∷ 1 ∷ 57 ∷ 61 ∷ 49 ∷ 50 ∷ 57 ∷ 1 ∷ 51 ∷ 53 ∷ 61 ∷ 68 ∷ 1 ∷ 51 ∷ 52 ∷ 61 ∷ 52 ∷ 1 ∷ 52 ∷ 57 ∷ 61 ∷ 80 ∷ 1 ∷ 53 ∷ 50 ∷ 61 ∷ 50 ∷ 48 ∷ 50 ∷ 54 ∷ 48 ∷ 49 ∷ 48 ∷ 53 ∷ 45 ∷ 48 ∷ 57 ∷ 58 ∷ 48 ∷ 48 ∷ 58 ∷ 48 ∷ 48 ∷ 1 ∷ 53 ∷ 54 ∷ 61 ∷ 86 ∷ 1 ∷ 49 ∷ 49 ∷ 61 ∷ 100 ∷ 1 ∷ 50 ∷ 49 ∷ 61 ∷ 49 ∷ 1 ∷ 51 ∷ 56 ∷ 61 ∷ 53 ∷ 48 ∷ 48 ∷ 1 ∷ 52 ∷ 48 ∷ 61 ∷ 50 ∷ 1 ∷ 52 ∷ 52 ∷ 61 ∷ 48 ∷ 46 ∷ 49 ∷ 48 ∷ 48 ∷ 1 ∷ 52 ∷ 55 ∷ 61 ∷ 65 ∷ 1 ∷ 53 ∷ 52 ∷ 61 ∷ 50 ∷ 1 ∷ 53 ∷ 53 ∷ 61 ∷ 51 ∷ 53 ∷ 48 ∷ 1 ∷ 53 ∷ 57 ∷ 61 ∷ 48 ∷ 1 ∷ 54 ∷ 48 ∷ 61 ∷ 50 ∷ 48 ∷ 50 ∷ 54 ∷ 48 ∷ 49 ∷ 48 ∷ 53 ∷ 45 ∷ 48 ∷ 57 ∷ 58 ∷ 48 ∷ 48 ∷ 58 ∷ 48 ∷ 48 ∷ 1 ∷ 56 ∷ 48 ∷ 54 ∷ 48 ∷ 61 ∷ 49 ∷ 1 ∷ 49 ∷ 48 ∷ 57 ∷ 61 ∷ 49 ∷ 51 ∷ 1 ∷ 49 ∷ 48 ∷ 61 ∷ 49 ∷ 57 ∷ 51 ∷ 1 ∷ []
+
+abbrev pub buy5 : List ℕ
+buy5 = 56 ∷ 61 ∷ 70 ∷ 73 ∷ 88 ∷ 46 ∷ 52 ∷ 46 ∷ 50 ∷ 1 ∷ 57 ∷ 61 ∷ 49 ∷ 51 ∷ 48 ∷ 1 ∷ 51 ∷ 53 ∷ 61 ∷ 68 ∷ 1 ∷ 51 ∷ 52 ∷ 61 ∷ 53 ∷ 1 ∷ 52 ∷ 57 ∷ 61 ∷ 80 ∷ 1 ∷ 53 ∷ 50 ∷ 61 ∷ 50 ∷ 48 ∷ 50 ∷ 54 ∷ 48 ∷ 49 ∷ 48 ∷ 53 ∷ 45 ∷ 48 ∷ 57 ∷ 58 ∷ 48 ∷ 48 ∷ 58 ∷ 48 ∷ 48 ∷ 1 ∷ 53 ∷ 54 ∷ 61 ∷ 86 ∷ 1 ∷ 49 ∷ 49 ∷ 61 ∷ 101 ∷ 1 ∷ 50 ∷ 49 ∷ 61 ∷ 49 ∷ 1 ∷ 51 ∷ 56 ∷ 61 ∷ 49 ∷ 50 ∷ 48 ∷ 48 ∷ 1 ∷ 52 ∷ 48 ∷ 61 ∷ 50 ∷ 1 ∷ 52 ∷ 52 ∷ 61 ∷ 48 ∷ 46 ∷ 49 ∷ 48 ∷ 48 ∷ 1 ∷ 52 ∷ 55 ∷ 61 ∷ 65 ∷ 1 ∷ 53 ∷ 52 ∷ 61 ∷ 49 ∷ 1 ∷ 53 ∷ 53 ∷ 61 ∷ 51 ∷ 53 ∷ 48 ∷ 1 ∷ 53 ∷ 57 ∷ 61 ∷ 48 ∷ 1 ∷ 54 ∷ 48 ∷ 61 ∷ 50 ∷ 48 ∷ 50 ∷ 54 ∷ 48 ∷ 49 ∷ 48 ∷ 53 ∷ 45 ∷ 48 ∷ 57 ∷ 58 ∷ 48 ∷ 48 ∷ 58 ∷ 48 ∷ 48 ∷ 1 ∷ 56 ∷ 48 ∷ 54 ∷ 48 ∷ 61 ∷ 49 ∷ 1 ∷ 49 ∷ 48 ∷ 57 ∷ 61 ∷ 49 ∷ 48 ∷ 1 ∷ 49 ∷ 48 ∷ 61 ∷ 50 ∷ 50 ∷ 57 ∷ 1 ∷ []
+
+-- each message is followed to its end, one step a call
+abbrev pub lived : List Call
+lived =
+    Submit sell1 1024 ∷ Run 1024 1 ∷ Submit sell2 1024 ∷ Run 1024 1 ∷ Submit sell3 1024 ∷ Run 1024 1 ∷ Submit sell4 1024 ∷ Run 1024 1
+    ∷ Submit buy5 1024 ∷ Run 1024 1 ∷ Run 1024 1 ∷ Run 1024 1 ∷ Run 1024 1 ∷ Run 1024 1 ∷ []
+
+-- what reports tell of A's sell, of A's buy and of all trades
+abbrev accounts : List (List ℕ) → List Account
+accounts rs = accountOf 3 rs ∷ accountOf 5 rs ∷ []
+
+abbrev totals : List (List ℕ) → List ℕ
+totals rs = bought rs ∷ sold rs ∷ selfTrades rs ∷ []
+
+-- A's sell of 200 is canceled; A's buy: 1,200 = 800 + 200 + 0 + 200
+pub accounts-lived : accounts (reportsAfter opens lived)
+    ≡ record { accepted = 200; executions = 0; decrements = 0; cancels = 200; left = 0 }
+    ∷ record { accepted = 1200; executions = 800; decrements = 200; cancels = 0; left = 200 }
+    ∷ []
+unfolding computes
+accounts-lived = refl
+
+-- 800 are bought and sold, and no trade is a self-trade
+pub totals-lived : totals (reportsAfter opens lived) ≡ 800 ∷ 800 ∷ 0 ∷ []
+unfolding computes
+totals-lived = refl
+
+-- 200 of the buy are open in the table
+pub open-lived : openOf (orderAt (tableAfter opens lived) 5) ≡ 200
+unfolding computes
+open-lived = refl

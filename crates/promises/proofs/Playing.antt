@@ -1,0 +1,201 @@
+-- Events that happen one after the other to a table, and their reports: every account follows, trades balance, and no MPID trades with
+-- itself, if each report tells its event and each event is exact.
+use mathlib.Core.Path.{_≡_, refl, sym, ap, subst, _∙_}
+use mathlib.Core.Bool.{Bool, true, false, cond, _||_, _&&_}
+use mathlib.Core.List.{List, [], _∷_}
+use mathlib.Core.Logic.{_≢_}
+use Prim.Native.Nat.{ℕ, _+_, _≤_}
+use native.Mathlib.Omega.{arith}
+use lib.Dec.{eqb}
+use lib.ListN.{length}
+use borrow.Author.Tests.{eqb-true, eqb-false, eq-eqb, ne-eqb}
+use Rattle.octets.proofs.Bools.{split, or-r}
+use Rattle.matching.specs.declared.Order.{Order}
+use Rattle.matching.specs.declared.Event.{Event}
+use Rattle.matching.specs.declared.Event.the-variants.{Accepted, Replaced, Withdrawn, Canceled, Decremented, Traded, Expired}
+use Rattle.matching.specs.Matching.{Book, at, isBuy, who, change, after, play}
+use Rattle.matching.specs.Held.{In, Sound, Ready, Readies}
+use Rattle.matching.specs.Accounts.{trades, bought as boughtBy, sold as soldBy}
+use Rattle.matching.specs.Happens.{moves}
+use Rattle.matching.proofs.Events.{Terms, termsOf, change-terms, after-here, after-there}
+use Rattle.table.specs.Places.{tableBytes}
+use Rattle.table.specs.Orders.{orderAt, filled, bookOf, applied}
+use Rattle.table.specs.Changes.{played}
+use Rattle.table.proofs.Books.{length-book, at-book}
+use Rattle.table.proofs.Frames.{Framed, framed-long, framed-filled}
+use Rattle.table.proofs.Applied.{AllMove, framed-applied, book-applied}
+use Rattle.report.specs.declared.Reading.{Reading}
+use Rattle.report.specs.Reports.{readOf}
+use Rattle.calls.specs.Run.{eventReport, eventReports}
+use Rattle.readback.specs.Says.{says}
+use Rattle.promises.specs.Tallies.{Account, noted, accountFrom, isTrade, tradedFor, traded, isSelfTrade, selfTrades}
+use Rattle.promises.proofs.Tells.{Apart, Exact, Tells, accountIn, noted-here, noted-there}
+use Rattle.promises.proofs.Exacts.{Exacts}
+
+-- the MPID of the other order of a trade; 0 for no trade
+abbrev pub contra : List ℕ → Event → ℕ
+contra t (Accepted n o) = 0
+contra t (Replaced n l q p) = 0
+contra t (Withdrawn n q) = 0
+contra t (Canceled n q) = 0
+contra t (Decremented n q) = 0
+contra t (Traded n m q l) = orderAt t m .mpid
+contra t (Expired n q) = 0
+
+-- a report r tells event e on the table t after it
+abbrev pub TellsOn : List ℕ → Event → List ℕ → Type 0
+TellsOn t e r = Tells (readOf r) e (orderAt t (who e)) (contra t e)
+
+-- the reports of events, numbered from n on, tell them in turn
+abbrev pub TellsAll : List ℕ → ℕ → List Event → Type 0
+TellsAll t n [] = Unit {0}
+TellsAll t n (e ∷ es) = TellsOn (applied t e) e (eventReport (applied t e) n e) × TellsAll (applied t e) (n + 1) es
+
+-- ---- one event: u is the table after it
+module _ (t u : List ℕ) (e : Event) (low : 1 ≤ who e) (high : who e ≤ length (bookOf u)) (short : who e ≤ length (bookOf t) + 1) (x : Exact (bookOf t) e)
+    (same : bookOf u ≡ after (bookOf t) e) (r : List ℕ) (tells : TellsOn u e r) where
+  order-now : orderAt u (who e) ≡ change e (at (bookOf t) (who e))
+  order-now =
+      sym (at-book u (who e) low (omega (arith, length-book u)))
+      ∙ ap (λ (b : Book). at b (who e)) same
+      ∙ after-here (bookOf t) e low (omega arith)
+
+  pub account-then : (k : ℕ) → noted k (accountIn (at (bookOf t) k)) (readOf r) ≡ accountIn (at (bookOf u) k)
+  account-then k =
+      split (eqb k (who e))
+      (λ z.
+      let q = eqb-true k (who e) z in
+      let y : Tells (readOf r) e (change e (at (bookOf t) (who e))) (contra u e) = rw order-now at tells in
+      rw (q, same, after-here (bookOf t) e low (omega arith)) (noted-here (bookOf t) (readOf r) (contra u e) e x y))
+      (λ z.
+      let d = eqb-false k (who e) z in
+      rw (same, after-there (bookOf t) e low (omega arith) k d)
+      (noted-there (bookOf t) (readOf r) (contra u e) e (orderAt u (who e)) tells k d _))
+
+-- ---- what a report trades for a side, and that it is no self-trade
+pub nought : (c : Bool) → _≡_ {A = ℕ} (cond c 0 0) 0
+nought true = refl
+nought false = refl
+
+pub traded-one : (r : Reading) (e : Event) (o : Order) (m s : ℕ) → Tells r e o m → tradedFor s r ≡ cond (eqb (o .side) s) (trades e) 0
+unfolding tradedFor
+traded-one r (Accepted n x) o m s t = rw (t .kind) (sym (nought (eqb (o .side) s)))
+traded-one r (Replaced n l q p) o m s t = rw (t .kind) (sym (nought (eqb (o .side) s)))
+traded-one r (Withdrawn n q) o m s t = rw (t .kind) (sym (nought (eqb (o .side) s)))
+traded-one r (Canceled n q) o m s t = rw (t .kind) (sym (nought (eqb (o .side) s)))
+traded-one r (Decremented n q) o m s t = rw (t .kind) (sym (nought (eqb (o .side) s)))
+traded-one r (Traded n k q l) o m s t = rw (t .side, t .executed, t .kind)
+traded-one r (Expired n q) o m s t = rw (t .kind) (sym (nought (eqb (o .side) s)))
+
+not-self : (r : Reading) (n k q l : ℕ) (o : Order) (m : ℕ) → Tells r (Traded n k q l) o m → (o .mpid ≡ m → o .mpid ≡ 0) → isSelfTrade r ≡ false
+unfolding isSelfTrade
+not-self r n k q l o m t h =
+    rw (t .mpid, t .other, t .kind)
+    (split (eqb (o .mpid) m)
+    (λ z. rw (z, eq-eqb (o .mpid) 0 (h (eqb-true (o .mpid) m z))))
+    (λ z. rw z))
+
+-- a side is 1 or 2
+other-side : (o : Order) (q : ℕ) → Sound o → cond (eqb (o .side) 2) q 0 ≡ cond (isBuy o) 0 q
+other-side o q s =
+    split (eqb (o .side) 1)
+    (λ z. let e = eqb-true (o .side) 1 z in rw e)
+    (λ z. rw (z, or-r (eqb (o .side) 1) (eqb (o .side) 2) (s .sides) z))
+
+-- ---- one event that changes amounts
+module _ (c : Book) (t : List ℕ) (e : Event) (long : length t ≡ tableBytes) (m : moves e ≡ true) (r : Ready (bookOf t) e) (x : Exact (bookOf t) e)
+    (rep : List ℕ) (tells : TellsOn (applied t e) e rep) (s : (k : ℕ) → at (bookOf t) k .side ≡ at c k .side) where
+  frame : Framed t (applied t e)
+  frame = framed-applied t e long m r
+
+  pub size : length (bookOf (applied t e)) ≡ length (bookOf t)
+  size = length-book (applied t e) ∙ framed-filled t (applied t e) long frame ∙ sym (length-book t)
+
+  book : bookOf (applied t e) ≡ after (bookOf t) e
+  book = book-applied t e long m r
+
+  high : who e ≤ length (bookOf (applied t e))
+  high = omega (arith, r .inside .high, size)
+
+  short : who e ≤ length (bookOf t) + 1
+  short = omega (arith, r .inside .high)
+
+  terms-then : (k : ℕ) → termsOf (at (bookOf (applied t e)) k) ≡ termsOf (at (bookOf t) k)
+  terms-then k =
+      split (eqb k (who e))
+      (λ z.
+      rw (eqb-true k (who e) z, book, after-here (bookOf t) e (r .inside .low) (omega (arith, short))) (change-terms e (at (bookOf t) (who e)) m))
+      (λ z. rw (book, after-there (bookOf t) e (r .inside .low) (omega (arith, short)) k (eqb-false k (who e) z)))
+
+  here : (k : ℕ) → In (bookOf t) k → orderAt (applied t e) k ≡ at (bookOf (applied t e)) k
+  here k i = sym (at-book (applied t e) k (i .low) (omega (arith, i .high, size, length-book (applied t e))))
+
+  pub sides-then : (k : ℕ) → at (bookOf (applied t e)) k .side ≡ at c k .side
+  sides-then k = ap (λ (q : Terms). q .side) (terms-then k) ∙ s k
+
+  side-then : orderAt (applied t e) (who e) .side ≡ at c (who e) .side
+  side-then = ap (λ (o : Order). o .side) (here (who e) (r .inside)) ∙ sides-then (who e)
+
+  owner-then : (k : ℕ) → In (bookOf t) k → orderAt (applied t e) k .mpid ≡ at (bookOf t) k .mpid
+  owner-then k i = ap (λ (o : Order). o .mpid) (here k i) ∙ ap (λ (q : Terms). q .mpid) (terms-then k)
+
+  pub accounts-then : (k : ℕ) → noted k (accountIn (at (bookOf t) k)) (readOf rep) ≡ accountIn (at (bookOf (applied t e)) k)
+  accounts-then = account-then t (applied t e) e (r .inside .low) high short x book rep tells
+
+  pub bought-then : tradedFor 1 (readOf rep) ≡ cond (isBuy (at c (who e))) (trades e) 0
+  bought-then = traded-one (readOf rep) e _ _ 1 tells ∙ ap (λ (y : ℕ). cond (eqb y 1) (trades e) 0) side-then
+
+  pub sold-then : tradedFor 2 (readOf rep) ≡ cond (isBuy (at c (who e))) 0 (trades e)
+  sold-then =
+      traded-one (readOf rep) e _ _ 2 tells
+      ∙ ap (λ (y : ℕ). cond (eqb y 2) (trades e) 0) (side-then ∙ sym (s (who e)))
+      ∙ other-side (at (bookOf t) (who e)) (trades e) (r .sound)
+      ∙ ap (λ (y : ℕ). cond (eqb y 1) 0 (trades e)) (s (who e))
+
+  -- by cases of the event
+  fair-by : (f : Event) → f ≡ e → Tells (readOf rep) f (orderAt (applied t e) (who f)) (contra (applied t e) f) → Exact (bookOf t) f → isSelfTrade (readOf rep) ≡ false
+  unfolding isSelfTrade
+  fair-by (Accepted n o) q y z = rw (y .kind)
+  fair-by (Replaced n l a p) q y z = rw (y .kind)
+  fair-by (Withdrawn n a) q y z = rw (y .kind)
+  fair-by (Canceled n a) q y z = rw (y .kind)
+  fair-by (Decremented n a) q y z = rw (y .kind)
+  fair-by (Traded n k a l) q y z =
+      let i : In (bookOf t) n = subst (λ (f : Event). In (bookOf t) (who f)) (sym q) (r .inside) in
+      let p = owner-then n i in
+      let v = owner-then k (z .inside) in
+      not-self (readOf rep) n k a l _ _ y (λ h. p ∙ z .owners (sym p ∙ h ∙ v))
+  fair-by (Expired n a) q y z = rw (y .kind)
+
+  pub fair-then : isSelfTrade (readOf rep) ≡ false
+  fair-then = fair-by e refl tells x
+
+-- ---- all events in turn, by the sides of a book whose orders they are
+module _ (c : Book) where
+  pub record Follows (t : List ℕ) (n : ℕ) (es : List Event) : Type 0 where
+    pub accounts : (k : ℕ) → accountFrom k (accountIn (at (bookOf t) k)) (eventReports t n es) ≡ accountIn (at (play (bookOf t) es) k)
+    pub bought : traded 1 (eventReports t n es) ≡ boughtBy c es
+    pub sold : traded 2 (eventReports t n es) ≡ soldBy c es
+    pub fair : selfTrades (eventReports t n es) ≡ 0
+
+  -- one report before others
+  pub all-follow : (es : List Event) (t : List ℕ) (n : ℕ) → length t ≡ tableBytes → AllMove es → Readies (bookOf t) es → Exacts (bookOf t) es → TellsAll t n es
+      → ((k : ℕ) → at (bookOf t) k .side ≡ at c k .side) → Follows t n es
+  unfolding eventReports accountFrom traded selfTrades boughtBy soldBy play
+  all-follow [] t n long m r x tells s = record { accounts = λ k. refl; bought = refl; sold = refl; fair = refl }
+  all-follow (e ∷ es) t n long m r x tells s =
+      let u : List ℕ = applied t e in
+      let rep : List ℕ = eventReport u n e in
+      let book : bookOf u ≡ after (bookOf t) e = book-applied t e long (m .0) (r .0) in
+      let g : Follows u (n + 1) es =
+      all-follow es u (n + 1) (framed-long t u long (framed-applied t e long (m .0) (r .0))) (m .1) (rw book (r .1)) (rw book (x .1)) (tells .1)
+      (sides-then c t e long (m .0) (r .0) (x .0) rep (tells .0) s) in
+      record {
+        accounts = λ k.
+            ap (λ (a : Account). accountFrom k a (eventReports u (n + 1) es)) (accounts-then c t e long (m .0) (r .0) (x .0) rep (tells .0) s k)
+            ∙ g .accounts k
+            ∙ ap (λ (b : Book). accountIn (at (play b es) k)) book;
+        bought = omega (arith, bought-then c t e long (m .0) (r .0) (x .0) rep (tells .0) s, g .bought);
+        sold = omega (arith, sold-then c t e long (m .0) (r .0) (x .0) rep (tells .0) s, g .sold);
+        fair = rw (fair-then c t e long (m .0) (r .0) (x .0) rep (tells .0) s) (omega (arith, g .fair));
+      }

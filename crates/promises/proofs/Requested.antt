@@ -1,0 +1,136 @@
+-- The book after a request that is taken, before the next number and what is in work change, is the book after its event.
+use mathlib.Core.Path.{_≡_, refl, sym, ap, _∙_}
+use mathlib.Core.Bool.{Bool, true, false}
+use mathlib.Core.List.{List, [], _∷_}
+use Prim.Native.Nat.{ℕ, suc, _+_, _≤_, _<_}
+use native.Mathlib.Omega.{arith}
+use lib.Dec.{eqb, lit≤}
+use lib.ListN.{length}
+use borrow.Author.Tests.{eqb-true}
+use Rattle.octets.proofs.Bools.{split, or-r}
+use Rattle.octets.proofs.Places.{length-put}
+use Rattle.matching.specs.declared.Order.{Order}
+use Rattle.matching.specs.declared.Event.{Event}
+use Rattle.matching.specs.declared.Event.the-variants.{Accepted, Replaced, Withdrawn}
+use Rattle.matching.specs.Matching.{Book, at, put as putOrder, openOf, change, after}
+use Rattle.matching.specs.Held.{In, Held, Ready, Enters, Renews}
+use Rattle.table.specs.Places.{tableBytes}
+use Rattle.table.specs.Heading.{nextOf, workOf, isListed, putNext, putWork}
+use Rattle.table.specs.Orders.{orderAt, filled, bookOf, putId, putTerms, putAmounts, applied, withdrawn, replaced, accepted}
+use Rattle.table.specs.Market.{every, isPrintable, isCapacity, isClass}
+use Rattle.table.specs.Facts.{Market, Named}
+use Rattle.table.specs.Changes.{numbered}
+use Rattle.table.proofs.Stores.{Terms, Sized}
+use Rattle.table.proofs.Books.{length-book, at-book}
+use Rattle.table.proofs.Frames.{Formed, market-formed, framed-long}
+use Rattle.table.proofs.Applied.{sound-amounts, book-applied, framed-applied, book-terms, framed-terms, book-next, book-work}
+use Rattle.table.proofs.Naming.{named-formed, named-book, named-order, named-filled}
+use Rattle.table.proofs.Entering.{entered-formed, entered-book}
+use Rattle.table.proofs.Kept.{listed-small}
+
+-- ---- the heading changes, the book does not
+pub long-numbered : (t : List ℕ) (n : ℕ) → length t ≡ tableBytes → length (numbered t n) ≡ tableBytes
+unfolding numbered
+long-numbered t n h = length-put t _ _ ∙ h
+
+pub book-numbered : (t : List ℕ) (n : ℕ) → length t ≡ tableBytes → bookOf (numbered t n) ≡ bookOf t
+unfolding numbered
+book-numbered t n h = book-next t _ h
+
+pub book-working : (t : List ℕ) (n w : ℕ) (stamp : List ℕ) → length t ≡ tableBytes → length stamp ≤ 21
+    → bookOf (putWork (numbered t n) w stamp) ≡ bookOf t
+book-working t n w stamp h short = book-work (numbered t n) w stamp (long-numbered t n h) short ∙ book-numbered t n h
+
+-- ---- a new order
+enters-sized : (t : List ℕ) (n : ℕ) (o : Order) → Market t → Enters (isListed t) (nextOf t) (bookOf t) n o → Sized o
+enters-sized t n o m a =
+    let s = a .sound in
+    record {
+      terms = record { level = omega (arith, s .level-high); qty = omega (arith, s .qty-high); place = omega (arith, a .newest, a .numbered) };
+      amounts = sound-amounts o s;
+      mpid =
+          split (eqb (o .mpid) 0)
+          (λ z. omega (arith, eqb-true (o .mpid) 0 z))
+          (λ z. omega (arith, listed-small t (o .mpid) (m .settings) (or-r (eqb (o .mpid) 0) (isListed t (o .mpid)) (a .owned) z)));
+    }
+
+module _ (t clOrdId account : List ℕ) (capacity class : ℕ) (o : Order) (m : Market t) (g : Named t clOrdId) (few : length account ≤ 10)
+    (printable : every isPrintable account ≡ true) (cap : isCapacity capacity ≡ true) (cls : isClass class ≡ true)
+    (a : Enters (isListed t) (nextOf t) (bookOf t) (filled t + 1) o) where
+  free : filled t < 255
+  free = omega (arith, a .free, length-book t)
+
+  pub long-accepted : length (accepted t (filled t + 1) clOrdId account capacity class o) ≡ tableBytes
+  long-accepted = entered-formed t clOrdId account capacity class o (market-formed t m) free g few printable cap cls .long
+
+  pub book-accepted : bookOf (accepted t (filled t + 1) clOrdId account capacity class o) ≡ after (bookOf t) (Accepted (filled t + 1) o)
+  unfolding after change
+  book-accepted =
+      let size = length-book t in
+      let q : suc (length (bookOf t)) ≡ filled t + 1 = omega arith in
+      entered-book t clOrdId account capacity class o (market-formed t m) free g few printable cap cls (enters-sized t (filled t + 1) o m a)
+      ∙ ap (λ (j : ℕ). putOrder (bookOf t) j o) q
+
+-- ---- a change of order k
+module _ (t : List ℕ) (k : ℕ) (clOrdId : List ℕ) (m : Market t) (i : In (bookOf t) k) (g : Named t clOrdId) where
+  high : k ≤ filled t
+  high = omega (arith, i .high, length-book t)
+
+  formed : Formed (putId t k clOrdId)
+  formed = named-formed t k clOrdId (market-formed t m) (i .low) high g
+
+  book : bookOf (putId t k clOrdId) ≡ bookOf t
+  book = named-book t k clOrdId (market-formed t m) (i .low) high g
+
+  order : orderAt (putId t k clOrdId) k ≡ orderAt t k
+  order = named-order t k clOrdId (market-formed t m) (i .low) high g k
+
+  there : at (bookOf t) k ≡ orderAt t k
+  there = at-book t k (i .low) high
+
+  filled-there : filled (putId t k clOrdId) ≡ filled t
+  filled-there = named-filled t k clOrdId (market-formed t m) (i .low) high g
+
+  -- a requested cancel
+  module _ (q : ℕ) (e : q ≡ openOf (at (bookOf t) k)) where
+    ready : Ready (bookOf (putId t k clOrdId)) (Withdrawn k q)
+    ready = rw book (record { inside = i; sound = m .held .sound k i; may = record { enough = omega (arith, e); priced = lit≤ tt } })
+
+    applied-is : withdrawn t clOrdId (Withdrawn k q) ≡ applied (putId t k clOrdId) (Withdrawn k q)
+    unfolding withdrawn applied
+    applied-is = rw order
+
+    pub long-withdrawn : length (withdrawn t clOrdId (Withdrawn k q)) ≡ tableBytes
+    long-withdrawn =
+        ap length applied-is
+        ∙ framed-long (putId t k clOrdId) (applied (putId t k clOrdId) (Withdrawn k q)) (formed .long)
+        (framed-applied (putId t k clOrdId) (Withdrawn k q) (formed .long) refl ready)
+
+    pub book-withdrawn : bookOf (withdrawn t clOrdId (Withdrawn k q)) ≡ after (bookOf t) (Withdrawn k q)
+    book-withdrawn =
+        ap bookOf applied-is ∙ book-applied (putId t k clOrdId) (Withdrawn k q) (formed .long) refl ready
+        ∙ ap (λ (c : Book). after c (Withdrawn k q)) book
+
+  -- a replacement
+  module _ (l q p : ℕ) (a : Renews (nextOf t) (bookOf t) k l q p) where
+    changed : Order
+    changed = change (Replaced k l q p) (orderAt t k)
+
+    widths : Terms changed
+    unfolding changed change
+    widths = record { level = omega (arith, a .level-high); qty = omega (arith, a .qty-high); place = omega (arith, a .newest, a .numbered) }
+
+    inside : k ≤ filled (putId t k clOrdId)
+    inside = omega (arith, filled-there, high)
+
+    pub long-replaced : length (replaced t clOrdId (Replaced k l q p)) ≡ tableBytes
+    unfolding replaced
+    long-replaced =
+        framed-long (putId t k clOrdId) (putTerms (putId t k clOrdId) k (change (Replaced k l q p) (orderAt t k))) (formed .long)
+        (framed-terms (putId t k clOrdId) k (change (Replaced k l q p) (orderAt t k)) (formed .long) (i .low) inside)
+
+    pub book-replaced : bookOf (replaced t clOrdId (Replaced k l q p)) ≡ after (bookOf t) (Replaced k l q p)
+    unfolding replaced after change changed
+    book-replaced =
+        let o : orderAt (putId t k clOrdId) k ≡ at (bookOf t) k = order ∙ sym there in
+        book-terms (putId t k clOrdId) k changed (formed .long) (i .low) inside widths ∙ rw (book, o)

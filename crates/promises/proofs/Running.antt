@@ -1,0 +1,77 @@
+-- The reports of a step lead from the table before it to the table after it, and so do those of a Run.
+use mathlib.Core.Path.{_≡_, refl, sym, ap, _∙_}
+use mathlib.Core.Bool.{true, false}
+use mathlib.Core.List.{List, [], _∷_, _++_}
+use Prim.Native.Nat.{ℕ, zero, suc, _+_, _-_, _≤_}
+use native.Mathlib.Omega.{arith}
+use lib.Dec.{ltb}
+use lib.ListN.{length}
+use Rattle.octets.proofs.Bools.{split}
+use Rattle.matching.specs.declared.Event.{Event}
+use Rattle.matching.specs.Matching.{Book, at, play, happens, workAfter}
+use Rattle.matching.proofs.Steps.{Stepped, step-is}
+use Rattle.matching.proofs.Fair.{step-fair, fair-balanced}
+use Rattle.table.specs.Heading.{nextOf, workOf, modeOf}
+use Rattle.table.specs.Orders.{bookOf}
+use Rattle.table.specs.Market.{isMarket}
+use Rattle.table.specs.Facts.{Market}
+use Rattle.table.specs.Changes.{stepEvents, stepped}
+use Rattle.table.proofs.Facts.{market-facts}
+use Rattle.table.proofs.Kept.{stepped-kept}
+use Rattle.table.proofs.Applied.{fits-move}
+use Rattle.calls.specs.Told.{joined, roomAsked}
+use Rattle.calls.specs.Run.{eventReports, stepReports, Worked, stops, worked, ran}
+use Rattle.turns.proofs.Stepping.{in-work, events-ready, events-fit, step-book}
+use Rattle.turns.proofs.Taking.{goes-busy}
+use Rattle.promises.proofs.Tells.{accountIn}
+use Rattle.promises.proofs.Exacts.{Exacts, step-exact}
+use Rattle.promises.proofs.Leads.{Leads, leads-then, leads-still}
+use Rattle.promises.proofs.Playing.{TellsAll, Follows, all-follow}
+
+-- the reports of a step tell its events
+abbrev pub StepTells : List ℕ → Type 0
+StepTells t = TellsAll t (nextOf t) (stepEvents t)
+
+module _ (t : List ℕ) (m : Market t) (l : 1 ≤ workOf t) (tells : StepTells t) where
+  shape : Stepped (bookOf t) (workOf t) (stepEvents t) (workAfter (bookOf t) (workOf t))
+  unfolding stepEvents
+  shape = step-is (modeOf t) (bookOf t) (workOf t)
+
+  follows : Follows (bookOf t) t (nextOf t) (stepEvents t)
+  follows =
+      all-follow (bookOf t) (stepEvents t) t (nextOf t) (m .long) (fits-move (stepEvents t) (bookOf t) (events-fit t m l)) (events-ready t m l)
+      (step-exact (bookOf t) (workOf t) _ (in-work t m l) shape) tells (λ k. refl)
+
+  after : bookOf (stepped t) ≡ play (bookOf t) (stepEvents t)
+  unfolding stepEvents
+  after = step-book t m l
+
+  pub step-leads : Leads t (stepped t) (stepReports t)
+  unfolding stepReports
+  step-leads =
+      record {
+        accounts = λ k. follows .accounts k ∙ ap (λ (b : Book). accountIn (at b k)) (sym after);
+        balanced = follows .bought ∙ fair-balanced (bookOf t) (step-fair (bookOf t) (workOf t) _ shape) ∙ sym (follows .sold);
+        fair = follows .fair;
+      }
+
+-- ---- steps, where the reports of each tell its events
+module _ (tell : (t : List ℕ) → Market t → 1 ≤ workOf t → StepTells t) where
+  pub worked-leads : (n : ℕ) (t : List ℕ) (room : ℕ) → Market t → Leads t (worked n t room .table) (worked n t room .reports)
+  unfolding worked
+  worked-leads zero t room m = leads-still t t refl
+  worked-leads (suc n) t room m =
+      split (stops t room)
+      (λ e. rw e (leads-still t t refl))
+      (λ e.
+      let l = goes-busy t room e in
+      rw e
+      (leads-then t (stepped t) _ (stepReports t) _ (step-leads t m l (tell t m l))
+      (worked-leads n (stepped t) (room - length (joined (stepReports t))) (stepped-kept t m l))))
+
+  pub ran-leads : (t : List ℕ) (room budget : ℕ) → isMarket t ≡ true → Leads t (ran t room budget .table) (ran t room budget .reports)
+  unfolding ran
+  ran-leads t room budget m =
+      split (ltb room roomAsked)
+      (λ e. rw e (leads-still t t refl))
+      (λ e. rw (e, m) (worked-leads budget t room (market-facts t m)))

@@ -1,0 +1,295 @@
+-- Every report that the market writes tells what it is of: those of the events of a step, of what Submit takes, and of what it rejects.
+use mathlib.Core.Path.{_≡_, refl, sym, ap, _∙_}
+use mathlib.Core.Bool.{Bool, true, false, cond, not, _&&_, _||_}
+use mathlib.Core.List.{List, [], _∷_}
+use Prim.Native.Nat.{ℕ, _+_, _≤_, _<_}
+use native.Mathlib.Omega.{arith}
+use lib.Dec.{eqb, ltb, leb}
+use lib.ListN.{length}
+use Rattle.octets.specs.Octets.{partAt}
+use Rattle.octets.proofs.Bools.{split, or-l, or-r}
+use Rattle.decimal.specs.Reading.{isDigit, isTime}
+use Rattle.fix.specs.declared.frame.Part.{Part}
+use Rattle.fix.proofs.Values.{Spelt, Timed}
+use Rattle.request.specs.declared.Refusal.{Refusal}
+use Rattle.request.specs.declared.NewOrder.{NewOrder}
+use Rattle.request.specs.declared.Replacement.{Replacement}
+use Rattle.request.specs.declared.Cancellation.{Cancellation}
+use Rattle.request.specs.declared.Asked.{Asked}
+use Rattle.request.specs.declared.Asked.the-variants.{Refused, Enters, Replaces, Cancels}
+use Rattle.request.specs.Session.{oneOf}
+use Rattle.request.proofs.Requests.{NewRight, enters-right}
+use Rattle.request.proofs.Saying.{NewSpelt, enters-spelt, ReplacementSpelt, replaces-spelt, CancelSpelt, cancels-spelt}
+use Rattle.request.proofs.Refusals.{RefusalSpelt, refused-spelt}
+use Rattle.matching.specs.declared.Order.{Order}
+use Rattle.matching.specs.declared.Event.{Event}
+use Rattle.matching.specs.declared.Event.the-variants.{Accepted, Replaced, Withdrawn, Canceled, Decremented, Traded, Expired}
+use Rattle.matching.specs.Matching.{openOf, who}
+use Rattle.matching.specs.Accounts.{trades}
+use Rattle.table.specs.Heading.{nextOf, workOf, isListed}
+use Rattle.table.specs.Orders.{orderAt, filled, accepted, replaced, withdrawn, applied}
+use Rattle.table.specs.Market.{isPrintable}
+use Rattle.table.specs.Facts.{Market}
+use Rattle.table.specs.Changes.{stepEvents}
+use Rattle.table.proofs.Same.{filled-few}
+use Rattle.table.proofs.Frames.{market-formed}
+use Rattle.report.specs.declared.Place.{Place}
+use Rattle.report.specs.declared.Kind.{Kind}
+use Rattle.report.specs.declared.Reading.{Reading}
+use Rattle.report.specs.Reports.{readOf}
+use Rattle.rows.specs.Rows.{text}
+use Rattle.ticket.specs.declared.Cause.{Cause}
+use Rattle.ticket.specs.Tickets.{ticketOf, keptCause}
+use Rattle.ticket.specs.Legible.{textBy, isAmong, Placed, Headed, Legible, LegibleRefused, LegibleUnchanged, LegibleFaulty}
+use Rattle.ticket.proofs.Formed.{formed-headed}
+use Rattle.ticket.proofs.Running.{Legibles, step-legibles}
+use Rattle.ticket.proofs.Taking.{sent-text, sent-placed, new-legible, replaced-legible, withdrawn-legible, unchanged-legible}
+use Rattle.readback.specs.Says.{says}
+use Rattle.readback.specs.Told.{kindTold, reasonTold, quantityTold, otherTold, SaysEvent}
+use Rattle.readback.proofs.Events.{event-says, refused-is-read, unchanged-is-read, faulty-is-read}
+use Rattle.calls.specs.declared.Standing.{Standing}
+use Rattle.calls.specs.declared.Standing.the-variants.{Stands, Fails}
+use Rattle.calls.specs.Checks.{textOf, holder, inTable, isCode, newStands, changeStands, cancelStands, andAbove, replaceStands}
+use Rattle.calls.specs.Submit.{causeOf, sentAt, noText, rejecting, faulted, newRejected, changeRejected, newOrderOf}
+use Rattle.calls.specs.Run.{eventReport}
+use Rattle.intake.specs.Intake.{Asking}
+use Rattle.intake.proofs.Standing.{between-printable, between-digits, holder-few, new-named, new-account, new-account-short, new-capacity, new-class, new-enters, new-time, cancel-in, cancel-named, replace-in, replace-named, replace-renews, replace-time}
+use Rattle.promises.proofs.Tells.{kindFor, reasonFor, Tells}
+use Rattle.promises.proofs.Leads.{isSilent}
+use Rattle.promises.proofs.Playing.{contra, TellsOn, TellsAll}
+use Rattle.promises.proofs.Running.{StepTells}
+use Rattle.promises.proofs.Submitting.{Told, NewTells, ReplaceTells, CancelTells, Silent}
+
+-- ---- what is read of an event is what it tells
+kind-told : (e : Event) → kindTold e ≡ kindFor e
+kind-told (Accepted n o) = refl
+kind-told (Replaced n l q p) = refl
+kind-told (Withdrawn n q) = refl
+kind-told (Canceled n q) = refl
+kind-told (Decremented n q) = refl
+kind-told (Traded n m q l) = refl
+kind-told (Expired n q) = refl
+
+reason-told : (e : Event) → reasonTold e ≡ reasonFor e
+reason-told (Accepted n o) = refl
+reason-told (Replaced n l q p) = refl
+reason-told (Withdrawn n q) = refl
+reason-told (Canceled n q) = refl
+reason-told (Decremented n q) = refl
+reason-told (Traded n m q l) = refl
+reason-told (Expired n q) = refl
+
+quantity-told : (e : Event) → quantityTold e ≡ trades e
+quantity-told (Accepted n o) = refl
+quantity-told (Replaced n l q p) = refl
+quantity-told (Withdrawn n q) = refl
+quantity-told (Canceled n q) = refl
+quantity-told (Decremented n q) = refl
+quantity-told (Traded n m q l) = refl
+quantity-told (Expired n q) = refl
+
+other-told : (t : List ℕ) (e : Event) → otherTold t e ≡ contra t e
+other-told t (Accepted n o) = refl
+other-told t (Replaced n l q p) = refl
+other-told t (Withdrawn n q) = refl
+other-told t (Canceled n q) = refl
+other-told t (Decremented n q) = refl
+other-told t (Traded n m q l) = refl
+other-told t (Expired n q) = refl
+
+legible-tells : (t message : List ℕ) (n : ℕ) (c : Cause) (e : Event) → Legible t message n c e → TellsOn t e (ticketOf t message n c e)
+legible-tells t message n c e h =
+    let s = event-says t message n c e h in
+    record {
+      kind = s .is-kind ∙ kind-told e;
+      order = s .says-37;
+      quantity = s .says-38;
+      left = s .says-151;
+      executed = s .says-32 ∙ quantity-told e;
+      reason = s .says-378 ∙ reason-told e;
+      side = s .says-54;
+      mpid = s .says-109;
+      other = s .says-375 ∙ other-told t e;
+    }
+
+-- ---- the events of a step
+all-tell : (es : List Event) (t : List ℕ) (n : ℕ) → Legibles t n es → TellsAll t n es
+unfolding eventReport
+all-tell [] t n h = tt
+all-tell (e ∷ es) t n h = (legible-tells (applied t e) [] n (keptCause (applied t e)) e (h .0), all-tell es (applied t e) (n + 1) (h .1))
+
+pub step-tells : (t : List ℕ) → Market t → 1 ≤ workOf t → StepTells t
+step-tells t m l = all-tell (stepEvents t) t (nextOf t) (step-legibles t m l)
+
+-- ---- texts of the message
+module _ (message t : List ℕ) (p : Part) where
+  placed-text : (most : ℕ) → Spelt message p 1 most 32 126 → Placed isPrintable 1 most message t (sentAt p)
+  placed-text most s =
+      sent-placed message t (p .start) (p .len) isPrintable 1 most (s .some) (omega (arith, s .long, s .short)) (between-printable _ (s .bytes))
+
+  placed-code : Spelt message p 1 9 48 57 → Placed isDigit 1 9 message t (sentAt p)
+  placed-code s = sent-placed message t (p .start) (p .len) isDigit 1 9 (s .some) (omega (arith, s .long, s .short)) (between-digits _ (s .bytes))
+
+  sent-time : Timed message p → isTime (textBy message t (sentAt p)) ≡ true
+  sent-time s = rw (sent-text message t (p .start) (p .len)) (s .right)
+
+-- the heading of a report of Submit
+headed : (t message : List ℕ) (p : Part) {x : Asked} → Asking t message x → Timed message p → Headed t message (nextOf t) (sentAt p)
+headed t message p a s =
+    formed-headed t (market-formed t (a .market)) message (nextOf t) (sentAt p) (a .market .next-low) (omega (arith, a .numbers)) (sent-time message t p s)
+
+-- ---- what is taken
+module _ (t message : List ℕ) where
+  new-tells : (o : NewOrder) → Asking t message (Enters o) → newStands t message o ≡ Stands → NewTells t message o
+  new-tells o a e =
+      legible-tells _ message (nextOf t) (causeOf (o .time) noText) _
+      (new-legible t message _ _ _ _ _ (causeOf (o .time) noText) (a .market) (a .idle) (new-named t message o a e) (new-account-short t message o a)
+      (new-account t message o a) (new-capacity t message o a) (new-class t message o a) (new-enters t message o a e)
+      (sent-time message _ (o .time) (enters-spelt _ _ message o (a .asks) .time)))
+
+  replace-tells : (o : Replacement) → Asking t message (Replaces o) → replaceStands t message o ≡ Stands
+      → ReplaceTells t message o (holder t (textOf message (o .original)))
+  replace-tells o a e =
+      let k : ℕ = holder t (textOf message (o .original)) in
+      let s = replaces-spelt _ _ message o (a .asks) in
+      let c : Cause = causeOf (o .time) (sentAt (o .original)) in
+      legible-tells _ message (nextOf t) c _
+      (replaced-legible t message (textOf message (o .id)) k c (a .market) (a .idle) (replace-in t message o a k refl e) (replace-named t message o a k refl e)
+      (o .level) (o .quantity) (nextOf t) (replace-renews t message o a k refl e) (sent-time message _ (o .time) (s .time))
+      (placed-text message _ (o .original) 32 (s .original)))
+
+  cancel-tells : (o : Cancellation) → Asking t message (Cancels o) → cancelStands t message o ≡ Stands
+      → CancelTells t message o (holder t (textOf message (o .original)))
+  cancel-tells o a e =
+      let k : ℕ = holder t (textOf message (o .original)) in
+      let s = cancels-spelt _ _ message o (a .asks) in
+      let c : Cause = causeOf (o .time) (sentAt (o .original)) in
+      legible-tells _ message (nextOf t) c _
+      (withdrawn-legible t message (textOf message (o .id)) k c (a .market) (a .idle) (cancel-in t message o a k refl e) (cancel-named t message o a k refl e)
+      (a .numbers) (sent-time message _ (o .time) (s .time)) (placed-text message _ (o .original) 32 (s .original)))
+
+-- ---- what is rejected
+
+-- one of a list
+among-of : (ns : List ℕ) (x : ℕ) → oneOf x ns ≡ isAmong ns x
+unfolding oneOf
+among-of [] x = refl
+among-of (n ∷ ns) x = ap (λ (b : Bool). eqb x n || b) (among-of ns x)
+
+fails-is : (a n : ℕ) → Fails a ≡ Fails n → a ≡ n
+fails-is a n e = cc
+
+not-fails : (n : ℕ) → Stands ≡ Fails n → ⊥
+not-fails n e = let z : _≡_ {A = ℕ} 0 1 = cc in omega arith
+
+-- why a new order is rejected: 103
+new-reason : (t message : List ℕ) (o : NewOrder) (n : ℕ) → newStands t message o ≡ Fails n → isAmong (0 ∷ 1 ∷ 6 ∷ 99 ∷ []) n ≡ true
+unfolding newStands
+new-reason t message o n e =
+    split (not (isCode t (textOf message (o .code)))) (λ x. rw (← fails-is 1 n (rw x at e))) (λ x.
+    split (ltb 0 (o .terms .mpid) && not (isListed t (o .terms .mpid))) (λ y. rw (← fails-is 99 n (rw (x, y) at e))) (λ y.
+    split (inTable t (textOf message (o .id))) (λ z. rw (← fails-is 6 n (rw (x, y, z) at e))) (λ z.
+    split (leb 255 (filled t)) (λ w. rw (← fails-is 0 n (rw (x, y, z, w) at e)))
+    (λ w. absurd (not-fails n (rw (x, y, z, w) at e))))))
+
+-- why a change is: 102
+change-reason : (t : List ℕ) (k : ℕ) (code clOrdId : List ℕ) (side n : ℕ) → changeStands t k code clOrdId side ≡ Fails n → isAmong (0 ∷ 1 ∷ 2 ∷ []) n ≡ true
+unfolding changeStands
+change-reason t k code clOrdId side n e =
+    split (not (isCode t code) || eqb k 0) (λ x. rw (← fails-is 1 n (rw x at e))) (λ x.
+    split (not (eqb side (orderAt t k .side))) (λ y. rw (← fails-is 2 n (rw (x, y) at e))) (λ y.
+    split (eqb (openOf (orderAt t k)) 0) (λ z. rw (← fails-is 0 n (rw (x, y, z) at e))) (λ z.
+    split (inTable t clOrdId) (λ w. rw (← fails-is 2 n (rw (x, y, z, w) at e)))
+    (λ w. absurd (not-fails n (rw (x, y, z, w) at e))))))
+
+above-reason : (t : List ℕ) (k q n : ℕ) (s : Standing) → ((m : ℕ) → s ≡ Fails m → isAmong (0 ∷ 1 ∷ 2 ∷ []) m ≡ true) → andAbove t k q s ≡ Fails n
+    → isAmong (0 ∷ 1 ∷ 2 ∷ []) n ≡ true
+above-reason t k q n (Fails r) h e = h n e
+above-reason t k q n Stands h e =
+    split (ltb (orderAt t k .executed + orderAt t k .decremented) q)
+    (λ x. absurd (not-fails n (rw x at e)))
+    (λ x. rw (← fails-is 2 n (rw x at e)))
+
+replace-reason : (t message : List ℕ) (o : Replacement) (n : ℕ) → replaceStands t message o ≡ Fails n → isAmong (0 ∷ 1 ∷ 2 ∷ []) n ≡ true
+unfolding replaceStands
+replace-reason t message o n e =
+    let k : ℕ = holder t (textOf message (o .original)) in
+    above-reason t k (o .quantity) n (changeStands t k (textOf message (o .code)) (textOf message (o .id)) (o .side))
+    (λ m x. change-reason t k (textOf message (o .code)) (textOf message (o .id)) (o .side) m x) e
+
+cancel-reason : (t message : List ℕ) (o : Cancellation) (n : ℕ) → cancelStands t message o ≡ Fails n → isAmong (0 ∷ 1 ∷ 2 ∷ []) n ≡ true
+unfolding cancelStands
+cancel-reason t message o n e = change-reason t _ _ _ _ n e
+
+-- each report is of its own kind, and so of no order's amounts
+abbrev silent : Reading → Bool
+silent r = isSilent (r .kind)
+
+module _ (t message : List ℕ) where
+  fault-silent : (r : Refusal) → Asking t message (Refused r) → Silent (faulted t message r .reports)
+  unfolding faulted rejecting
+  fault-silent r a =
+      let s = refused-spelt _ _ message r (a .asks) in
+      ap silent
+      (faulty-is-read t message (nextOf t) (sentAt (r .time)) _
+      (record {
+        heading = headed t message (r .time) a (s .time);
+        sequence-low = s .number-low;
+        sequence-high = s .number-high;
+        tag-low = s .tag-low;
+        tag-high = omega (arith, s .tag-high);
+        kind = placed-text message t (r .kind) 2 (s .kind);
+        reason = sym (among-of _ (r .reason)) ∙ s .reason-is;
+      }))
+
+  new-silent : (o : NewOrder) (n : ℕ) → Asking t message (Enters o) → newStands t message o ≡ Fails n → Silent (newRejected t message o n .reports)
+  unfolding newRejected rejecting
+  new-silent o n a e =
+      let s = enters-spelt _ _ message o (a .asks) in
+      let g = enters-right _ _ message o (a .asks) in
+      ap silent
+      (refused-is-read t message (nextOf t) (sentAt (o .time)) _
+      (record {
+        heading = headed t message (o .time) a (s .time);
+        clOrdId = placed-text message t (o .id) 32 (s .id);
+        code = placed-code message t (o .code) (s .code);
+        quantity = g .sized .quantity-high;
+        side = sym (among-of _ (o .terms .side)) ∙ g .sized .side-is;
+        reason = new-reason t message o n e;
+      }))
+
+  change-silent : (time id original : Part) {x : Asked} (n response : ℕ) → Asking t message x → Timed message time → Spelt message id 1 32 32 126
+      → Spelt message original 1 32 32 126 → isAmong (0 ∷ 1 ∷ 2 ∷ []) n ≡ true → isAmong (1 ∷ 2 ∷ []) response ≡ true
+      → Silent (changeRejected t message time id original (holder t (textOf message original)) n response .reports)
+  unfolding changeRejected rejecting
+  change-silent time id original n response a s b c d r =
+      let k : ℕ = holder t (textOf message original) in
+      ap silent
+      (unchanged-is-read t message (nextOf t) (sentAt time) _
+      (unchanged-legible t message (nextOf t) (sentAt time) k (sentAt id) (sentAt original) n response (headed t message time a s)
+      (omega (arith, holder-few t (textOf message original), filled-few t)) (placed-text message t id 32 b) (placed-text message t original 32 c) d r))
+
+  replace-silent : (o : Replacement) (n : ℕ) → Asking t message (Replaces o) → replaceStands t message o ≡ Fails n
+      → Silent (changeRejected t message (o .time) (o .id) (o .original) (holder t (textOf message (o .original))) n 2 .reports)
+  replace-silent o n a e =
+      let s = replaces-spelt _ _ message o (a .asks) in
+      change-silent (o .time) (o .id) (o .original) n 2 a (s .time) (s .id) (s .original) (replace-reason t message o n e) refl
+
+  cancel-silent : (o : Cancellation) (n : ℕ) → Asking t message (Cancels o) → cancelStands t message o ≡ Fails n
+      → Silent (changeRejected t message (o .time) (o .id) (o .original) (holder t (textOf message (o .original))) n 1 .reports)
+  cancel-silent o n a e =
+      let s = cancels-spelt _ _ message o (a .asks) in
+      change-silent (o .time) (o .id) (o .original) n 1 a (s .time) (s .id) (s .original) (cancel-reason t message o n e) refl
+
+-- all that is asked of the reports of Submit
+pub all-told : Told
+all-told =
+    record {
+      new = new-tells;
+      replace = replace-tells;
+      cancel = cancel-tells;
+      fault = fault-silent;
+      new-fails = new-silent;
+      replace-fails = replace-silent;
+      cancel-fails = cancel-silent;
+    }

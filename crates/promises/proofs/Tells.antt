@@ -1,0 +1,122 @@
+-- What the report of an event says of its order, and what that makes of the order's account: exactly what the event makes of the
+-- order's own amounts.
+use mathlib.Core.Path.{_≡_, refl, sym, ap, _∙_}
+use mathlib.Core.Bool.{Bool, true, false, cond}
+use mathlib.Core.List.{List, [], _∷_, _++_}
+use mathlib.Core.Logic.{_≢_}
+use Prim.Native.Nat.{ℕ, _+_, _-_, _≤_}
+use native.Mathlib.Omega.{arith}
+use lib.Dec.{eqb}
+use borrow.Author.Tests.{eqb-true, eqb-false, eq-eqb, ne-eqb}
+use Rattle.octets.proofs.Bools.{split}
+use Rattle.matching.specs.declared.Order.{Order}
+use Rattle.matching.specs.declared.Event.{Event}
+use Rattle.matching.specs.declared.Event.the-variants as event
+use Rattle.matching.specs.Matching.{Book, none, at, openOf, who, change}
+use Rattle.matching.specs.Held.{In}
+use Rattle.matching.specs.Accounts.{trades}
+use Rattle.matching.specs.Happens.{Fresh}
+use Rattle.matching.proofs.Books.{at-new}
+use Rattle.report.specs.declared.Kind.{Kind}
+use Rattle.report.specs.declared.Kind.the-variants as kind
+use Rattle.report.specs.declared.Reading.{Reading}
+use Rattle.readback.specs.Says.{says}
+use Rattle.promises.specs.Tallies.{Account, blank, afterReport, noted}
+
+-- ---- what a report says
+
+-- the kind of the report of an event, and its 378, 0 for none
+abbrev pub kindFor : Event → Kind
+kindFor (event.Accepted n o) = kind.Accepted
+kindFor (event.Replaced n l q p) = kind.Replaced
+kindFor (event.Withdrawn n q) = kind.Canceled
+kindFor (event.Canceled n q) = kind.Canceled
+kindFor (event.Decremented n q) = kind.Replaced
+kindFor (event.Traded n m q l) = kind.Trade
+kindFor (event.Expired n q) = kind.Canceled
+
+abbrev pub reasonFor : Event → ℕ
+reasonFor (event.Accepted n o) = 0
+reasonFor (event.Replaced n l q p) = 0
+reasonFor (event.Withdrawn n q) = 0
+reasonFor (event.Canceled n q) = 100
+reasonFor (event.Decremented n q) = 100
+reasonFor (event.Traded n m q l) = 0
+reasonFor (event.Expired n q) = 99
+
+-- the report r of event e, after which its order is o and the other order has the MPID m
+pub record Tells (r : Reading) (e : Event) (o : Order) (m : ℕ) : Type 0 where
+  pub kind : r .kind ≡ kindFor e
+  pub order : says 37 r ≡ who e
+  pub quantity : says 38 r ≡ o .qty
+  pub left : says 151 r ≡ openOf o
+  pub executed : says 32 r ≡ trades e
+  pub reason : says 378 r ≡ reasonFor e
+  pub side : says 54 r ≡ o .side
+  pub mpid : says 109 r ≡ o .mpid
+  pub other : says 375 r ≡ m
+
+-- ---- what an event does to an order
+
+-- the other order of a trade is in the book, and of another owner if both have one
+pub record Apart (b : Book) (n m : ℕ) : Type 0 where
+  pub inside : In b m
+  pub owners : at b n .mpid ≡ at b m .mpid → at b n .mpid ≡ 0
+
+-- an accepted order is new; what is canceled is all that is open, what is decremented is open, and a trade is between two owners
+abbrev pub Exact : Book → Event → Type 0
+Exact b (event.Accepted n o) = Fresh b n o
+Exact b (event.Replaced n l q p) = Unit {0}
+Exact b (event.Withdrawn n q) = q ≡ openOf (at b n)
+Exact b (event.Canceled n q) = q ≡ openOf (at b n)
+Exact b (event.Decremented n q) = q ≤ openOf (at b n)
+Exact b (event.Traded n m q l) = Apart b n m
+Exact b (event.Expired n q) = q ≡ openOf (at b n)
+
+-- ---- the account of an order by its own amounts
+abbrev pub accountIn : Order → Account
+accountIn o = record { accepted = o .qty; executions = o .executed; decrements = o .decremented; cancels = o .canceled; left = openOf o }
+
+-- two accounts with the same five numbers
+same-account : (a c : Account) → a .accepted ≡ c .accepted → a .executions ≡ c .executions → a .decrements ≡ c .decrements → a .cancels ≡ c .cancels
+    → a .left ≡ c .left → a ≡ c
+same-account a c p q x y z = λ j. record { accepted = p j; executions = q j; decrements = x j; cancels = y j; left = z j }
+
+-- the fall in what is open at a decrement is the decrement
+fall : (o : Order) (n q x : ℕ) → q ≤ openOf o → x ≡ openOf (change (event.Decremented n q) o) → o .decremented + (openOf o - x) ≡ o .decremented + q
+unfolding openOf change
+fall o n q x h e = omega arith
+
+-- after the report of an exact event
+module _ (b : Book) (r : Reading) (m : ℕ) where
+  pub account-after : (e : Event) → Exact b e → Tells r e (change e (at b (who e))) m
+      → afterReport (kindFor e) r (accountIn (at b (who e))) ≡ accountIn (change e (at b (who e)))
+  unfolding change
+  account-after (event.Accepted n o) x t =
+      let z : at b n ≡ none = rw (x .number) (at-new b) in
+      rw z (same-account _ _ (t .quantity) (sym (x .unexecuted)) (sym (x .undecremented)) (sym (x .uncanceled)) (t .left))
+  account-after (event.Replaced n l q p) x t =
+      rw (t .reason) (same-account _ _ (t .quantity) refl refl refl (t .left))
+  account-after (event.Withdrawn n q) x t =
+      same-account _ _ refl refl refl (ap (λ (y : ℕ). at b n .canceled + y) (sym x)) (t .left)
+  account-after (event.Canceled n q) x t =
+      same-account _ _ refl refl refl (ap (λ (y : ℕ). at b n .canceled + y) (sym x)) (t .left)
+  account-after (event.Decremented n q) x t =
+      let h : at b n .decremented + (openOf (at b n) - says 151 r) ≡ at b n .decremented + q = fall (at b n) n q _ x (t .left) in
+      rw (t .reason) (same-account _ _ refl refl h refl (t .left))
+  account-after (event.Traded n k q l) x t =
+      same-account _ _ refl (ap (λ (y : ℕ). at b n .executed + y) (t .executed)) refl refl (t .left)
+  account-after (event.Expired n q) x t =
+      same-account _ _ refl refl refl (ap (λ (y : ℕ). at b n .canceled + y) (sym x)) (t .left)
+
+  -- the account of each order after the report of an event
+  pub noted-here : (e : Event) → Exact b e → Tells r e (change e (at b (who e))) m
+      → noted (who e) (accountIn (at b (who e))) r ≡ accountIn (change e (at b (who e)))
+  unfolding noted
+  noted-here e x t =
+      rw (eq-eqb (says 37 r) (who e) (t .order))
+      (ap (λ (k : Kind). afterReport k r (accountIn (at b (who e)))) (t .kind) ∙ account-after e x t)
+
+  pub noted-there : (e : Event) (o : Order) → Tells r e o m → (k : ℕ) → k ≢ who e → (a : Account) → noted k a r ≡ a
+  unfolding noted
+  noted-there e o t k n a = rw (ne-eqb (says 37 r) k (λ z. n (sym z ∙ t .order)))

@@ -1,0 +1,100 @@
+-- What the market promises, of every history: any calls in turn, from an accepted Open with any settings, refused calls among them. A
+-- statement about the table and the reports after a history holds after each of its calls, since what went before a call is a history
+-- too. Everything is said of the definitions that the contracts of the calls cite, and of the bytes of the reports as Read gives them.
+use mathlib.Core.Path.{_≡_, sym, ap, _∙_}
+use mathlib.Core.Bool.{true}
+use mathlib.Core.List.{List}
+use mathlib.Core.Logic.{_≢_}
+use Prim.Native.Nat.{ℕ, _+_, _*_, _≤_, _<_}
+use Rattle.matching.specs.Matching.{openOf, metBy}
+use Rattle.matching.specs.Depth.{totalOf, ordersOf}
+use Rattle.table.specs.Places.{mostOrders}
+use Rattle.table.specs.Heading.{workOf}
+use Rattle.table.specs.Orders.{orderAt, filled, bookOf}
+use Rattle.table.specs.Market.{isMarket}
+use Rattle.table.specs.Opened.{isOpening, opened}
+use Rattle.table.proofs.Same.{filled-few}
+use Rattle.calls.specs.declared.SubmitAnswer.the-variants as submit-answer
+use Rattle.calls.specs.declared.RunAnswer.the-variants as run-answer
+use Rattle.calls.specs.Submit.{submitted}
+use Rattle.calls.specs.Run.{ran, runSteps}
+use Rattle.market.specs.declared.depth.DepthAnswer.the-variants as depth-answer
+use Rattle.market.specs.Depth.{depthAnswer}
+use Rattle.promises.specs.History.{Call, tableAfter, reportsAfter}
+use Rattle.promises.specs.Tallies.{blank, accountOf, bought, sold, selfTrades}
+use Rattle.promises.specs.Whole.{openIn, ordersIn, overDepth}
+use Rattle.promises.proofs.Kept.{Told, after-market, after-told, account-adds, account-left, account-none, submit-found, run-found, depth-found, buys-above}
+use Rattle.promises.proofs.Depths.{totals-open, orders-open}
+use Rattle.promises.proofs.Agreeing.{ran-ends}
+
+module _ (before venue port code : List ℕ) (first : ℕ) (mpids modes : List ℕ) (taken : isOpening before venue port code first mpids modes ≡ true)
+    (calls : List Call) where
+  -- the table after the history, and all its reports in turn
+  abbrev table : List ℕ
+  table = tableAfter (opened before venue port code first mpids modes) calls
+
+  abbrev reports : List (List ℕ)
+  reports = reportsAfter (opened before venue port code first mpids modes) calls
+
+  -- ---- every table is a market, so no call is refused with 2
+  pub a-market : isMarket table ≡ true
+  a-market = after-market before venue port code first mpids modes taken calls
+
+  pub submit-finds-a-market : (message : List ℕ) (room : ℕ) → submitted table message room .answer ≢ submit-answer.NoMarket
+  submit-finds-a-market = submit-found table a-market
+
+  pub run-finds-a-market : (room budget : ℕ) → ran table room budget .answer ≢ run-answer.NoMarket
+  run-finds-a-market = run-found table a-market
+
+  pub depth-finds-a-market : (side k : ℕ) → depthAnswer table side k ≢ depth-answer.NoMarket
+  depth-finds-a-market = depth-found table a-market
+
+  -- ---- each order of the table, by the reports that name it in 37
+
+  told : Told table reports
+  told = after-told before venue port code first mpids modes taken calls
+
+  -- the quantity accepted is what was executed, decremented and canceled, and what is open in the table
+  pub adds-up : (k : ℕ) → 1 ≤ k → k ≤ filled table
+      → let a = accountOf k reports in
+      a .accepted ≡ a .executions + a .decrements + a .cancels + openOf (orderAt table k)
+  adds-up = account-adds table reports a-market told
+
+  -- the 151 last reported is what is open
+  pub last-reported : (k : ℕ) → 1 ≤ k → k ≤ filled table → accountOf k reports .left ≡ openOf (orderAt table k)
+  last-reported = account-left table reports told
+
+  -- no report names another number
+  pub no-others : (k : ℕ) → filled table < k → accountOf k reports ≡ blank
+  no-others = account-none table reports told
+
+  -- ---- all trades
+
+  -- what is bought is sold
+  pub balanced : bought reports ≡ sold reports
+  balanced = told .balanced
+
+  -- no Trade bears the same MPID as its own and as the other's
+  pub no-self-trade : selfTrades reports ≡ 0
+  no-self-trade = told .fair
+
+  -- ---- while nothing is in work
+  module _ (idle : workOf table ≡ 0) where
+    -- the totals of all levels that Depth gives, of both sides, come to all that is open
+    pub depth-adds-up : overDepth totalOf table 1 mostOrders + overDepth totalOf table 2 mostOrders ≡ openIn table
+    depth-adds-up = totals-open table a-market idle mostOrders (filled-few table)
+
+    -- and their orders to all orders that have something open
+    pub depth-counts-all : overDepth ordersOf table 1 mostOrders + overDepth ordersOf table 2 mostOrders ≡ ordersIn table
+    depth-counts-all = orders-open table a-market idle mostOrders (filled-few table)
+
+    -- every open buy yield is above every open sell yield
+    pub uncrossed : (i j : ℕ) → 1 ≤ i → i ≤ filled table → 1 ≤ j → j ≤ filled table → orderAt table i .side ≡ 1 → orderAt table j .side ≡ 2
+        → 0 < openOf (orderAt table i) → 0 < openOf (orderAt table j) → orderAt table j .level < orderAt table i .level
+    uncrossed = buys-above table a-market idle
+
+  -- ---- an order in work that meets m open opposite orders is done within m + 1 steps, given room for their reports
+  pub done-in-time : (room budget : ℕ)
+      → let m = metBy (bookOf table) (workOf table) in
+      1024 * (m + 1) ≤ room → m + 1 ≤ budget → (workOf (ran table room budget .table) ≡ 0) × (runSteps (ran table room budget .answer) ≤ m + 1)
+  done-in-time room budget = ran-ends table room budget a-market

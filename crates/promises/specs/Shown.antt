@@ -1,0 +1,50 @@
+-- What Run shows on a table (document 01, "Rehearsed books"): the events that its reports tell, what is left open of each order, and the
+-- steps it takes. Assumes nothing.
+use mathlib.Core.Path.{_≡_}
+use mathlib.Core.List.{List, [], _∷_, map}
+use Prim.Native.Nat.{ℕ, _*_, _≤_}
+use Rattle.decimal.specs.Writing.{fixed, meanOf}
+use Rattle.matching.specs.declared.Event.{Event}
+use Rattle.matching.specs.Matching.{at, openOf, who}
+use Rattle.table.specs.Heading.{workOf}
+use Rattle.table.specs.Orders.{bookOf}
+use Rattle.report.specs.declared.Reading.{Reading}
+use Rattle.report.specs.Reports.{readOf}
+use Rattle.readback.specs.Says.{says}
+use Rattle.readback.specs.Told.{kindTold, reasonTold, quantityTold}
+use Rattle.calls.specs.Run.{ran, runSteps}
+
+-- a report that was read is of event e: its kind, its order (37), what was traded (32) and why (378)
+pub record ReportOf (r : Reading) (e : Event) : Type 0 where
+  pub kind : r .kind ≡ kindTold e
+  pub order : says 37 r ≡ who e
+  pub quantity : says 32 r ≡ quantityTold e
+  pub reason : says 378 r ≡ reasonTold e
+
+-- reports are of events, one of each in turn
+abbrev pub ReportsOf : List (List ℕ) → List Event → Type 0
+ReportsOf [] [] = Unit {0}
+ReportsOf [] (e ∷ es) = ⊥
+ReportsOf (r ∷ rs) [] = ⊥
+ReportsOf (r ∷ rs) (e ∷ es) = ReportOf (readOf r) e × ReportsOf rs es
+
+-- Run with this room and budget: its reports are of the events es, it leaves open os and nothing in work, and takes n steps
+pub record ShowsIn (t : List ℕ) (room budget : ℕ) (es : List Event) (os : List ℕ) (n : ℕ) : Type 0 where
+  pub events : ReportsOf (ran t room budget .reports) es
+  pub left : map openOf (bookOf (ran t room budget .table)) ≡ os
+  pub steps : runSteps (ran t room budget .answer) ≡ n
+  pub ended : workOf (ran t room budget .table) ≡ 0
+
+-- the same with any budget of n steps or more and room for them
+abbrev pub ShowsOn : List ℕ → List Event → List ℕ → ℕ → Type 0
+ShowsOn t es os n = (room budget : ℕ) → 1024 * n ≤ room → n ≤ budget → ShowsIn t room budget es os n
+
+-- order w has executed at this sum of quantity times level, of which the mean is AvgPx as it is written
+pub record AveragesIn (t : List ℕ) (w room budget sum executed mean : ℕ) (text : List ℕ) : Type 0 where
+  pub is-sum : at (bookOf (ran t room budget .table)) w .sum ≡ sum
+  pub is-executed : at (bookOf (ran t room budget .table)) w .executed ≡ executed
+  pub is-mean : meanOf sum executed ≡ mean
+  pub is-text : fixed 6 mean ≡ text
+
+abbrev pub AveragesOn : List ℕ → ℕ → ℕ → ℕ → ℕ → ℕ → List ℕ → Type 0
+AveragesOn t w n sum executed mean text = (room budget : ℕ) → 1024 * n ≤ room → n ≤ budget → AveragesIn t w room budget sum executed mean text

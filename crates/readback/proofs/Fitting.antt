@@ -1,0 +1,264 @@
+-- Every row that the market can write fits the slots of its kind, so that it can be read: one line for each field.
+use Prim.Native.Nat.{ℕ}
+use native.Mathlib.Omega.{arith}
+use mathlib.Core.Path.{_≡_, refl}
+use mathlib.Core.List.{List}
+use mathlib.Core.Logic.{_⊎_, inl, inr}
+use lib.ListN.{take}
+use Rattle.decimal.specs.Writing.{decimal, meanOf}
+use Rattle.report.specs.declared.Value.{Value}
+use Rattle.report.specs.declared.Value.the-variants.{Absent}
+use Rattle.report.specs.declared.Shape.the-variants as shape
+use Rattle.report.specs.declared.Kind.the-variants.{Accepted, Replaced, Canceled, Trade, Rejected, CancelReject, SessionReject}
+use Rattle.report.specs.Fields.{label}
+use Rattle.report.specs.Frame.{trailer}
+use Rattle.report.specs.Slots.{acceptedSlots, replacedSlots, canceledSlots, tradeSlots, rejectedSlots, cancelRejectSlots, sessionRejectSlots, slotsOf}
+use Rattle.report.proofs.ReadOnly.{kinds-proper}
+use Rattle.report.proofs.Back.{Fits}
+use Rattle.rows.specs.declared.Stamp.{Stamp}
+use Rattle.rows.specs.declared.Shown.{Shown}
+use Rattle.rows.specs.declared.Ground.{Ground}
+use Rattle.rows.specs.declared.Fill.{Fill}
+use Rattle.rows.specs.declared.Refused.{Refused}
+use Rattle.rows.specs.declared.Unchanged.{Unchanged}
+use Rattle.rows.specs.declared.Faulty.{Faulty}
+use Rattle.rows.specs.Rows.{text, requested, prevented, decremented, expired, header, figuresOf, padded, acceptedFields, acceptedRow, replacedFields, replacedRow, canceledFields, canceledRow, tradeFields, tradeRow, rejectedRow, cancelRejectRow, sessionRejectRow}
+use Rattle.readback.specs.Right.{TextRight, StampRight, ShownRight, ReplacedRight, replaced-on-request, by-decrement, CanceledRight, canceled-on-request, by-prevention, at-the-end, FillRight, RefusedRight, UnchangedRight, FaultyRight}
+use Rattle.readback.proofs.Takes.{Takes, char-takes, word-takes, number-takes, or-number-takes, or-nobody-takes, side-takes, tif-takes, replaced-takes, traded-takes, capacity-takes, class-takes, asked-side-takes, status-takes, listed-takes, refusal-takes, reason-takes, two-takes, fault-takes, text-takes, code-takes, time-takes, level-takes, mean-takes, average-takes, open-takes, executed-takes, quantity-takes}
+use Rattle.readback.proofs.Rowed.{all-fit}
+
+infixr 40 _&_
+_&_ : {A B : Type 0} → A → B → A × B
+a & b = (a, b)
+
+module _ (sent stored : List ℕ) where
+  maybe-text : (most low : ℕ) (v : Value) → (v ≡ Absent) ⊎ TextRight sent stored most low v → (v ≡ Absent) ⊎ Takes sent stored (shape.Text most low) v
+  maybe-text most low v (inl e) = inl e
+  maybe-text most low v (inr r) = inr (text-takes sent stored most low v r)
+
+  -- Accepted
+  pub accepted-fits : (sum : ℕ) (s : Stamp) (o : Shown) → StampRight sent stored s → ShownRight sent stored o → Fits sent stored (trailer sum) (slotsOf Accepted) (padded (acceptedRow s o))
+  unfolding acceptedSlots acceptedFields figuresOf header label decimal
+  accepted-fits sum s o i j =
+      all-fit sent stored 9 sum (take 27 acceptedSlots) (acceptedRow s o) (kinds-proper Accepted) refl
+      (char-takes sent stored 56
+      & number-takes sent stored 1 999999999 (s .number) (i .number-low) (i .number-high) (omega (arith, i .number-high))
+      & text-takes sent stored 8 33 (s .venue) (i .venue-right)
+      & word-takes sent stored 68 74 71 66
+      & time-takes sent stored (s .time) (i .time-right)
+      & text-takes sent stored 8 33 (s .port) (i .port-right)
+      & maybe-text 10 32 (o .account) (j .account-right)
+      & average-takes sent stored (o .order) (j .order-right)
+      & text-takes sent stored 32 32 (o .id) (j .id-right)
+      & executed-takes sent stored (o .order) (j .order-right)
+      & number-takes sent stored 1 999999999 (s .number) (i .number-low) (i .number-high) (omega (arith, i .number-high))
+      & char-takes sent stored 48
+      & number-takes sent stored 1 255 (o .orderid) (j .orderid-low) (j .orderid-high) (omega (arith, j .orderid-high))
+      & quantity-takes sent stored (o .order) (j .order-right)
+      & char-takes sent stored 48
+      & char-takes sent stored 50
+      & level-takes sent stored (o .order .level) (j .order-right .level-low) (j .order-right .level-high)
+      & capacity-takes sent stored (o .capacity) (j .capacity-right)
+      & side-takes sent stored (o .order) (j .order-right)
+      & code-takes sent stored (o .code) (j .code-right)
+      & tif-takes sent stored (o .order) (j .order-right)
+      & time-takes sent stored (s .time) (i .time-right)
+      & or-number-takes sent stored (o .order .mpid) (j .mpid-right)
+      & char-takes sent stored 48
+      & open-takes sent stored (o .order) (j .order-right)
+      & listed-takes sent stored 9 9 9 9 9 9 9 9 9 (omega arith) refl
+      & class-takes sent stored (o .class) (j .class-right)
+      & tt)
+
+  -- Replaced, by what 41 and 378 take
+  pub replaced-takes-fits : (sum : ℕ) (s : Stamp) (o : Shown) (w : Ground) → StampRight sent stored s → ShownRight sent stored o → Takes sent stored (shape.Text 32 32) (w .orig) → (w .reason ≡ Absent) ⊎ Takes sent stored (shape.Listed 100 100 100 100 100 100 100 100) (w .reason) → Fits sent stored (trailer sum) (slotsOf Replaced) (padded (replacedRow s o w))
+  unfolding replacedSlots replacedFields figuresOf header label decimal
+  replaced-takes-fits sum s o w i j a b =
+      all-fit sent stored 7 sum (take 29 replacedSlots) (replacedRow s o w) (kinds-proper Replaced) refl
+      (char-takes sent stored 56
+      & number-takes sent stored 1 999999999 (s .number) (i .number-low) (i .number-high) (omega (arith, i .number-high))
+      & text-takes sent stored 8 33 (s .venue) (i .venue-right)
+      & word-takes sent stored 68 74 71 66
+      & time-takes sent stored (s .time) (i .time-right)
+      & text-takes sent stored 8 33 (s .port) (i .port-right)
+      & maybe-text 10 32 (o .account) (j .account-right)
+      & average-takes sent stored (o .order) (j .order-right)
+      & text-takes sent stored 32 32 (o .id) (j .id-right)
+      & executed-takes sent stored (o .order) (j .order-right)
+      & number-takes sent stored 1 999999999 (s .number) (i .number-low) (i .number-high) (omega (arith, i .number-high))
+      & char-takes sent stored 48
+      & number-takes sent stored 1 255 (o .orderid) (j .orderid-low) (j .orderid-high) (omega (arith, j .orderid-high))
+      & quantity-takes sent stored (o .order) (j .order-right)
+      & replaced-takes sent stored (o .order)
+      & char-takes sent stored 50
+      & a
+      & level-takes sent stored (o .order .level) (j .order-right .level-low) (j .order-right .level-high)
+      & capacity-takes sent stored (o .capacity) (j .capacity-right)
+      & side-takes sent stored (o .order) (j .order-right)
+      & code-takes sent stored (o .code) (j .code-right)
+      & tif-takes sent stored (o .order) (j .order-right)
+      & time-takes sent stored (s .time) (i .time-right)
+      & or-number-takes sent stored (o .order .mpid) (j .mpid-right)
+      & char-takes sent stored 53
+      & open-takes sent stored (o .order) (j .order-right)
+      & b
+      & listed-takes sent stored 9 9 9 9 9 9 9 9 9 (omega arith) refl
+      & class-takes sent stored (o .class) (j .class-right)
+      & tt)
+
+  -- Canceled, by what 41 and 378 take
+  pub canceled-takes-fits : (sum : ℕ) (s : Stamp) (o : Shown) (w : Ground) → StampRight sent stored s → ShownRight sent stored o → (w .orig ≡ Absent) ⊎ Takes sent stored (shape.Text 32 32) (w .orig) → (w .reason ≡ Absent) ⊎ Takes sent stored (shape.Listed 99 100 100 100 100 100 100 100) (w .reason) → Fits sent stored (trailer sum) (slotsOf Canceled) (padded (canceledRow s o w))
+  unfolding canceledSlots canceledFields figuresOf header label decimal
+  canceled-takes-fits sum s o w i j a b =
+      all-fit sent stored 7 sum (take 29 canceledSlots) (canceledRow s o w) (kinds-proper Canceled) refl
+      (char-takes sent stored 56
+      & number-takes sent stored 1 999999999 (s .number) (i .number-low) (i .number-high) (omega (arith, i .number-high))
+      & text-takes sent stored 8 33 (s .venue) (i .venue-right)
+      & word-takes sent stored 68 74 71 66
+      & time-takes sent stored (s .time) (i .time-right)
+      & text-takes sent stored 8 33 (s .port) (i .port-right)
+      & maybe-text 10 32 (o .account) (j .account-right)
+      & average-takes sent stored (o .order) (j .order-right)
+      & text-takes sent stored 32 32 (o .id) (j .id-right)
+      & executed-takes sent stored (o .order) (j .order-right)
+      & number-takes sent stored 1 999999999 (s .number) (i .number-low) (i .number-high) (omega (arith, i .number-high))
+      & char-takes sent stored 48
+      & number-takes sent stored 1 255 (o .orderid) (j .orderid-low) (j .orderid-high) (omega (arith, j .orderid-high))
+      & quantity-takes sent stored (o .order) (j .order-right)
+      & char-takes sent stored 52
+      & char-takes sent stored 50
+      & a
+      & level-takes sent stored (o .order .level) (j .order-right .level-low) (j .order-right .level-high)
+      & capacity-takes sent stored (o .capacity) (j .capacity-right)
+      & side-takes sent stored (o .order) (j .order-right)
+      & code-takes sent stored (o .code) (j .code-right)
+      & tif-takes sent stored (o .order) (j .order-right)
+      & time-takes sent stored (s .time) (i .time-right)
+      & or-number-takes sent stored (o .order .mpid) (j .mpid-right)
+      & char-takes sent stored 52
+      & open-takes sent stored (o .order) (j .order-right)
+      & b
+      & listed-takes sent stored 9 9 9 9 9 9 9 9 9 (omega arith) refl
+      & class-takes sent stored (o .class) (j .class-right)
+      & tt)
+
+  -- Replaced, as requested or by a decrement
+  pub replaced-fits : (sum : ℕ) (s : Stamp) (o : Shown) (w : Ground) → StampRight sent stored s → ShownRight sent stored o → ReplacedRight sent stored o w
+      → Fits sent stored (trailer sum) (slotsOf Replaced) (padded (replacedRow s o w))
+  replaced-fits sum s o w i j (replaced-on-request {orig} r) =
+      replaced-takes-fits sum s o (requested orig) i j (text-takes sent stored 32 32 orig r) (inl refl)
+  replaced-fits sum s o w i j by-decrement =
+      replaced-takes-fits sum s o (decremented o) i j (text-takes sent stored 32 32 (o .id) (j .id-right))
+      (inr (listed-takes sent stored 100 100 100 100 100 100 100 100 100 (omega arith) refl))
+
+  -- Canceled, as requested, by prevention, or an IOC's rest
+  pub canceled-fits : (sum : ℕ) (s : Stamp) (o : Shown) (w : Ground) → StampRight sent stored s → ShownRight sent stored o → CanceledRight sent stored w
+      → Fits sent stored (trailer sum) (slotsOf Canceled) (padded (canceledRow s o w))
+  canceled-fits sum s o w i j (canceled-on-request {orig} r) =
+      canceled-takes-fits sum s o (requested orig) i j (inr (text-takes sent stored 32 32 orig r)) (inl refl)
+  canceled-fits sum s o w i j by-prevention =
+      canceled-takes-fits sum s o prevented i j (inl refl) (inr (listed-takes sent stored 99 100 100 100 100 100 100 100 100 (omega arith) refl))
+  canceled-fits sum s o w i j at-the-end =
+      canceled-takes-fits sum s o expired i j (inl refl) (inr (listed-takes sent stored 99 100 100 100 100 100 100 100 99 (omega arith) refl))
+
+  -- a Trade
+  pub trade-fits : (sum : ℕ) (s : Stamp) (o : Shown) (f : Fill) → StampRight sent stored s → ShownRight sent stored o → FillRight f → Fits sent stored (trailer sum) (slotsOf Trade) (padded (tradeRow s o f))
+  unfolding tradeSlots tradeFields figuresOf header label decimal
+  trade-fits sum s o f i j k =
+      all-fit sent stored 3 sum (take 33 tradeSlots) (tradeRow s o f) (kinds-proper Trade) refl
+      (char-takes sent stored 56
+      & number-takes sent stored 1 999999999 (s .number) (i .number-low) (i .number-high) (omega (arith, i .number-high))
+      & text-takes sent stored 8 33 (s .venue) (i .venue-right)
+      & word-takes sent stored 68 74 71 66
+      & time-takes sent stored (s .time) (i .time-right)
+      & text-takes sent stored 8 33 (s .port) (i .port-right)
+      & maybe-text 10 32 (o .account) (j .account-right)
+      & average-takes sent stored (o .order) (j .order-right)
+      & text-takes sent stored 32 32 (o .id) (j .id-right)
+      & executed-takes sent stored (o .order) (j .order-right)
+      & number-takes sent stored 1 999999999 (s .number) (i .number-low) (i .number-high) (omega (arith, i .number-high))
+      & char-takes sent stored 48
+      & level-takes sent stored (f .level) (k .level-low) (k .level-high)
+      & number-takes sent stored 0 999999999 (f .quantity) (omega arith) (k .quantity-right) (omega (arith, k .quantity-right))
+      & number-takes sent stored 1 255 (o .orderid) (j .orderid-low) (j .orderid-high) (omega (arith, j .orderid-high))
+      & quantity-takes sent stored (o .order) (j .order-right)
+      & traded-takes sent stored (o .order)
+      & char-takes sent stored 50
+      & level-takes sent stored (o .order .level) (j .order-right .level-low) (j .order-right .level-high)
+      & capacity-takes sent stored (o .capacity) (j .capacity-right)
+      & side-takes sent stored (o .order) (j .order-right)
+      & code-takes sent stored (o .code) (j .code-right)
+      & tif-takes sent stored (o .order) (j .order-right)
+      & time-takes sent stored (s .time) (i .time-right)
+      & or-number-takes sent stored (o .order .mpid) (j .mpid-right)
+      & traded-takes sent stored (o .order)
+      & open-takes sent stored (o .order) (j .order-right)
+      & number-takes sent stored 0 999999 (f .other) (omega arith) (k .other-right) (omega (arith, k .other-right))
+      & listed-takes sent stored 1 1 1 1 1 1 1 1 1 (omega arith) refl
+      & listed-takes sent stored 9 9 9 9 9 9 9 9 9 (omega arith) refl
+      & two-takes sent stored (f .liquidity) (k .liquidity-right)
+      & number-takes sent stored 1 999999999 (f .first) (k .first-low) (k .first-high) (omega (arith, k .first-high))
+      & class-takes sent stored (o .class) (j .class-right)
+      & tt)
+
+  -- Rejected
+  pub rejected-fits : (sum : ℕ) (s : Stamp) (q : Refused) → StampRight sent stored s → RefusedRight sent stored q → Fits sent stored (trailer sum) (slotsOf Rejected) (padded (rejectedRow s q))
+  unfolding rejectedSlots rejectedRow meanOf header label decimal
+  rejected-fits sum s q i j =
+      all-fit sent stored 17 sum (take 19 rejectedSlots) (rejectedRow s q) (kinds-proper Rejected) refl
+      (char-takes sent stored 56
+      & number-takes sent stored 1 999999999 (s .number) (i .number-low) (i .number-high) (omega (arith, i .number-high))
+      & text-takes sent stored 8 33 (s .venue) (i .venue-right)
+      & word-takes sent stored 68 74 71 66
+      & time-takes sent stored (s .time) (i .time-right)
+      & text-takes sent stored 8 33 (s .port) (i .port-right)
+      & mean-takes sent stored (meanOf 0 0) (omega arith) (omega arith)
+      & text-takes sent stored 32 32 (text (q .id)) (j .id-right)
+      & listed-takes sent stored 0 0 0 0 0 0 0 0 0 (omega arith) refl
+      & number-takes sent stored 1 999999999 (s .number) (i .number-low) (i .number-high) (omega (arith, i .number-high))
+      & char-takes sent stored 48
+      & word-takes sent stored 78 79 78 69
+      & number-takes sent stored 0 999999999 (q .quantity) (omega arith) (j .quantity-right) (omega (arith, j .quantity-right))
+      & char-takes sent stored 56
+      & asked-side-takes sent stored (q .side) (j .side-right)
+      & code-takes sent stored (text (q .code)) (j .code-right)
+      & refusal-takes sent stored (q .reason) (j .reason-right)
+      & char-takes sent stored 56
+      & listed-takes sent stored 0 0 0 0 0 0 0 0 0 (omega arith) refl
+      & tt)
+
+  -- a Cancel reject
+  pub cancel-reject-fits : (sum : ℕ) (s : Stamp) (u : Unchanged) → StampRight sent stored s → UnchangedRight sent stored u → Fits sent stored (trailer sum) (slotsOf CancelReject) (padded (cancelRejectRow s u))
+  unfolding cancelRejectSlots cancelRejectRow header label decimal
+  cancel-reject-fits sum s u i j =
+      all-fit sent stored 24 sum (take 12 cancelRejectSlots) (cancelRejectRow s u) (kinds-proper CancelReject) refl
+      (char-takes sent stored 57
+      & number-takes sent stored 1 999999999 (s .number) (i .number-low) (i .number-high) (omega (arith, i .number-high))
+      & text-takes sent stored 8 33 (s .venue) (i .venue-right)
+      & word-takes sent stored 68 74 71 66
+      & time-takes sent stored (s .time) (i .time-right)
+      & text-takes sent stored 8 33 (s .port) (i .port-right)
+      & text-takes sent stored 32 32 (text (u .id)) (j .id-right)
+      & or-nobody-takes sent stored (u .orderid) (j .orderid-right)
+      & status-takes sent stored (u .status) (j .status-right)
+      & text-takes sent stored 32 32 (text (u .orig)) (j .orig-right)
+      & reason-takes sent stored (u .reason) (j .reason-right)
+      & two-takes sent stored (u .response) (j .response-right)
+      & tt)
+
+  -- a Session Reject
+  pub session-reject-fits : (sum : ℕ) (s : Stamp) (f : Faulty) → StampRight sent stored s → FaultyRight sent stored f → Fits sent stored (trailer sum) (slotsOf SessionReject) (padded (sessionRejectRow s f))
+  unfolding sessionRejectSlots sessionRejectRow header label decimal
+  session-reject-fits sum s f i j =
+      all-fit sent stored 26 sum (take 10 sessionRejectSlots) (sessionRejectRow s f) (kinds-proper SessionReject) refl
+      (char-takes sent stored 51
+      & number-takes sent stored 1 999999999 (s .number) (i .number-low) (i .number-high) (omega (arith, i .number-high))
+      & text-takes sent stored 8 33 (s .venue) (i .venue-right)
+      & word-takes sent stored 68 74 71 66
+      & time-takes sent stored (s .time) (i .time-right)
+      & text-takes sent stored 8 33 (s .port) (i .port-right)
+      & number-takes sent stored 1 999999999 (f .sequence) (j .sequence-low) (j .sequence-high) (omega (arith, j .sequence-high))
+      & number-takes sent stored 1 9999 (f .tag) (j .tag-low) (j .tag-high) (omega (arith, j .tag-high))
+      & text-takes sent stored 2 32 (text (f .kind)) (j .kind-right)
+      & fault-takes sent stored (f .reason) (j .reason-right)
+      & tt)

@@ -1,0 +1,309 @@
+-- What a shape takes: each value that a report is written from, where it is right, is read back as it was written.
+use Prim.Native.Nat.{ℕ, _+_, _^_, _%_, _≤_, _<_}
+use native.Mathlib.Omega.{arith}
+use mathlib.Core.Path.{_≡_, refl, ap}
+use mathlib.Core.Bool.{true, false, _&&_, _||_, false≢true}
+use mathlib.Core.List.{List, [], _∷_}
+use mathlib.Core.Logic.{_⊎_, inl, inr}
+use lib.Dec.{leb, eqb}
+use lib.ListN.{length}
+use borrow.Author.Tests.{eq-eqb, ne-eqb, le-leb, le-ltb, eqb-true, eqb-false, leb-true}
+use Rattle.octets.specs.Octets.{sameBytes}
+use Rattle.octets.proofs.Bools.{split, both-l, both-r, or-r}
+use Rattle.decimal.specs.declared.Said.the-variants.{Value as Says}
+use Rattle.decimal.specs.Reading.{numOf}
+use Rattle.decimal.specs.Writing.{decimal, meanOf}
+use Rattle.decimal.specs.Canonical.{bareOf, within}
+use Rattle.decimal.proofs.Digits.{decimal-few}
+use Rattle.decimal.proofs.Means.{mean-range}
+use Rattle.decimal.proofs.RoundTrip.{bare-back, fixed-back}
+use Rattle.matching.specs.declared.Order.{Order}
+use Rattle.matching.specs.Matching.{openOf}
+use Rattle.matching.specs.Held.{Sound}
+use Rattle.table.specs.Market.{isCapacity, isClass}
+use Rattle.report.specs.declared.Value.{Value}
+use Rattle.report.specs.declared.Value.the-variants.{Absent, Number, Char, Word, Sent, Stored, Level, Mean}
+use Rattle.report.specs.declared.Shape.{Shape}
+use Rattle.report.specs.declared.Shape.the-variants as shape
+use Rattle.report.specs.declared.Pick.the-variants.{Is}
+use Rattle.report.specs.Fields.{isAbsent, valueBytes}
+use Rattle.report.specs.Shapes.{oneIn, numberIn, wordIn, recordIn, textIn, timeIn, yieldIn, averageIn, valueIn}
+use Rattle.report.proofs.Taken.{same-is}
+use Rattle.report.proofs.Back.{moved, same-back}
+use Rattle.rows.specs.Rows.{digit, orNumber, orNobody, avgPx, replacedStatus, tradeStatus}
+use Rattle.ticket.specs.Legible.{isAmong}
+use Rattle.readback.specs.Right.{isPart, TextRight, CodeRight, TimeRight}
+
+-- the shape takes the value and gives it back, a text at its place in the report
+pub record Takes (sent stored : List ℕ) (f : Shape) (v : Value) : Type 0 where
+  pub here : isAbsent v ≡ false
+  pub picked : (place : ℕ) → valueIn f place (valueBytes sent stored v) ≡ Is (moved sent stored place v)
+
+-- ---- a number of a list: what holds of each holds of it
+abbrev pub Each : (ℕ → Type 0) → List ℕ → Type 0
+Each P [] = Unit {0}
+Each P (x ∷ xs) = P x × Each P xs
+
+pub among-each : (P : ℕ → Type 0) (xs : List ℕ) (n : ℕ) → isAmong xs n ≡ true → Each P xs → P n
+among-each P [] n e p = absurd (false≢true e)
+among-each P (x ∷ xs) n e p =
+    split (eqb n x) (λ t. rw (eqb-true n x t) (p .0)) (λ t. among-each P xs n (or-r (eqb n x) (isAmong xs n) e t) (p .1))
+
+-- a text is read back as its place and its length
+pub part-moved : (sent stored : List ℕ) (place : ℕ) (v : Value) → isPart v ≡ true → Sent place (length (valueBytes sent stored v)) ≡ moved sent stored place v
+part-moved sent stored place Absent e = absurd (false≢true e)
+part-moved sent stored place (Number n) e = absurd (false≢true e)
+part-moved sent stored place (Char c) e = absurd (false≢true e)
+part-moved sent stored place (Word w x y z) e = absurd (false≢true e)
+part-moved sent stored place (Sent from len) e = refl
+part-moved sent stored place (Stored from len) e = refl
+part-moved sent stored place (Level level) e = absurd (false≢true e)
+part-moved sent stored place (Mean mean) e = absurd (false≢true e)
+
+pub part-here : (v : Value) → isPart v ≡ true → isAbsent v ≡ false
+part-here Absent e = absurd (false≢true e)
+part-here (Number n) e = refl
+part-here (Char c) e = refl
+part-here (Word w x y z) e = refl
+part-here (Sent from len) e = refl
+part-here (Stored from len) e = refl
+part-here (Level level) e = refl
+part-here (Mean mean) e = refl
+
+within-back : (least most n : ℕ) → least ≤ n → n ≤ most → n < 10 ^ 9 → within least most (bareOf 9 (decimal n)) ≡ Says n
+within-back least most n l h f = rw (bare-back 8 n f (omega arith)) (simp (le-leb least n l, le-leb n most h))
+
+module _ (sent stored : List ℕ) where
+  -- ---- characters and words
+  pub char-takes : (c : ℕ) → Takes sent stored (shape.OneOf c c c c c) (Char c)
+  unfolding oneIn
+  char-takes c = record { here = refl; picked = λ place. rw (eq-eqb c c refl) }
+
+  pub word-takes : (w x y z : ℕ) → Takes sent stored (shape.Exact w x y z) (Word w x y z)
+  unfolding wordIn
+  word-takes w x y z = record { here = refl; picked = λ place. rw (same-back (w ∷ x ∷ y ∷ z ∷ [])) }
+
+  -- ---- numbers
+  pub number-takes : (least most n : ℕ) → least ≤ n → n ≤ most → n < 10 ^ 9 → Takes sent stored (shape.Range least most) (Number n)
+  number-takes least most n l h f = record { here = refl; picked = λ place. ap numberIn (within-back least most n l h f) }
+
+  -- an MPID, or none
+  pub or-number-takes : (n : ℕ) → n ≤ 999999 → (orNumber n ≡ Absent) ⊎ Takes sent stored (shape.Range 1 999999) (orNumber n)
+  unfolding orNumber
+  or-number-takes n h =
+      split (eqb n 0) (λ e. rw e (inl refl))
+      (λ e. rw e (inr (number-takes 1 999999 n (omega (arith, eqb-false n 0 e)) h (omega arith))))
+
+  -- an order's record, or NONE
+  not-none : (n : ℕ) → 1 ≤ n → n ≤ 255 → sameBytes (decimal n) (78 ∷ 79 ∷ 78 ∷ 69 ∷ []) ≡ false
+  not-none n l h =
+      split (sameBytes (decimal n) (78 ∷ 79 ∷ 78 ∷ 69 ∷ []))
+      (λ e. absurd (omega (arith, decimal-few 2 n (omega arith), ap length (same-is (decimal n) (78 ∷ 79 ∷ 78 ∷ 69 ∷ []) e))))
+      (λ e. e)
+
+  pub or-nobody-takes : (n : ℕ) → n ≤ 255 → Takes sent stored shape.Record (orNobody n)
+  unfolding orNobody recordIn
+  or-nobody-takes n h =
+      split (eqb n 0)
+      (λ e. rw e (record { here = refl; picked = λ place. rw (same-back (78 ∷ 79 ∷ 78 ∷ 69 ∷ [])) }))
+      (λ e. let l : 1 ≤ n = omega (arith, eqb-false n 0 e) in
+      rw e (record { here = refl; picked = λ place. rw (not-none n l h) (ap numberIn (within-back 1 255 n l h (omega arith))) }))
+
+  -- ---- digits as characters
+  abbrev Digit : Shape → ℕ → Type 0
+  Digit f n = Takes sent stored f (digit n)
+
+  -- a digit of a shape's five
+  one-digit : (a b c d e n : ℕ) → n < 10 → (eqb (48 + n) a || eqb (48 + n) b || eqb (48 + n) c || eqb (48 + n) d || eqb (48 + n) e) ≡ true
+      → Digit (shape.OneOf a b c d e) n
+  unfolding oneIn digit
+  one-digit a b c d e n h t =
+      let z : 48 + n % 10 ≡ 48 + n = omega arith in
+      record { here = refl; picked = λ place. rw z (simp t) }
+
+  either : (P : ℕ → Type 0) (n a b : ℕ) → (eqb n a || eqb n b) ≡ true → P a → P b → P n
+  either P n a b e p q =
+      split (eqb n a) (λ t. rw (eqb-true n a t) p) (λ t. rw (eqb-true n b (or-r (eqb n a) (eqb n b) e t)) q)
+
+  -- side and time in force
+  pub side-takes : (o : Order) → Sound o → Digit (shape.OneOf 49 50 50 50 50) (o .side)
+  side-takes o h =
+      either (Digit (shape.OneOf 49 50 50 50 50)) (o .side) 1 2 (h .sides)
+      (one-digit 49 50 50 50 50 1 (omega arith) refl) (one-digit 49 50 50 50 50 2 (omega arith) refl)
+
+  pub tif-takes : (o : Order) → Sound o → Digit (shape.OneOf 48 51 51 51 51) (o .tif)
+  tif-takes o h =
+      either (Digit (shape.OneOf 48 51 51 51 51)) (o .tif) 0 3 (h .tifs)
+      (one-digit 48 51 51 51 51 0 (omega arith) refl) (one-digit 48 51 51 51 51 3 (omega arith) refl)
+
+  -- 39 of Replaced and of a Trade
+  pub replaced-takes : (o : Order) → Digit (shape.OneOf 49 53 53 53 53) (replacedStatus o)
+  unfolding replacedStatus
+  replaced-takes o =
+      split (eqb (o .executed) 0) (λ e. rw e (one-digit 49 53 53 53 53 5 (omega arith) refl)) (λ e. rw e (one-digit 49 53 53 53 53 1 (omega arith) refl))
+
+  pub traded-takes : (o : Order) → Digit (shape.OneOf 49 50 50 50 50) (tradeStatus o)
+  unfolding tradeStatus
+  traded-takes o =
+      split (eqb (openOf o) 0) (λ e. rw e (one-digit 49 50 50 50 50 2 (omega arith) refl)) (λ e. rw e (one-digit 49 50 50 50 50 1 (omega arith) refl))
+
+  -- capacity and classification
+  pub capacity-takes : (c : ℕ) → isCapacity c ≡ true → Takes sent stored (shape.OneOf 65 80 80 80 80) (Char c)
+  unfolding isCapacity oneIn
+  capacity-takes c e =
+      either (λ x. Takes sent stored (shape.OneOf 65 80 80 80 80) (Char x)) c 65 80 e
+      (record { here = refl; picked = λ place. refl }) (record { here = refl; picked = λ place. refl })
+
+  pub class-takes : (c : ℕ) → isClass c ≡ true → Digit (shape.OneOf 49 51 52 53 54) c
+  unfolding isClass
+  class-takes c e =
+      split (eqb c 1)
+      (λ t. rw (eqb-true c 1 t) (one-digit 49 51 52 53 54 1 (omega arith) refl))
+      (λ t.
+      let r = or-r (eqb c 1) (leb 3 c && leb c 6) e t in
+      let l = leb-true 3 c (both-l (leb 3 c) (leb c 6) r) in
+      let h = leb-true c 6 (both-r (leb 3 c) (leb c 6) r) in
+      among-each (Digit (shape.OneOf 49 51 52 53 54)) (3 ∷ 4 ∷ 5 ∷ 6 ∷ []) c (some c l h) (
+        one-digit 49 51 52 53 54 3 (omega arith) refl,
+        (
+          one-digit 49 51 52 53 54 4 (omega arith) refl,
+          (
+            one-digit 49 51 52 53 54 5 (omega arith) refl,
+            (one-digit 49 51 52 53 54 6 (omega arith) refl, tt),
+          ),
+        ),
+      ))
+    where
+      some : (c : ℕ) → 3 ≤ c → c ≤ 6 → isAmong (3 ∷ 4 ∷ 5 ∷ 6 ∷ []) c ≡ true
+      some c l h =
+          split (eqb c 3) (λ t. rw t)
+          (λ t. rw t (split (eqb c 4) (λ u. rw u) (λ u. rw u (split (eqb c 5) (λ v. rw v) (λ v. rw v
+          (rw (eq-eqb c 6 (omega (arith, eqb-false c 3 t, eqb-false c 4 u, eqb-false c 5 v)))))))))
+
+  -- 54 of Rejected and 39 of a Cancel reject
+  pub asked-side-takes : (n : ℕ) → isAmong (1 ∷ 2 ∷ []) n ≡ true → Digit (shape.OneOf 49 50 50 50 50) n
+  asked-side-takes n e =
+      among-each (Digit (shape.OneOf 49 50 50 50 50)) (1 ∷ 2 ∷ []) n e
+      (one-digit 49 50 50 50 50 1 (omega arith) refl, (one-digit 49 50 50 50 50 2 (omega arith) refl, tt))
+
+  pub status-takes : (n : ℕ) → isAmong (0 ∷ 1 ∷ 2 ∷ 4 ∷ 8 ∷ []) n ≡ true → Digit (shape.OneOf 48 49 50 52 56) n
+  status-takes n e =
+      among-each (Digit (shape.OneOf 48 49 50 52 56)) (0 ∷ 1 ∷ 2 ∷ 4 ∷ 8 ∷ []) n e (
+        one-digit 48 49 50 52 56 0 (omega arith) refl,
+        (
+          one-digit 48 49 50 52 56 1 (omega arith) refl,
+          (
+            one-digit 48 49 50 52 56 2 (omega arith) refl,
+            (
+              one-digit 48 49 50 52 56 4 (omega arith) refl,
+              (one-digit 48 49 50 52 56 8 (omega arith) refl, tt),
+            ),
+          ),
+        ),
+      )
+
+  -- ---- one of eight numbers
+  pub listed-takes : (a b c d e f g h n : ℕ) → n < 10 ^ 9 → (eqb n a || eqb n b || eqb n c || eqb n d || eqb n e || eqb n f || eqb n g || eqb n h) ≡ true
+      → Takes sent stored (shape.Listed a b c d e f g h) (Number n)
+  listed-takes a b c d e f g h n l t =
+      record { here = refl; picked = λ place. rw (bare-back 8 n l (omega arith)) (simp t) }
+
+  -- 103, 102, 434, 373, 851
+  pub refusal-takes : (n : ℕ) → isAmong (0 ∷ 1 ∷ 6 ∷ 99 ∷ []) n ≡ true → Takes sent stored (shape.Listed 0 1 6 99 99 99 99 99) (Number n)
+  refusal-takes n e =
+      among-each (λ x. Takes sent stored (shape.Listed 0 1 6 99 99 99 99 99) (Number x)) (0 ∷ 1 ∷ 6 ∷ 99 ∷ []) n e (
+        listed-takes 0 1 6 99 99 99 99 99 0 (omega arith) refl,
+        (
+          listed-takes 0 1 6 99 99 99 99 99 1 (omega arith) refl,
+          (
+            listed-takes 0 1 6 99 99 99 99 99 6 (omega arith) refl,
+            (listed-takes 0 1 6 99 99 99 99 99 99 (omega arith) refl, tt),
+          ),
+        ),
+      )
+
+  pub reason-takes : (n : ℕ) → isAmong (0 ∷ 1 ∷ 2 ∷ []) n ≡ true → Takes sent stored (shape.Listed 0 1 2 2 2 2 2 2) (Number n)
+  reason-takes n e =
+      among-each (λ x. Takes sent stored (shape.Listed 0 1 2 2 2 2 2 2) (Number x)) (0 ∷ 1 ∷ 2 ∷ []) n e (
+        listed-takes 0 1 2 2 2 2 2 2 0 (omega arith) refl,
+        (
+          listed-takes 0 1 2 2 2 2 2 2 1 (omega arith) refl,
+          (listed-takes 0 1 2 2 2 2 2 2 2 (omega arith) refl, tt),
+        ),
+      )
+
+  pub two-takes : (n : ℕ) → isAmong (1 ∷ 2 ∷ []) n ≡ true → Takes sent stored (shape.Listed 1 2 2 2 2 2 2 2) (Number n)
+  two-takes n e =
+      among-each (λ x. Takes sent stored (shape.Listed 1 2 2 2 2 2 2 2) (Number x)) (1 ∷ 2 ∷ []) n e
+      (listed-takes 1 2 2 2 2 2 2 2 1 (omega arith) refl, (listed-takes 1 2 2 2 2 2 2 2 2 (omega arith) refl, tt))
+
+  pub fault-takes : (n : ℕ) → isAmong (1 ∷ 2 ∷ 3 ∷ 4 ∷ 5 ∷ 6 ∷ 9 ∷ 11 ∷ []) n ≡ true → Takes sent stored (shape.Listed 1 2 3 4 5 6 9 11) (Number n)
+  fault-takes n e =
+      among-each (λ x. Takes sent stored (shape.Listed 1 2 3 4 5 6 9 11) (Number x)) (1 ∷ 2 ∷ 3 ∷ 4 ∷ 5 ∷ 6 ∷ 9 ∷ 11 ∷ []) n e (
+        listed-takes 1 2 3 4 5 6 9 11 1 (omega arith) refl,
+        (
+          listed-takes 1 2 3 4 5 6 9 11 2 (omega arith) refl,
+          (
+            listed-takes 1 2 3 4 5 6 9 11 3 (omega arith) refl,
+            (
+              listed-takes 1 2 3 4 5 6 9 11 4 (omega arith) refl,
+              (
+                listed-takes 1 2 3 4 5 6 9 11 5 (omega arith) refl,
+                (
+                  listed-takes 1 2 3 4 5 6 9 11 6 (omega arith) refl,
+                  (
+                    listed-takes 1 2 3 4 5 6 9 11 9 (omega arith) refl,
+                    (listed-takes 1 2 3 4 5 6 9 11 11 (omega arith) refl, tt),
+                  ),
+                ),
+              ),
+            ),
+          ),
+        ),
+      )
+
+  -- ---- texts
+  pub text-takes : (most low : ℕ) (v : Value) → TextRight sent stored most low v → Takes sent stored (shape.Text most low) v
+  unfolding textIn
+  text-takes most low v r =
+      let b = valueBytes sent stored v in
+      record {
+        here = part-here v (r .a-text);
+        picked = λ place.
+            rw (ne-eqb (length b) 0 (λ e. omega (arith, e, r .some)), le-ltb most (length b) (r .few), r .all)
+            (ap Is (part-moved sent stored place v (r .a-text)));
+      }
+
+  pub code-takes : (v : Value) → CodeRight sent stored v → Takes sent stored shape.Digits v
+  unfolding numOf
+  code-takes v r =
+      record { here = part-here v (r .a-text); picked = λ place. rw (r .digits) (ap Is (part-moved sent stored place v (r .a-text))) }
+
+  pub time-takes : (v : Value) → TimeRight sent stored v → Takes sent stored shape.Time v
+  unfolding timeIn
+  time-takes v r =
+      record { here = part-here v (r .a-text); picked = λ place. rw (r .time) (ap Is (part-moved sent stored place v (r .a-text))) }
+
+  -- ---- yields and AvgPx
+  pub level-takes : (l : ℕ) → 0 < l → l ≤ 1999999999 → Takes sent stored shape.Yield (Level l)
+  level-takes l a b = record { here = refl; picked = λ place. ap yieldIn (fixed-back 3 l (omega arith) a (omega arith)) }
+
+  pub mean-takes : (m : ℕ) → 0 < m → m < 2000000000000 → Takes sent stored shape.Average (Mean m)
+  mean-takes m a b = record { here = refl; picked = λ place. ap averageIn (fixed-back 6 m (omega arith) a (omega arith)) }
+
+  pub average-takes : (o : Order) → Sound o → Takes sent stored shape.Average (Mean (avgPx o))
+  unfolding avgPx
+  average-takes o h =
+      let r = mean-range (o .sum) (o .executed) (h .sum-low) (h .sum-high) in
+      mean-takes (meanOf (o .sum) (o .executed)) (r .0) (r .1)
+
+  -- ---- the quantities of an order
+  pub open-takes : (o : Order) → Sound o → Takes sent stored (shape.Range 0 999999999) (Number (openOf o))
+  unfolding openOf
+  open-takes o h = number-takes 0 999999999 (openOf o) (omega arith) (omega (arith, h .qty-high)) (omega (arith, h .qty-high))
+
+  pub executed-takes : (o : Order) → Sound o → Takes sent stored (shape.Range 0 999999999) (Number (o .executed))
+  executed-takes o h = number-takes 0 999999999 (o .executed) (omega arith) (omega (arith, h .qty-high, h .covered)) (omega (arith, h .qty-high, h .covered))
+
+  pub quantity-takes : (o : Order) → Sound o → Takes sent stored (shape.Range 0 999999999) (Number (o .qty))
+  quantity-takes o h = number-takes 0 999999999 (o .qty) (omega arith) (omega (arith, h .qty-high)) (omega (arith, h .qty-high))

@@ -1,0 +1,69 @@
+-- What the report of an event says when it is read (document 01, "The reports"; Demand 3 takes its tallies from these): its kind, and
+-- the numbers of the order after the event, with 32 and 375 of a trade and 378 of what prevention or an IOC's end did. Assumes nothing.
+use Prim.Native.Nat.{ℕ}
+use mathlib.Core.Path.{_≡_}
+use mathlib.Core.List.{List}
+use Rattle.matching.specs.declared.Event.{Event}
+use Rattle.matching.specs.declared.Event.the-variants.{Accepted, Replaced, Withdrawn, Canceled, Decremented, Traded, Expired}
+use Rattle.matching.specs.Matching.{openOf, who}
+use Rattle.table.specs.Orders.{orderAt}
+use Rattle.report.specs.declared.Kind.{Kind}
+use Rattle.report.specs.declared.Kind.the-variants as kind
+use Rattle.report.specs.declared.Reading.{Reading}
+use Rattle.ticket.specs.Tickets.{orderIdAt}
+use Rattle.readback.specs.Says.{says}
+
+-- the kind of report that an event has
+abbrev pub kindTold : Event → Kind
+kindTold (Accepted i o) = kind.Accepted
+kindTold (Replaced i l q p) = kind.Replaced
+kindTold (Withdrawn i q) = kind.Canceled
+kindTold (Canceled i q) = kind.Canceled
+kindTold (Decremented i q) = kind.Replaced
+kindTold (Traded i m q l) = kind.Trade
+kindTold (Expired i q) = kind.Canceled
+
+-- its 378: 100 by prevention, 99 for an IOC's rest, 0 where it is absent
+abbrev pub reasonTold : Event → ℕ
+reasonTold (Accepted i o) = 0
+reasonTold (Replaced i l q p) = 0
+reasonTold (Withdrawn i q) = 0
+reasonTold (Canceled i q) = 100
+reasonTold (Decremented i q) = 100
+reasonTold (Traded i m q l) = 0
+reasonTold (Expired i q) = 99
+
+-- its 32, what was traded: 0 where nothing was
+abbrev pub quantityTold : Event → ℕ
+quantityTold (Accepted i o) = 0
+quantityTold (Replaced i l q p) = 0
+quantityTold (Withdrawn i q) = 0
+quantityTold (Canceled i q) = 0
+quantityTold (Decremented i q) = 0
+quantityTold (Traded i m q l) = q
+quantityTold (Expired i q) = 0
+
+-- its 375, the other's MPID in a trade, 0 for none
+abbrev pub otherTold : List ℕ → Event → ℕ
+otherTold t (Accepted i o) = 0
+otherTold t (Replaced i l q p) = 0
+otherTold t (Withdrawn i q) = 0
+otherTold t (Canceled i q) = 0
+otherTold t (Decremented i q) = 0
+otherTold t (Traded i m q l) = orderAt t m .mpid
+otherTold t (Expired i q) = 0
+
+-- report number n of event e, the table after it being t
+pub record SaysEvent (t : List ℕ) (n : ℕ) (e : Event) (r : Reading) : Type 0 where
+  pub is-kind : r .kind ≡ kindTold e
+  pub says-34 : says 34 r ≡ n
+  pub says-17 : says 17 r ≡ n
+  pub says-37 : says 37 r ≡ orderIdAt t (who e)
+  pub says-38 : says 38 r ≡ orderAt t (who e) .qty
+  pub says-14 : says 14 r ≡ orderAt t (who e) .executed
+  pub says-151 : says 151 r ≡ openOf (orderAt t (who e))
+  pub says-54 : says 54 r ≡ orderAt t (who e) .side
+  pub says-109 : says 109 r ≡ orderAt t (who e) .mpid
+  pub says-378 : says 378 r ≡ reasonTold e
+  pub says-32 : says 32 r ≡ quantityTold e
+  pub says-375 : says 375 r ≡ otherTold t e

@@ -1,0 +1,43 @@
+-- What holds of Run, for every table, every length of the report area and every budget of steps. Each statement is in the words
+-- of the definitions; the proofs lead to the laws.
+use mathlib.Core.Path.{_≡_}
+use mathlib.Core.Bool.{true}
+use mathlib.Core.List.{List}
+use Prim.Native.Nat.{ℕ, _+_, _-_, _*_, _≤_}
+use lib.ListN.{length}
+use Rattle.matching.specs.Matching.{metBy, run}
+use Rattle.table.specs.Heading.{workOf, modeOf}
+use Rattle.table.specs.Orders.{bookOf}
+use Rattle.table.specs.Market.{isMarket}
+use Rattle.table.proofs.Facts.{market-facts}
+use Rattle.calls.specs.Told.{joined}
+use Rattle.calls.specs.Run.{worked, ran}
+use Rattle.turns.specs.Runs.{GoesOn, Agrees, Ended}
+use Rattle.turns.proofs.Taking.{worked-few, worked-on, ran-kept}
+use Rattle.turns.proofs.Agreeing.{agrees, work-ends}
+
+-- Run on a market leaves a market, whatever it answers
+pub run-keeps : (t : List ℕ) (room budget : ℕ) → isMarket t ≡ true → isMarket (ran t room budget .table) ≡ true
+run-keeps t room budget m = ran-kept t room budget m
+
+-- it takes no more steps than its budget
+pub within-budget : (t : List ℕ) (room budget : ℕ) → worked budget t room .steps ≤ budget
+within-budget t room budget = worked-few budget t room
+
+-- m steps and then n, with the room that the first have left, are the same as m + n steps
+pub run-goes-on : (m n : ℕ) (t : List ℕ) (room : ℕ)
+    → let first = worked m t room in
+    GoesOn first (worked n (first .table) (room - length (joined (first .reports)))) (worked (m + n) t room)
+run-goes-on = worked-on
+
+-- where there are 1,024 bytes for each step, the steps on a market are matching's steps on its book: the same book, order in work
+-- and number of steps, and a report for each event
+pub run-is-matching : (n : ℕ) (t : List ℕ) (room : ℕ) → isMarket t ≡ true → 1024 * n ≤ room
+    → Agrees (worked n t room) (run (modeOf t) n (bookOf t) (workOf t))
+run-is-matching n t room m h = agrees n t room (market-facts t m) h
+
+-- done: with m + 1 steps or more, and 1,024 bytes for each of m + 1, nothing is in work afterwards, and no more than m + 1 steps were
+-- taken, m being the open opposite orders that the order in work meets
+pub run-ends : (n : ℕ) (t : List ℕ) (room : ℕ) → isMarket t ≡ true → metBy (bookOf t) (workOf t) + 1 ≤ n
+    → 1024 * (metBy (bookOf t) (workOf t) + 1) ≤ room → Ended n t room (metBy (bookOf t) (workOf t))
+run-ends n t room m l h = work-ends n t room (market-facts t m) l h

@@ -1,0 +1,198 @@
+// One step of the order in work: whom it is matched with, what that comes to, and what happens then.
+ghost use mathlib.Core.Path.{_≡_};
+ghost use mathlib.Core.List.{[], _∷_};
+ghost use Prim.Native.Nat.{_+_, _≤_, _<_};
+ghost use lib.ListN.{length};
+ghost use Rattle.matching.specs.Matching.{openOf, at, partner, outcome, causes, preventing};
+ghost use Rattle.matching.specs.declared.Prevention.the-variants.{Decrement as Prevention·Decrement};
+ghost use Rattle.matching.specs.declared.Event.the-variants.{Traded};
+ghost use Rattle.table.specs.Places.{tableBytes};
+ghost use Rattle.table.specs.Heading.{workOf, modeOf};
+ghost use Rattle.table.specs.Orders.{orderAt, bookOf};
+ghost use Rattle.turns.specs.Turns.{Tellings, Reported, Busy, Planned, finished, Turned};
+use crate::events::Told;
+use crate::events::one;
+use crate::events::two;
+use matching::Event;
+use matching::Order;
+use matching::Outcome;
+use matching::Prevention;
+use matching::matched;
+use table::book::best;
+use table::book::filled;
+use table::entries::mode_of;
+use table::heading::end_work;
+use table::heading::next;
+use table::heading::put_next;
+use table::heading::work;
+use table::record::load;
+
+// What a step comes to: who is in work, the one he is matched with (0 for none), and the outcome.
+pub struct Plan {
+    pub work: u64,
+    pub other: u64,
+    pub came: Outcome,
+}
+
+// A decrement between w, in work, and r, resting: the smaller is canceled and the larger lowered; equal ones are both canceled, the
+// resting one first.
+fn decrement(
+    table: &mut [u8],
+    out: &mut [u8],
+    n: u64,
+    w: u64,
+    r: u64,
+    newest: u64,
+    oldest: u64,
+) -> Told
+    requires { ⌜ Tellings (now table) n (preventing w r (Prevention·Decrement newest oldest)) × (1024 ≤ length (now out)) ⌝ }
+    ensures { λ x. ⌜ Reported (now (table .entry)) (now (out .entry)) n (preventing w r (Prevention·Decrement newest oldest)) x (now (table .exit)) (now (out .exit)) ⌝ }
+{
+    let resting = Event::Canceled {
+        order: r,
+        quantity: oldest,
+    };
+    let working = Event::Canceled {
+        order: w,
+        quantity: newest,
+    };
+    if newest == oldest {
+        return two(table, out, n, resting, working);
+    }
+    if newest < oldest {
+        let lowered = Event::Decremented {
+            order: r,
+            quantity: newest,
+        };
+        return two(table, out, n, working, lowered);
+    }
+    let lowered = Event::Decremented {
+        order: w,
+        quantity: oldest,
+    };
+    two(table, out, n, resting, lowered)
+}
+
+// What the mode of one owner does with his order in work, w, and his resting one, r.
+fn prevent(table: &mut [u8], out: &mut [u8], n: u64, w: u64, r: u64, p: Prevention) -> Told
+    requires { ⌜ Tellings (now table) n (preventing w r p) × (1024 ≤ length (now out)) ⌝ }
+    ensures { λ x. ⌜ Reported (now (table .entry)) (now (out .entry)) n (preventing w r p) x (now (table .exit)) (now (out .exit)) ⌝ }
+{
+    match p {
+        Prevention::CancelNewest { quantity } => {
+            one(table, out, n, Event::Canceled { order: w, quantity })
+        }
+        Prevention::CancelOldest { quantity } => {
+            one(table, out, n, Event::Canceled { order: r, quantity })
+        }
+        Prevention::Decrement { newest, oldest } => {
+            decrement(table, out, n, w, r, newest, oldest)
+        }
+    }
+}
+
+// A trade between r, resting, and w, in work: the resting order is told of first.
+fn trade(
+    table: &mut [u8],
+    out: &mut [u8],
+    n: u64,
+    w: u64,
+    r: u64,
+    quantity: u64,
+    level: u64,
+) -> Told
+    requires { ⌜ Tellings (now table) n (Traded r w quantity level ∷ Traded w r quantity level ∷ []) × (1024 ≤ length (now out)) ⌝ }
+    ensures { λ x. ⌜ Reported (now (table .entry)) (now (out .entry)) n (Traded r w quantity level ∷ Traded w r quantity level ∷ []) x (now (table .exit)) (now (out .exit)) ⌝ }
+{
+    let resting = Event::Traded {
+        order: r,
+        other: w,
+        quantity,
+        level,
+    };
+    let working = Event::Traded {
+        order: w,
+        other: r,
+        quantity,
+        level,
+    };
+    two(table, out, n, resting, working)
+}
+
+// What a step comes to happens, and is told from report number n on.
+fn happen(table: &mut [u8], out: &mut [u8], n: u64, w: u64, r: u64, o: Outcome) -> Told
+    requires { ⌜ Tellings (now table) n (causes w r o) × (1024 ≤ length (now out)) ⌝ }
+    ensures { λ x. ⌜ Reported (now (table .entry)) (now (out .entry)) n (causes w r o) x (now (table .exit)) (now (out .exit)) ⌝ }
+{
+    match o {
+        Outcome::Trade { quantity, level } => trade(table, out, n, w, r, quantity, level),
+        Outcome::Prevented(p) => prevent(table, out, n, w, r, p),
+        Outcome::Expires { quantity } => one(table, out, n, Event::Expired { order: w, quantity }),
+        Outcome::Rests => Told {
+            bytes: 0,
+            reports: 0,
+        },
+    }
+}
+
+// The order that o, the order in work, is matched with; 0 if it has nothing open or meets none.
+fn partner_of(t: &[u8], o: Order) -> usize
+    requires { ⌜ Busy (now t) × (o ≡ orderAt (now t) (workOf (now t))) ⌝ }
+    ensures { λ r. ⌜ (r ≡ partner (bookOf (now (t .entry))) (workOf (now (t .entry)))) × (r ≤ 255) ⌝ }
+{
+    if o.is_open() {
+        return best(t, filled(t), o);
+    }
+    0
+}
+
+// What the step of o, the order in work, comes to, matched with r.
+fn comes_to(t: &[u8], o: Order, r: usize) -> Outcome
+    requires { ⌜ Busy (now t) × (o ≡ orderAt (now t) (workOf (now t))) × (r ≡ partner (bookOf (now t)) (workOf (now t))) ⌝ }
+    ensures { λ x. ⌜ x ≡ outcome (modeOf (now (t .entry))) (bookOf (now (t .entry))) (workOf (now (t .entry))) ⌝ }
+{
+    if r == 0 {
+        return o.ending();
+    }
+    matched(o, load(t, r), mode_of(t, o.mpid))
+}
+
+// What the next step comes to.
+fn planned(t: &[u8]) -> Plan
+    requires { ⌜ Busy (now t) ⌝ }
+    ensures { λ p. ⌜ Planned (now (t .entry)) p ⌝ }
+{
+    let w = work(t);
+    let o = load(t, w);
+    let r = partner_of(t, o);
+    let came = comes_to(t, o, r);
+    Plan {
+        work: w as u64,
+        other: r as u64,
+        came,
+    }
+}
+
+// Sets the next number, and ends the work of an order that was matched with none.
+fn finish(table: &mut [u8], n: u64, r: u64)
+    requires { ⌜ length (now table) ≡ tableBytes ⌝ }
+    ensures { λ _. ⌜ now (table .exit) ≡ finished (now (table .entry)) n r ⌝ }
+{
+    put_next(table, n);
+    if r == 0 {
+        end_work(table);
+    }
+}
+
+// One step of the order in work; its reports start where out does.
+pub fn step(table: &mut [u8], out: &mut [u8]) -> Told
+    requires { ⌜ Busy (now table) × (1024 ≤ length (now out)) ⌝ }
+    ensures { λ x. ⌜ Turned (now (table .entry)) (now (out .entry)) x (now (table .exit)) (now (out .exit)) ⌝ }
+{
+    let p = planned(table);
+    let n = next(table);
+    let came = p.came;
+    let told = happen(table, out, n, p.work, p.other, came);
+    finish(table, n + told.reports, p.other);
+    told
+}
