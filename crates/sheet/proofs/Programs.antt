@@ -5,20 +5,22 @@ use mathlib.Core.List.{List, [], _∷_, _++_, append-nil}
 use Prim.Native.Nat.{ℕ, zero, suc, _+_, _*_, _-_, _≤_, _<_, zero-le}
 use native.Mathlib.Omega.{arith}
 use lib.Dec.{eqb, lit≤}
-use lib.ListN.{length, take, length-append}
+use lib.ListN.{length, take, replicate, length-append, length-replicate}
 use lib.Seq.{length-take-le}
 use borrow.Author.Tests.{eq-eqb}
+use Rattle.octets.specs.Octets.{put, textBytes, bytesOf}
 use Rattle.octets.specs.Written.{Room, Wrote}
 use Rattle.octets.specs.Tests.{allUpTo}
 use Rattle.octets.proofs.Bools.{split, both-l}
 use Rattle.octets.proofs.Runs.{wrote-length}
 use Rattle.decimal.specs.Reading.{isDigit}
 use Rattle.table.specs.Places.{tableBytes}
-use Rattle.table.specs.Heading.{workOf}
+use Rattle.table.specs.Heading.{workOf, mpidBytes}
 use Rattle.table.specs.Orders.{bookOf}
 use Rattle.table.specs.Market.{every, isMarket}
-use Rattle.table.specs.Opened.{isName, isNew, isGiven, areGiven, areNames, areSettings, freshTable, isOpening, opened}
+use Rattle.table.specs.Opened.{isName, isNew, isGiven, areGiven, areNames, areSettings, namedTable, freshTable, isOpening, opened}
 use Rattle.table.proofs.Facts.{market-facts}
+use Rattle.table.proofs.Theorems.{opening-makes-a-market}
 use Rattle.sheet.specs.Sheet.{heading, sideLines, bothSides, sheetOf}
 use Rattle.sheet.specs.Book.{areaBytes, linesOf, linesTaken, rehearsal, bookPrinted}
 use Rattle.sheet.specs.Reading.{readOn, lineBytes, Held, Onward, Came, Printed}
@@ -35,6 +37,18 @@ pub rehearsal-opened : (t : List ℕ) → length t ≡ tableBytes → {t₂ : Li
     → t₂ ≡ opened t (86 ∷ []) (80 ∷ []) (51 ∷ 53 ∷ 48 ∷ []) 1 (10 ∷ 11 ∷ 12 ∷ 13 ∷ 14 ∷ []) (1 ∷ 1 ∷ 1 ∷ 1 ∷ 1 ∷ []) → t₂ ≡ rehearsal
 unfolding opened isOpening rehearsal
 rehearsal-opened t h p = p ∙ rw (eq-eqb (length t) tableBytes h, settings-right)
+
+-- it is a market, with nothing in work
+pub rehearsal-market : isMarket rehearsal ≡ true
+unfolding isOpening
+rehearsal-market =
+    rw (← rehearsal-opened (replicate tableBytes 0) (length-replicate {A = ℕ} tableBytes 0) refl)
+    (opening-makes-a-market (replicate tableBytes 0) (86 ∷ []) (80 ∷ []) (51 ∷ 53 ∷ 48 ∷ []) 1 (10 ∷ 11 ∷ 12 ∷ 13 ∷ 14 ∷ []) (1 ∷ 1 ∷ 1 ∷ 1 ∷ 1 ∷ [])
+    (rw (eq-eqb (length (replicate {A = ℕ} tableBytes 0)) tableBytes (length-replicate {A = ℕ} tableBytes 0), settings-right)))
+
+pub rehearsal-idle : workOf rehearsal ≡ 0
+unfolding rehearsal freshTable namedTable put textBytes bytesOf mpidBytes
+rehearsal-idle = refl
 
 -- ---- what was read
 
