@@ -1,2 +1,40 @@
-// Submit: one message, and its first report.
+// Submit: one message is taken or refused, and its first report is written.
 pub mod checks;
+pub mod handle;
+pub mod rejects;
+pub mod takes;
+
+ghost use mathlib.Core.Path.{_≡_};
+ghost use lib.ListN.{length};
+ghost use Rattle.calls.specs.Told.{areaAfter};
+ghost use Rattle.calls.specs.Submit.{submitted};
+use audit::is_market;
+use calls::SubmitAnswer;
+use handle::handle;
+use request::asks::asked;
+use table::heading::next;
+use table::heading::port;
+use table::heading::venue;
+use table::heading::work;
+
+// One message is submitted, and its report, if it has one, is written at the start of the report area.
+pub fn submit(table: &mut [u8], message: &[u8], area: &mut [u8]) -> SubmitAnswer
+    ensures { λ r. ⌜ r ≡ submitted (now (table .entry)) (now (message .entry)) (length (now (area .entry))) .answer ⌝ }
+    ensures { λ r. ⌜ now (table .exit) ≡ submitted (now (table .entry)) (now (message .entry)) (length (now (area .entry))) .table ⌝ }
+    ensures { λ r. ⌜ now (area .exit) ≡ areaAfter (now (area .entry)) (submitted (now (table .entry)) (now (message .entry)) (length (now (area .entry))) .reports) ⌝ }
+{
+    if area.len() < 1024 {
+        return SubmitAnswer::NoRoom;
+    }
+    if !is_market(table) {
+        return SubmitAnswer::NoMarket;
+    }
+    if work(table) != 0 {
+        return SubmitAnswer::InWork;
+    }
+    if 999998976 < next(table) {
+        return SubmitAnswer::NumbersSpent;
+    }
+    let a = asked(venue(table), port(table), message);
+    handle(table, message, area, a)
+}

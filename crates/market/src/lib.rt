@@ -5,6 +5,7 @@ pub mod depth;
 
 use calls::OpenAnswer;
 use calls::RunAnswer;
+use calls::SubmitAnswer;
 use report::Reading;
 ghost use mathlib.Core.Path.{_≡_};
 ghost use lib.ListN.{length};
@@ -13,6 +14,7 @@ ghost use Rattle.report.specs.Reports.{readOf};
 ghost use Rattle.calls.specs.Told.{areaAfter};
 ghost use Rattle.calls.specs.Open.{openAnswer};
 ghost use Rattle.calls.specs.Run.{ran};
+ghost use Rattle.calls.specs.Submit.{submitted};
 
 // Opens a market: writes the whole table from the settings and the lists of MPIDs and modes, or changes nothing.
 pub fn open(
@@ -31,6 +33,15 @@ pub fn open(
         return OpenAnswer::Opened;
     }
     OpenAnswer::BadSetting
+}
+
+// Takes one message: refuses it, or rejects it with a report, or does what it asks and writes its first report.
+pub fn submit(table: &mut [u8], message: &[u8], area: &mut [u8]) -> SubmitAnswer
+    ensures { λ r. ⌜ (r ≡ submitted (now (table .entry)) (now (message .entry)) (length (now (area .entry))) .answer)
+        × (now (table .exit) ≡ submitted (now (table .entry)) (now (message .entry)) (length (now (area .entry))) .table)
+        × (now (area .exit) ≡ areaAfter (now (area .entry)) (submitted (now (table .entry)) (now (message .entry)) (length (now (area .entry))) .reports)) ⌝ }
+{
+    intake::submit(table, message, area)
 }
 
 // Takes steps of the order in work, at most as many as the budget, while there is room for their reports in the area.

@@ -2,13 +2,14 @@
 use mathlib.Core.Path.{_≡_, refl, sym, ap, _∙_}
 use mathlib.Core.Bool.{Bool, true, false, cond, not}
 use mathlib.Core.List.{List, [], _∷_}
-use mathlib.Core.Logic.{_≢_}
+use mathlib.Core.Logic.{_≢_, ⊎-elim}
 use Prim.Native.Nat.{ℕ, zero, suc, _+_, _≤_, _<_}
 use native.Mathlib.Omega.{arith}
 use lib.Dec.{eqb, ltb}
 use lib.ListN.{length, getD, List·getD-eq-default}
 use borrow.Author.Tests.{eq-eqb}
 use Rattle.octets.proofs.Bools.{split, not-both}
+use Rattle.octets.proofs.Places.{below-or}
 use Rattle.request.specs.declared.NewOrder.{NewOrder}
 use Rattle.request.specs.declared.Replacement.{Replacement}
 use Rattle.request.specs.declared.Cancellation.{Cancellation}
@@ -97,10 +98,12 @@ module _ (t : List ℕ) (rs : List (List ℕ)) where
   pub account-left : Told t rs → (k : ℕ) → 1 ≤ k → k ≤ filled t → accountOf k rs .left ≡ openOf (orderAt t k)
   account-left g k l h = rw (g .accounts k, ← at-book t k l h)
 
-  pub account-none : Told t rs → (k : ℕ) → filled t < k → accountOf k rs ≡ blank
+  pub account-none : Told t rs → (k : ℕ) → (1 ≤ k → k ≤ filled t → ⊥) → accountOf k rs ≡ blank
   account-none g zero h = g .accounts zero ∙ empty-account zero
   account-none g (suc k) h =
-      let z : getD (bookOf t) k none ≡ none = List·getD-eq-default (bookOf t) none (omega (arith, length-book t)) in
+      let past : length (bookOf t) ≤ k =
+      ⊎-elim (λ (l : k < filled t). absurd (h (omega arith) (omega arith))) (λ (l : filled t ≤ k). omega (arith, length-book t)) (below-or k (filled t)) in
+      let z : getD (bookOf t) k none ≡ none = List·getD-eq-default (bookOf t) none past in
       g .accounts (suc k) ∙ ap accountIn z ∙ empty-account (suc k)
 
 -- ---- no call finds no market

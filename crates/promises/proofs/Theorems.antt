@@ -6,6 +6,7 @@ use mathlib.Core.Bool.{true}
 use mathlib.Core.List.{List}
 use mathlib.Core.Logic.{_≢_}
 use Prim.Native.Nat.{ℕ, _+_, _*_, _≤_, _<_}
+use native.Mathlib.Nat.{le-trans}
 use Rattle.matching.specs.Matching.{openOf, metBy}
 use Rattle.matching.specs.Depth.{totalOf, ordersOf}
 use Rattle.table.specs.Places.{mostOrders}
@@ -64,8 +65,8 @@ module _ (before venue port code : List ℕ) (first : ℕ) (mpids modes : List �
   pub last-reported : (k : ℕ) → 1 ≤ k → k ≤ filled table → accountOf k reports .left ≡ openOf (orderAt table k)
   last-reported = account-left table reports told
 
-  -- no report names another number
-  pub no-others : (k : ℕ) → filled table < k → accountOf k reports ≡ blank
+  -- of any other number the reports tell nothing
+  pub no-others : (k : ℕ) → (1 ≤ k → k ≤ filled table → ⊥) → accountOf k reports ≡ blank
   no-others = account-none table reports told
 
   -- ---- all trades
@@ -80,13 +81,13 @@ module _ (before venue port code : List ℕ) (first : ℕ) (mpids modes : List �
 
   -- ---- while nothing is in work
   module _ (idle : workOf table ≡ 0) where
-    -- the totals of all levels that Depth gives, of both sides, come to all that is open
-    pub depth-adds-up : overDepth totalOf table 1 mostOrders + overDepth totalOf table 2 mostOrders ≡ openIn table
-    depth-adds-up = totals-open table a-market idle mostOrders (filled-few table)
+    -- the totals of all levels that Depth gives, of both sides, come to all that is open, however many levels are asked for
+    pub depth-adds-up : (n : ℕ) → mostOrders ≤ n → overDepth totalOf table 1 n + overDepth totalOf table 2 n ≡ openIn table
+    depth-adds-up n h = totals-open table a-market idle n (le-trans (filled-few table) h)
 
     -- and their orders to all orders that have something open
-    pub depth-counts-all : overDepth ordersOf table 1 mostOrders + overDepth ordersOf table 2 mostOrders ≡ ordersIn table
-    depth-counts-all = orders-open table a-market idle mostOrders (filled-few table)
+    pub depth-counts-all : (n : ℕ) → mostOrders ≤ n → overDepth ordersOf table 1 n + overDepth ordersOf table 2 n ≡ ordersIn table
+    depth-counts-all n h = orders-open table a-market idle n (le-trans (filled-few table) h)
 
     -- every open buy yield is above every open sell yield
     pub uncrossed : (i j : ℕ) → 1 ≤ i → i ≤ filled table → 1 ≤ j → j ≤ filled table → orderAt table i .side ≡ 1 → orderAt table j .side ≡ 2

@@ -1,15 +1,14 @@
 -- Where there is room for the reports of every step, steps on a table are matching's steps on its book, and so the work ends.
-use mathlib.Core.Path.{_≡_, refl, sym, ap, _∙_}
-use mathlib.Core.Bool.{Bool, true, false, cond, _||_}
-use mathlib.Core.List.{List, [], _∷_, _++_}
-use Prim.Native.Nat.{ℕ, zero, suc, _+_, _-_, _*_, _≤_, _<_}
-use native.Mathlib.Nat.{add-zero}
+use mathlib.Core.Path.{_≡_, refl, ap, _∙_}
+use mathlib.Core.Bool.{true, false}
+use mathlib.Core.List.{List, [], _++_}
+use Prim.Native.Nat.{ℕ, zero, suc, _+_, _-_, _*_, _≤_}
 use native.Mathlib.Omega.{arith}
 use lib.Dec.{eqb, ltb}
 use lib.ListN.{length, length-append}
 use borrow.Author.Tests.{eqb-true, eqb-false, eq-eqb, le-ltb}
 use Rattle.octets.proofs.Bools.{split, or-l}
-use Rattle.matching.specs.Matching.{Book, metBy, happens, bookAfter, workAfter, Ran, run}
+use Rattle.matching.specs.Matching.{Book, metBy, happens, bookAfter, workAfter, run}
 use Rattle.matching.proofs.Theorems as matching
 use Rattle.table.specs.Heading.{workOf, modeOf}
 use Rattle.table.specs.Orders.{bookOf}
@@ -17,9 +16,9 @@ use Rattle.table.specs.Facts.{Market}
 use Rattle.table.specs.Changes.{stepEvents, stepped}
 use Rattle.table.proofs.Kept.{stepped-kept}
 use Rattle.calls.specs.Told.{joined, roomAsked}
-use Rattle.calls.specs.Run.{stepReports, stops, still, oneMore, worked}
+use Rattle.calls.specs.Run.{stepReports, stops, worked}
 use Rattle.turns.specs.Turns.{Busy}
-use Rattle.turns.specs.Runs.{GoesOn, Agrees, Ended}
+use Rattle.turns.specs.Runs.{Agrees, Ended}
 use Rattle.turns.proofs.Stepping.{step-work, step-book, step-modes, step-short, step-count}
 use Rattle.turns.proofs.Taking.{stops-still, worked-on}
 

@@ -1,8 +1,8 @@
 -- The loop of steps: what has been done, followed by what is left to do, is what the whole budget comes to. Then the answers of
 -- Run, test by test in the order of the refusals.
 use mathlib.Core.Path.{_≡_, refl, sym, ap, _∙_}
-use mathlib.Core.Bool.{Bool, true, false, cond, not, _||_}
-use mathlib.Core.List.{List, [], _∷_, _++_}
+use mathlib.Core.Bool.{Bool, true, false, not, _||_}
+use mathlib.Core.List.{List, _++_}
 use Prim.Native.Nat.{ℕ, suc, _+_, _-_, _^_, _≤_, _<_}
 use native.Mathlib.Nat.{add-zero}
 use native.Mathlib.Omega.{arith}
@@ -12,20 +12,17 @@ use borrow.Author.Tests.{lt-ltb, le-ltb}
 use mir.Syntax.{w64}
 use mir.Val.{Fits}
 use Rattle.octets.specs.Octets.{put}
-use Rattle.octets.specs.Written.{Wrote}
 use Rattle.octets.proofs.Places.{put-put, length-put}
 use Rattle.octets.proofs.Runs.{wrote-rest}
-use Rattle.table.specs.Places.{tableBytes}
 use Rattle.table.specs.Heading.{nextOf, workOf}
 use Rattle.table.specs.Market.{isMarket}
 use Rattle.table.specs.Facts.{Market}
-use Rattle.table.specs.Changes.{stepped}
 use Rattle.table.proofs.Facts.{market-facts}
 use Rattle.table.proofs.Kept.{stepped-kept}
 use Rattle.calls.specs.declared.RunAnswer.{RunAnswer}
 use Rattle.calls.specs.declared.RunAnswer.the-variants as answer
-use Rattle.calls.specs.Told.{joined, areaAfter, roomAsked}
-use Rattle.calls.specs.Run.{stepReports, Worked, stops, still, oneMore, worked, done, ran}
+use Rattle.calls.specs.Told.{joined, areaAfter}
+use Rattle.calls.specs.Run.{stepReports, stops, still, oneMore, worked, ran}
 use Rattle.turns.specs.declared.events.Told.{Told}
 use Rattle.turns.specs.Turns.{Busy, Turned, Walked}
 use Rattle.turns.proofs.Joins.{joined-append}

@@ -1,11 +1,10 @@
 -- Events that happen and are told: one, one after another, and those of every outcome.
-use mathlib.Core.Path.{_≡_, refl, sym, ap, _∙_}
+use mathlib.Core.Path.{_≡_, refl, ap, _∙_}
 use mathlib.Core.Bool.{false}
 use mathlib.Core.List.{List, [], _∷_, _++_, append-nil}
 use Prim.Native.Nat.{ℕ, _+_, _-_, _*_, _≤_, _<_}
 use native.Mathlib.Omega.{arith}
 use lib.ListN.{length, getD, length-append, take, drop, length-take, length-drop}
-use lib.Dec.{eqb, ltb}
 use borrow.Author.Tests.{eq-eqb, ne-eqb, lt-ltb, le-ltb}
 use mir.Syntax.{w64}
 use mir.Val.{Fits}
@@ -17,8 +16,7 @@ use Rattle.matching.specs.declared.Prevention.{Prevention}
 use Rattle.matching.specs.declared.Prevention.the-variants.{CancelNewest, CancelOldest, Decrement}
 use Rattle.matching.specs.declared.Outcome.{Outcome}
 use Rattle.matching.specs.declared.Outcome.the-variants.{Trade, Prevented, Expires, Rests}
-use Rattle.matching.specs.Matching.{who, preventing, causes}
-use Rattle.table.specs.Places.{tableBytes}
+use Rattle.matching.specs.Matching.{preventing, causes}
 use Rattle.table.specs.Orders.{applied}
 use Rattle.table.specs.Changes.{played}
 use Rattle.ticket.specs.declared.Cause.{Cause}

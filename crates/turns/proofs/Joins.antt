@@ -6,7 +6,7 @@ use lib.ListN.{length}
 use Rattle.matching.specs.declared.Event.{Event}
 use Rattle.table.specs.Orders.{applied}
 use Rattle.calls.specs.Told.{joined}
-use Rattle.calls.specs.Run.{eventReport, eventReports}
+use Rattle.calls.specs.Run.{eventReports}
 
 pub joined-append : (rs qs : List (List ℕ)) → joined (rs ++ qs) ≡ joined rs ++ joined qs
 unfolding joined

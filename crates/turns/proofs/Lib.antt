@@ -4,6 +4,7 @@ pub mod Joins
 pub mod Happening
 pub mod Stepping
 pub mod Taking
+pub mod Running
 pub mod Agreeing
 pub mod Going
 pub mod Theorems

@@ -1,13 +1,13 @@
 -- A step of the order in work: whom it is matched with, what that comes to, that its events can be told of, and the table after
 -- it: its next number, its order in work, its book and its modes.
 use mathlib.Core.Path.{_≡_, refl, sym, ap, _∙_}
-use mathlib.Core.Bool.{Bool, true, false, cond}
+use mathlib.Core.Bool.{Bool, true, false}
 use mathlib.Core.List.{List, [], _∷_}
 use Prim.Native.Nat.{ℕ, _+_, _≤_, _<_}
 use native.Mathlib.Omega.{arith}
 use lib.Dec.{eqb, lit≤}
 use lib.ListN.{length}
-use borrow.Author.Tests.{eq-eqb, ne-eqb, eqb-true, eqb-false}
+use borrow.Author.Tests.{ne-eqb, eqb-true, eqb-false}
 use mir.Syntax.{w64}
 use mir.Val.{Fits as FitsIn}
 use Rattle.octets.specs.Octets.{bytesOf, textBytes}
@@ -18,8 +18,8 @@ use Rattle.octets.proofs.Parts.{length-textBytes}
 use Rattle.matching.specs.declared.Order.{Order}
 use Rattle.matching.specs.declared.Event.{Event}
 use Rattle.matching.specs.declared.Outcome.{Outcome}
-use Rattle.matching.specs.Matching.{Book, at, openOf, isOpen, best, partner, meeting, ending, outcome, causes, happens, after, bookAfter, workAfter}
-use Rattle.matching.specs.Held.{In, Covered, Ready, Readies}
+use Rattle.matching.specs.Matching.{at, isOpen, best, partner, meeting, ending, outcome, causes, happens, after, bookAfter, workAfter}
+use Rattle.matching.specs.Held.{In, Covered, Readies}
 use Rattle.matching.specs.Happens.{Fits}
 use Rattle.matching.proofs.Steps.{paired, step-is, happens-fits}
 use Rattle.matching.proofs.Ends.{step-two}
@@ -27,7 +27,7 @@ use Rattle.matching.proofs.Holding.{step-ready, step-held}
 use Rattle.table.specs.Places.{tableBytes}
 use Rattle.table.specs.Heading.{nextOf, workOf, isListed, modeOf, putNext, endWork}
 use Rattle.table.specs.Orders.{orderAt, filled, bookOf, applied}
-use Rattle.table.specs.Facts.{Market, Due}
+use Rattle.table.specs.Facts.{Market}
 use Rattle.table.specs.Changes.{played, stepEvents, numbered, stepped}
 use Rattle.table.proofs.Same.{Same, same-in, same-then, put-below, put-above, next-same, work-same, mode-of-same, filled-few}
 use Rattle.table.proofs.Stores.{next-got, work-got}
@@ -36,7 +36,7 @@ use Rattle.table.proofs.Frames.{framed-long}
 use Rattle.table.proofs.Applied.{AllMove, Played, all-played, fits-move, framed-applied, book-applied, book-next, book-work}
 use Rattle.ticket.proofs.Running.{step-legible-first, step-legible-second}
 use Rattle.calls.specs.Told.{joined}
-use Rattle.calls.specs.Run.{eventReports, stepReports}
+use Rattle.calls.specs.Run.{stepReports}
 use Rattle.turns.specs.declared.events.Told.{Told}
 use Rattle.turns.specs.declared.step.Plan.{Plan}
 use Rattle.turns.specs.Turns.{Telling, Tellings, Reported, Busy, Planned, finished, Turned}
@@ -89,8 +89,9 @@ module _ (t : List ℕ) (m : Market t) (l : 1 ≤ workOf t) where
   later-above : Same later t 32 128
   unfolding later numbered
   later-above =
+      let k : ℕ = nextOf (played t (stepEvents t)) + length (stepEvents t) in
       same-then
-      (put-above (played t (stepEvents t)) 28 (bytesOf 4 (nextOf (played t (stepEvents t)) + length (stepEvents t))) 32 128 (omega (arith, length-bytesOf 4 (nextOf (played t (stepEvents t)) + length (stepEvents t)))))
+      (put-above (played t (stepEvents t)) 28 (bytesOf 4 k) 32 128 (omega (arith, length-bytesOf 4 k)))
       (same-in 32 128 (step-played .heading) (lit≤ tt) (lit≤ tt))
 
   later-book : bookOf later ≡ bookAfter (modeOf t) (bookOf t) (workOf t)
@@ -278,9 +279,6 @@ module _ (t : List ℕ) (y : Busy t) where
 -- ---- the end of a step
 
 module _ (t u : List ℕ) (n r : ℕ) (e : u ≡ putNext t n) where
-  pub next-long : length t ≡ tableBytes → length u ≡ tableBytes
-  next-long h = ap length e ∙ put-below t 28 (bytesOf 4 n) 0 0 (lit≤ tt) .size ∙ h
-
   pub finish-ends : (v : List ℕ) → r ≡ 0 → v ≡ endWork u → v ≡ finished t n r
   unfolding finished
   finish-ends v z h = h ∙ rw (z, e)

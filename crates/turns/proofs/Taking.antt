@@ -1,24 +1,20 @@
 -- Steps within a budget and room: what they keep, and that some steps and then others are as many at once.
 use mathlib.Core.Path.{_≡_, refl, sym, ap, _∙_}
-use mathlib.Core.Bool.{Bool, true, false, cond, _||_}
-use mathlib.Core.List.{List, [], _∷_, _++_, append-assoc}
-use Prim.Native.Nat.{ℕ, zero, suc, _+_, _-_, _≤_, _<_}
+use mathlib.Core.Bool.{true, false}
+use mathlib.Core.List.{List, _++_, append-assoc}
+use Prim.Native.Nat.{ℕ, zero, suc, _+_, _-_, _≤_}
 use native.Mathlib.Nat.{zero-add, suc-add}
 use native.Mathlib.Omega.{arith}
 use lib.Dec.{eqb, ltb}
 use lib.ListN.{length, length-append}
-use borrow.Author.Tests.{eqb-true, eqb-false, ltb-true, ltb-false}
+use borrow.Author.Tests.{eqb-false, ltb-false}
 use Rattle.octets.proofs.Bools.{split, neither-l, neither-r}
 use Rattle.table.specs.Heading.{workOf}
-use Rattle.table.specs.Market.{isMarket}
 use Rattle.table.specs.Facts.{Market}
 use Rattle.table.specs.Changes.{stepped}
-use Rattle.table.proofs.Facts.{market-facts, facts-market}
 use Rattle.table.proofs.Kept.{stepped-kept}
 use Rattle.calls.specs.Told.{joined, roomAsked}
-use Rattle.calls.specs.Run.{stepReports, Worked, stops, still, oneMore, worked, ran}
-use Rattle.turns.specs.declared.events.Told.{Told}
-use Rattle.turns.specs.Turns.{Busy, Turned, Walked}
+use Rattle.calls.specs.Run.{stepReports, stops, still, oneMore, worked}
 use Rattle.turns.specs.Runs.{GoesOn}
 use Rattle.turns.proofs.Joins.{joined-append}
 
@@ -86,11 +82,3 @@ worked-on (suc m) n t room =
       reports = ap (λ (qs : List (List ℕ)). rs ++ qs) (g .reports) ∙ sym (append-assoc rs _ _);
       steps = ap suc (g .steps) ∙ sym (suc-add _ _);
     })))
-
--- Run, whatever it answers, leaves a market a market
-pub ran-kept : (t : List ℕ) (room budget : ℕ) → isMarket t ≡ true → isMarket (ran t room budget .table) ≡ true
-unfolding ran
-ran-kept t room budget m =
-    split (ltb room roomAsked)
-    (λ e. rw e m)
-    (λ e. rw (e, m) (facts-market (worked budget t room .table) (worked-kept budget t room (market-facts t m))))

@@ -1,6 +1,5 @@
 // Run: steps of the order in work until nothing is in work, the budget is spent, or there is no room for a step's reports.
 ghost use mathlib.Core.Path.{_≡_};
-ghost use Prim.Native.Nat.{_≤_};
 ghost use lib.ListN.{length};
 ghost use Rattle.table.specs.Places.{tableBytes};
 ghost use Rattle.table.specs.Facts.{Market};
@@ -51,7 +50,9 @@ fn steps(table: &mut [u8], area: &mut [u8], budget: u64) -> RunAnswer
 
 // Steps of the order in work, at most as many as the budget. Refused if the area is below 1,024 bytes, or the table is no market.
 pub fn run(table: &mut [u8], area: &mut [u8], budget: u64) -> RunAnswer
-    ensures { λ r. ⌜ (r ≡ ran (now (table .entry)) (length (now (area .entry))) budget .answer) × (now (table .exit) ≡ ran (now (table .entry)) (length (now (area .entry))) budget .table) × (now (area .exit) ≡ areaAfter (now (area .entry)) (ran (now (table .entry)) (length (now (area .entry))) budget .reports)) ⌝ }
+    ensures { λ r. ⌜ r ≡ ran (now (table .entry)) (length (now (area .entry))) budget .answer ⌝ }
+    ensures { λ r. ⌜ now (table .exit) ≡ ran (now (table .entry)) (length (now (area .entry))) budget .table ⌝ }
+    ensures { λ r. ⌜ now (area .exit) ≡ areaAfter (now (area .entry)) (ran (now (table .entry)) (length (now (area .entry))) budget .reports) ⌝ }
 {
     if area.len() < 1024 {
         return RunAnswer::NoRoom;

@@ -3,7 +3,7 @@ ghost use mathlib.Core.Path.{_≡_};
 ghost use mathlib.Core.List.{[], _∷_};
 ghost use Prim.Native.Nat.{_+_, _≤_, _<_};
 ghost use lib.ListN.{length};
-ghost use Rattle.matching.specs.Matching.{openOf, at, partner, outcome, causes, preventing};
+ghost use Rattle.matching.specs.Matching.{partner, outcome, causes, preventing};
 ghost use Rattle.matching.specs.declared.Prevention.the-variants.{Decrement as Prevention·Decrement};
 ghost use Rattle.matching.specs.declared.Event.the-variants.{Traded};
 ghost use Rattle.table.specs.Places.{tableBytes};

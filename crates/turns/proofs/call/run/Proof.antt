@@ -8,7 +8,7 @@ returns : tie.Need-returns
 returns c =
     let s = c .before .before .before .args in
     let w = run-no-room (s .table .now) (s .area .now) (s .budget) (c .if1 .taken) in
-    (w .answer, w .table, w .bytes-in)
+    (w .answer, (w .table, w .bytes-in))
 
 is-market-requires : tie.Need-is-market-requires
 is-market-requires c κs = search needs
@@ -20,7 +20,7 @@ returns-2 : tie.Need-returns-2
 returns-2 c =
     let s = c .before .before .before .before .before .before .args in
     let w = run-no-market (s .table .now) (s .area .now) (s .budget) (c .before .before .before .if1 .left) _ (c .before .is-market .ensures) (c .if2 .taken) in
-    (w .answer, w .table, w .bytes-in)
+    (w .answer, (w .table, w .bytes-in))
 
 steps-requires : tie.Need-steps-requires
 steps-requires c κs = search (needs, run-market)
@@ -33,10 +33,13 @@ same-length-3 c = search needs
 
 returns-3 : tie.Need-returns-3
 returns-3 c =
-    let s = c .before .before .before .before .before .before .before .before .before .before .before .before .before .args in
-    let w = run-walked (s .table .now) (s .area .now) (s .budget) (c .before .before .before .before .before .before .before .before .before .before .if1 .left) _ (c .before .before .before .before .before .before .before .before .is-market .ensures)
-    (c .before .before .before .before .before .before .before .if2 .left) _ _ _ (c .before .before .before .before .steps .ensures) in
-    (w .answer, w .table, w .bytes-in)
+    let done = c .before .before .before .before in
+    let found = done .before .before .before in
+    let room = found .before .before .before in
+    let s = room .before .before .before .args in
+    let w = run-walked (s .table .now) (s .area .now) (s .budget) (room .if1 .left) _ (found .before .is-market .ensures)
+    (found .if2 .left) _ _ _ (done .steps .ensures) in
+    (w .answer, (w .table, w .bytes-in))
 
 pub run-spec : {M : Type 1} → statement M
 run-spec =

@@ -1,5 +1,5 @@
 -- `turns::call::steps` meets its contract: after each turn, what is left to do gives what all the steps give.
-use Prim.Native.Nat.{ℕ, _+_, _-_, _≤_, _<_}
+use Prim.Native.Nat.{_-_}
 use native.Mathlib.Omega.{arith}
 use borrow.Author.Needs.{needs}
 use Rattle.turns.proofs.Going.{Going, going-first, stop-walked, step-within, step-busy, step-room, bytes-fit, reports-fit, going-on, spent-walked}
@@ -44,8 +44,11 @@ step-requires c κs = (search (needs, step-busy), search (needs, step-room))
 
 add-at : tie.Need-add-at Inv-loop μ-loop
 add-at c =
-    bytes-fit _ _ _ _ _ _ _ _ (c .before .before .before .before .before .before .before .before .before .before .before .before .loop .inv) (c .before .before .before .before .before .before .before .before .before .before .before .loop-test .taken) _ (c .before .before .before .before .before .before .before .before .before .rests .ensures) (c .before .before .before .before .before .before .before .before .if1 .left) _ _ _
-    (c .before .before .before .before .before .step .ensures)
+    let told = c .before .before .before .before .before in
+    let asked = told .before .before .before in
+    let turn = asked .before .before .before in
+    bytes-fit _ _ _ _ _ _ _ _ (turn .before .loop .inv) (turn .loop-test .taken) _ (asked .before .rests .ensures) (asked .if1 .left) _ _ _
+    (told .step .ensures)
 
 add-reports : tie.Need-add-reports Inv-loop μ-loop
 add-reports c = search (needs, reports-fit)

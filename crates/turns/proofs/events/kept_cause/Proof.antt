@@ -1,5 +1,4 @@
 -- `turns::events::kept_cause` meets its contract: the 52 stands behind its length in the heading.
-use mathlib.Core.Path.{ap}
 use borrow.Author.Needs.{needs}
 use Rattle.turns.proofs.Happening.{kept-is}
 use Rattle.turns.proofs.events.kept_cause.Statement.{statement}

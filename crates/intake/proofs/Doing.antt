@@ -1,0 +1,158 @@
+-- What the functions that take a request need at each call: from what is asked and stands to what the table's stores and the
+-- report ask for.
+use mathlib.Core.Path.{_≡_, refl, sym, ap, _∙_}
+use mathlib.Core.Bool.{Bool, true, false, _||_}
+use mathlib.Core.List.{List, [], _∷_}
+use Prim.Native.Nat.{ℕ, _+_, _*_, _≤_, _<_}
+use native.Mathlib.Omega.{arith}
+use lib.Dec.{eqb, leb}
+use lib.ListN.{length}
+use mir.Syntax.{w8}
+use mir.Val.{Fits}
+use borrow.Author.Tests.{eqb-true, leb-true}
+use Rattle.octets.specs.Octets.{textBytes}
+use Rattle.octets.proofs.Bools.{split, or-r, both-r}
+use Rattle.octets.proofs.Places.{length-put}
+use Rattle.request.specs.declared.NewOrder.{NewOrder}
+use Rattle.request.specs.declared.Replacement.{Replacement}
+use Rattle.request.specs.declared.Cancellation.{Cancellation}
+use Rattle.request.specs.declared.Asked.the-variants.{Enters, Replaces, Cancels}
+use Rattle.request.proofs.Saying.{enters-spelt, replaces-spelt, cancels-spelt}
+use Rattle.matching.specs.declared.Order.{Order}
+use Rattle.matching.specs.declared.Event.{Event}
+use Rattle.matching.specs.declared.Event.the-variants.{Accepted, Replaced, Withdrawn}
+use Rattle.matching.specs.Matching.{openOf, who, change}
+use Rattle.matching.specs.Held.{Covered}
+use Rattle.table.specs.Places.{tableBytes}
+use Rattle.table.specs.Heading.{nextOf}
+use Rattle.table.specs.Orders.{orderAt, filled, termBytes, amountBytes, recordOf, putId, accepted, replaced, withdrawn}
+use Rattle.table.specs.Market.{isCapacity, isClass}
+use Rattle.table.specs.Facts.{Market, Due}
+use Rattle.table.proofs.Lookups.{market-sound}
+use Rattle.ticket.specs.declared.Cause.{Cause}
+use Rattle.ticket.specs.Legible.{Legible}
+use Rattle.calls.specs.declared.Standing.the-variants.{Stands}
+use Rattle.calls.specs.Checks.{textOf, holder, newStands, cancelStands, replaceStands}
+use Rattle.calls.specs.Submit.{sentAt, noText, causeOf, newOrderOf}
+use Rattle.intake.specs.Intake.{Asking, orderWith}
+use Rattle.intake.proofs.Standing.{new-sound, new-capacity, new-class, new-free, cancel-in, cancel-holds}
+use Rattle.intake.proofs.Checking.{holder-below, below-256}
+use Rattle.intake.proofs.Legibles.{enter-legible, cancel-due, cancel-legible, replace-due, replace-legible}
+
+one-small : (x a b : ℕ) → a < 256 → b < 256 → (eqb x a || eqb x b) ≡ true → x < 256
+one-small x a b l m h =
+    split (eqb x a) (λ e. omega (arith, eqb-true x a e)) (λ e. omega (arith, eqb-true x b (or-r (eqb x a) (eqb x b) h e)))
+
+-- ---- a new order
+
+-- the order of its terms
+pub order-new : (t message : List ℕ) (o : NewOrder) (n : ℕ) (x : Order) → n ≡ nextOf t → x ≡ orderWith (o .terms) n → x ≡ newOrderOf t message o
+order-new t message o n x q y = y ∙ rw q
+
+module _ (t message : List ℕ) (o : NewOrder) (a : Asking t message (Enters o)) where
+  capacity-small : o .terms .capacity < 256
+  unfolding isCapacity
+  capacity-small = one-small (o .terms .capacity) 65 80 (omega arith) (omega arith) (new-capacity t message o a)
+
+  class-small : o .terms .class < 256
+  unfolding isClass
+  class-small =
+      let h = new-class t message o a in
+      split (eqb (o .terms .class) 1) (λ e. omega (arith, eqb-true (o .terms .class) 1 e))
+      (λ e. omega (arith, leb-true (o .terms .class) 6 (both-r (leb 3 (o .terms .class)) _ (or-r (eqb (o .terms .class) 1) _ h e))))
+
+  pub capacity-fits : Fits w8 (o .terms .capacity)
+  capacity-fits = omega (arith, capacity-small)
+
+  pub class-fits : Fits w8 (o .terms .class)
+  class-fits = omega (arith, class-small)
+
+  pub new-id-short : (xs : List ℕ) → xs ≡ textOf message (o .id) → length xs ≤ 32
+  new-id-short xs e = rw e (enters-spelt _ _ message o (a .asks) .id .short)
+
+  pub account-short : (xs : List ℕ) → xs ≡ textOf message (o .account) → length xs ≤ 10
+  account-short xs e = rw e (enters-spelt _ _ message o (a .asks) .account .short)
+
+  pub new-stamp-short : length (textOf message (o .time)) ≤ 21
+  new-stamp-short = omega (arith, enters-spelt _ _ message o (a .asks) .time .spelt .short)
+
+  module _ (x : Order) (y : x ≡ newOrderOf t message o) where
+    pub side-small : x .side < 256
+    side-small = rw y (one-small (o .terms .side) 1 2 (omega arith) (omega arith) (new-sound t message o a .sides))
+
+    pub tif-small : x .tif < 256
+    tif-small = rw y (one-small (o .terms .tif) 0 3 (omega arith) (omega arith) (new-sound t message o a .tifs))
+
+  module _ (s : newStands t message o ≡ Stands) (f : ℕ) (g : f ≡ filled t) where
+    pub record-small : f + 1 < 256
+    record-small = omega (arith, new-free t message o a s)
+
+    pub enter-told : (n : ℕ) → n ≡ nextOf t → (x : Order) → x ≡ orderWith (o .terms) n → (c : Cause) → c ≡ causeOf (o .time) noText → (u : List ℕ)
+        → u ≡ accepted t (f + 1) (textOf message (o .id)) (textOf message (o .account)) (o .terms .capacity) (o .terms .class) x
+        → Legible u message n c (Accepted (f + 1) x)
+    enter-told n q x y c b u z = let w = order-new t message o n x q y in rw (z, q, b, g, w) (enter-legible t message o a s)
+
+-- the length after the record is written
+pub accepted-long : (t u id account : List ℕ) (k capacity class : ℕ) (x : Order) → length t ≡ tableBytes → u ≡ accepted t k id account capacity class x
+    → length u ≡ tableBytes
+unfolding accepted
+accepted-long t u id account k capacity class x h e = ap length e ∙ length-put t (128 * k) (recordOf id account capacity class x) ∙ h
+
+pub replaced-long : (t u id : List ℕ) (e : Event) → length t ≡ tableBytes → u ≡ replaced t id e → length u ≡ tableBytes
+unfolding replaced
+replaced-long t u id e h z =
+    ap length z ∙ length-put (putId t (who e) id) (128 * who e + 48) (termBytes (change e (orderAt t (who e)))) ∙ length-put t (128 * who e) (textBytes 32 id) ∙ h
+
+pub withdrawn-long : (t u id : List ℕ) (e : Event) → length t ≡ tableBytes → u ≡ withdrawn t id e → length u ≡ tableBytes
+unfolding withdrawn
+withdrawn-long t u id e h z =
+    ap length z ∙ length-put (putId t (who e) id) (128 * who e + 64) (amountBytes (change e (orderAt t (who e)))) ∙ length-put t (128 * who e) (textBytes 32 id) ∙ h
+
+-- ---- a replacement
+
+module _ (t message : List ℕ) (o : Replacement) (a : Asking t message (Replaces o)) (k : ℕ) (h : k ≡ holder t (textOf message (o .original))) where
+  pub replaced-small : k < 256
+  replaced-small = below-256 t k (holder-below t (textOf message (o .original)) k h)
+
+  pub replaced-id-short : (xs : List ℕ) → xs ≡ textOf message (o .id) → length xs ≤ 32
+  replaced-id-short xs e = rw e (replaces-spelt _ _ message o (a .asks) .id .short)
+
+  pub replaced-stamp-short : length (textOf message (o .time)) ≤ 21
+  replaced-stamp-short = omega (arith, replaces-spelt _ _ message o (a .asks) .time .spelt .short)
+
+  module _ (s : replaceStands t message o ≡ Stands) (n : ℕ) (q : n ≡ nextOf t) where
+    pub renew-due : Due t k (Replaced k (o .level) (o .quantity) n)
+    renew-due = rw q (replace-due t message o a k h s)
+
+    pub renew-told : (id : List ℕ) → id ≡ textOf message (o .id) → (c : Cause) → c ≡ causeOf (o .time) (sentAt (o .original)) → (u : List ℕ)
+        → u ≡ replaced t id (Replaced k (o .level) (o .quantity) n) → Legible u message n c (Replaced k (o .level) (o .quantity) n)
+    renew-told id i c b u z = rw (z, q, b, i) (replace-legible t message o a k h s)
+
+-- ---- a cancel
+
+module _ (t message : List ℕ) (o : Cancellation) (a : Asking t message (Cancels o)) (k : ℕ) (h : k ≡ holder t (textOf message (o .original))) where
+  pub canceled-few : k ≤ filled t
+  canceled-few = holder-below t (textOf message (o .original)) k h
+
+  pub canceled-id-short : (xs : List ℕ) → xs ≡ textOf message (o .id) → length xs ≤ 32
+  canceled-id-short xs e = rw e (cancels-spelt _ _ message o (a .asks) .id .short)
+
+  module _ (s : cancelStands t message o ≡ Stands) where
+    pub canceled-some : 1 ≤ k
+    canceled-some = cancel-holds t message o k h s .known
+
+    module _ (x : ℕ) (y : x ≡ openOf (orderAt t k)) where
+      pub withdraw-due : Due t k (Withdrawn k x)
+      withdraw-due = rw y (cancel-due t message o a k h s)
+
+      pub withdraw-told : (n : ℕ) → n ≡ nextOf t → (id : List ℕ) → id ≡ textOf message (o .id) → (c : Cause) → c ≡ causeOf (o .time) (sentAt (o .original))
+          → (u : List ℕ) → u ≡ withdrawn t id (Withdrawn k x) → Legible u message n c (Withdrawn k x)
+      withdraw-told n q id i c b u z = rw (z, q, b, i, y) (cancel-legible t message o a k h s)
+
+-- what is open of a record
+module _ (t : List ℕ) (k : ℕ) (had : Order) (l : had ≡ orderAt t k) where
+  pub open-covered : Market t → 1 ≤ k → k ≤ filled t → Covered had
+  open-covered m low high = rw l (market-sound t k m low high .covered)
+
+  pub open-is : (x : ℕ) → x ≡ openOf had → x ≡ openOf (orderAt t k)
+  open-is x y = y ∙ ap openOf l

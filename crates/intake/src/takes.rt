@@ -1,0 +1,193 @@
+// Requests that are taken: the record changes, the report is written from the table after that, and the next number goes up.
+ghost use mathlib.Core.Path.{_≡_};
+ghost use Prim.Native.Nat.{_≤_, _<_};
+ghost use lib.ListN.{length};
+ghost use Rattle.request.specs.declared.Asked.the-variants.{Enters, Replaces, Cancels};
+ghost use Rattle.matching.specs.Matching.{openOf};
+ghost use Rattle.table.specs.Places.{tableBytes};
+ghost use Rattle.table.specs.Heading.{putWork};
+ghost use Rattle.table.specs.Orders.{orderAt, accepted};
+ghost use Rattle.table.specs.Orders.{filled as Orders·filled};
+ghost use Rattle.table.specs.Facts.{Market};
+ghost use Rattle.table.specs.Changes.{numbered};
+ghost use Rattle.calls.specs.declared.Standing.the-variants.{Stands};
+ghost use Rattle.calls.specs.Checks.{textOf, holder, newStands, cancelStands, replaceStands};
+ghost use Rattle.calls.specs.Submit.{sentAt, noText, causeOf, newOrderOf, newTaken, replacementTaken, cancelTaken};
+ghost use Rattle.intake.specs.Intake.{orderWith, Asking, Left};
+use crate::checks::text_of;
+use calls::SubmitAnswer;
+use fix::frame::Part;
+use matching::Event;
+use matching::Order;
+use report::Place;
+use request::Cancellation;
+use request::NewOrder;
+use request::Replacement;
+use request::Terms;
+use table::book::filled;
+use table::heading::next;
+use table::heading::put_next;
+use table::heading::put_work;
+use table::record::accept;
+use table::record::load;
+use ticket::Cause;
+use ticket::tell::tell;
+
+// Where a text of the message stands, for a report.
+pub fn sent_at(p: Part) -> Place
+    ensures { λ r. ⌜ r ≡ sentAt p ⌝ }
+{
+    Place {
+        sent: true,
+        start: p.start,
+        length: p.len,
+    }
+}
+
+// A message without a 41 as a cause: its 52.
+fn cause_alone(time: Part) -> Cause
+    ensures { λ r. ⌜ r ≡ causeOf time noText ⌝ }
+{
+    let when = sent_at(time);
+    let orig = Place {
+        sent: false,
+        start: 0,
+        length: 0,
+    };
+    Cause { time: when, orig }
+}
+
+// A message with a 41 as a cause: its 52 and its 41.
+fn cause_with(time: Part, original: Part) -> Cause
+    ensures { λ r. ⌜ r ≡ causeOf time (sentAt original) ⌝ }
+{
+    let when = sent_at(time);
+    let orig = sent_at(original);
+    Cause { time: when, orig }
+}
+
+// The next report number goes up by one.
+pub fn raise(t: &mut [u8])
+    requires { ⌜ length (now t) ≡ tableBytes ⌝ }
+    ensures { λ _. ⌜ now (t .exit) ≡ numbered (now (t .entry)) 1 ⌝ }
+{
+    let n = octets::le_at(t, 28, 4);
+    put_next(t, n + 1);
+}
+
+// The next report number goes up by one, and record w is in work with the 52 of its message.
+fn raise_and_work(t: &mut [u8], w: usize, message: &[u8], time: Part)
+    requires { ⌜ (length (now t) ≡ tableBytes) × (w < 256) × (length (textOf (now message) time) ≤ 21) ⌝ }
+    ensures { λ _. ⌜ now (t .exit) ≡ putWork (numbered (now (t .entry)) 1) w (textOf (now (message .entry)) time) ⌝ }
+{
+    raise(t);
+    put_work(t, w as u8, text_of(message, time));
+}
+
+// A new order of these terms and this place.
+fn new_order(terms: Terms, place: u64) -> Order
+    ensures { λ r. ⌜ r ≡ orderWith terms place ⌝ }
+{
+    Order {
+        side: terms.side,
+        tif: terms.tif,
+        level: terms.level,
+        qty: terms.quantity,
+        executed: 0,
+        decremented: 0,
+        canceled: 0,
+        sum: 0,
+        place,
+        mpid: terms.mpid,
+    }
+}
+
+// A new order is written as record k.
+fn write_new(t: &mut [u8], message: &[u8], k: usize, o: NewOrder, order: Order)
+    requires { ⌜ Asking (now t) (now message) (Enters o) × (k < 256) × (order ≡ newOrderOf (now t) (now message) o) ⌝ }
+    ensures { λ _. ⌜ now (t .exit) ≡ accepted (now (t .entry)) k (textOf (now (message .entry)) (o .id)) (textOf (now (message .entry)) (o .account)) (o .terms .capacity) (o .terms .class) order ⌝ }
+{
+    let capacity = o.terms.capacity as u8;
+    let class = o.terms.class as u8;
+    accept(
+        t,
+        k,
+        text_of(message, o.id),
+        text_of(message, o.account),
+        capacity,
+        class,
+        order,
+    );
+}
+
+// A new order becomes the next record and is in work.
+pub fn enter(table: &mut [u8], message: &[u8], area: &mut [u8], o: NewOrder) -> SubmitAnswer
+    requires { ⌜ Asking (now table) (now message) (Enters o) × (newStands (now table) (now message) o ≡ Stands) × (1024 ≤ length (now area)) ⌝ }
+    ensures { λ r. ⌜ Left (newTaken (now (table .entry)) (now (message .entry)) o) (now (area .entry)) r (now (table .exit)) (now (area .exit)) ⌝ }
+{
+    let n = next(table);
+    let k = filled(table) + 1;
+    let order = new_order(o.terms, n);
+    write_new(table, message, k, o, order);
+    let e = Event::Accepted {
+        order: k as u64,
+        entered: order,
+    };
+    let len = tell(area, table, message, n, cause_alone(o.time), e);
+    raise_and_work(table, k, message, o.time);
+    SubmitAnswer::Taken(len)
+}
+
+// Record k takes new terms, a new ClOrdID and a new place, and is in work.
+pub fn renew(
+    table: &mut [u8],
+    message: &[u8],
+    area: &mut [u8],
+    o: Replacement,
+    k: usize,
+) -> SubmitAnswer
+    requires { ⌜ Asking (now table) (now message) (Replaces o) × (replaceStands (now table) (now message) o ≡ Stands) × (k ≡ holder (now table) (textOf (now message) (o .original))) × (1024 ≤ length (now area)) ⌝ }
+    ensures { λ r. ⌜ Left (replacementTaken (now (table .entry)) (now (message .entry)) o k) (now (area .entry)) r (now (table .exit)) (now (area .exit)) ⌝ }
+{
+    let n = next(table);
+    let e = Event::Replaced {
+        order: k as u64,
+        level: o.level,
+        quantity: o.quantity,
+        place: n,
+    };
+    table::event::replace(table, k, text_of(message, o.id), e);
+    let len = tell(area, table, message, n, cause_with(o.time, o.original), e);
+    raise_and_work(table, k, message, o.time);
+    SubmitAnswer::Taken(len)
+}
+
+// What is open of record k.
+fn open_at(t: &[u8], k: usize) -> u64
+    requires { ⌜ Market (now t) × (1 ≤ k) × (k ≤ Orders·filled (now t)) ⌝ }
+    ensures { λ r. ⌜ r ≡ openOf (orderAt (now (t .entry)) k) ⌝ }
+{
+    load(t, k).open_of()
+}
+
+// All that is open of record k is canceled, and it takes a new ClOrdID.
+pub fn withdraw(
+    table: &mut [u8],
+    message: &[u8],
+    area: &mut [u8],
+    o: Cancellation,
+    k: usize,
+) -> SubmitAnswer
+    requires { ⌜ Asking (now table) (now message) (Cancels o) × (cancelStands (now table) (now message) o ≡ Stands) × (k ≡ holder (now table) (textOf (now message) (o .original))) × (1024 ≤ length (now area)) ⌝ }
+    ensures { λ r. ⌜ Left (cancelTaken (now (table .entry)) (now (message .entry)) o k) (now (area .entry)) r (now (table .exit)) (now (area .exit)) ⌝ }
+{
+    let n = next(table);
+    let e = Event::Withdrawn {
+        order: k as u64,
+        quantity: open_at(table, k),
+    };
+    table::event::withdraw(table, k, text_of(message, o.id), e);
+    let len = tell(area, table, message, n, cause_with(o.time, o.original), e);
+    raise(table);
+    SubmitAnswer::Taken(len)
+}
