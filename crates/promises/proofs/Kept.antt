@@ -39,7 +39,7 @@ use Rattle.intake.proofs.Keeping.{Comes, no-room, no-market, in-work, spent, he
 use Rattle.market.specs.declared.depth.DepthAnswer.the-variants as depth-answer
 use Rattle.market.specs.Depth.{isSide, depthAnswer}
 use Rattle.promises.specs.History.{Call, tableAfter, reportsAfter}
-use Rattle.promises.specs.Tallies.{Account, blank, accountFrom, accountOf, bought, sold, selfTrades}
+use Rattle.promises.specs.Tallies.{Account, blank, accountFrom, accountOf, bought, sold, selfTrades, unread}
 use Rattle.promises.proofs.Tells.{accountIn}
 use Rattle.promises.proofs.Opening.{opened-book}
 use Rattle.promises.proofs.Histories.{history-keeps, history-leads}
@@ -50,6 +50,7 @@ pub record Told (t : List ℕ) (rs : List (List ℕ)) : Type 0 where
   pub accounts : (k : ℕ) → accountOf k rs ≡ accountIn (at (bookOf t) k)
   pub balanced : bought rs ≡ sold rs
   pub fair : selfTrades rs ≡ 0
+  pub read : unread rs ≡ 0
 
 -- ---- every history
 empty-account : (k : ℕ) → accountIn (at [] k) ≡ blank
@@ -75,6 +76,7 @@ module _ (before venue port code : List ℕ) (first : ℕ) (mpids modes : List �
             ∙ g .accounts k;
         balanced = g .balanced;
         fair = g .fair;
+        read = g .read;
       }
 
 -- ---- what that comes to

@@ -26,8 +26,8 @@ use Rattle.report.specs.declared.Reading.{Reading}
 use Rattle.report.specs.Reports.{readOf}
 use Rattle.calls.specs.Run.{eventReport, eventReports}
 use Rattle.readback.specs.Told.{otherTold}
-use Rattle.promises.specs.Tallies.{Account, noted, accountFrom, tradedFor, traded, isSelfTrade, selfTrades}
-use Rattle.promises.proofs.Tells.{Exact, Tells, accountIn, noted-here, noted-there}
+use Rattle.promises.specs.Tallies.{Account, noted, accountFrom, tradedFor, traded, isSelfTrade, selfTrades, unread}
+use Rattle.promises.proofs.Tells.{Exact, Tells, tells-read, accountIn, noted-here, noted-there}
 use Rattle.promises.proofs.Exacts.{Exacts}
 
 -- a report r tells event e on the table t after it
@@ -165,12 +165,13 @@ module _ (c : Book) where
     pub bought : traded 1 (eventReports t n es) ≡ boughtBy c es
     pub sold : traded 2 (eventReports t n es) ≡ soldBy c es
     pub fair : selfTrades (eventReports t n es) ≡ 0
+    pub read : unread (eventReports t n es) ≡ 0
 
   -- one report before others
   pub all-follow : (es : List Event) (t : List ℕ) (n : ℕ) → length t ≡ tableBytes → AllMove es → Readies (bookOf t) es → Exacts (bookOf t) es → TellsAll t n es
       → ((k : ℕ) → at (bookOf t) k .side ≡ at c k .side) → Follows t n es
-  unfolding eventReports accountFrom traded selfTrades boughtBy soldBy play
-  all-follow [] t n long m r x tells s = record { accounts = λ k. refl; bought = refl; sold = refl; fair = refl }
+  unfolding eventReports accountFrom traded selfTrades unread boughtBy soldBy play
+  all-follow [] t n long m r x tells s = record { accounts = λ k. refl; bought = refl; sold = refl; fair = refl; read = refl }
   all-follow (e ∷ es) t n long m r x tells s =
       let u : List ℕ = applied t e in
       let rep : List ℕ = eventReport u n e in
@@ -186,4 +187,5 @@ module _ (c : Book) where
         bought = omega (arith, bought-then c t e long (m .0) (r .0) (x .0) rep (tells .0) s, g .bought);
         sold = omega (arith, sold-then c t e long (m .0) (r .0) (x .0) rep (tells .0) s, g .sold);
         fair = rw (fair-then c t e long (m .0) (r .0) (x .0) rep (tells .0) s) (omega (arith, g .fair));
+        read = rw (tells-read (readOf rep) e _ _ (tells .0)) (omega (arith, g .read));
       }

@@ -51,6 +51,7 @@ module _ (t : List ℕ) (m : Market t) (l : 1 ≤ workOf t) (tells : StepTells t
         accounts = λ k. follows .accounts k ∙ ap (λ (b : Book). accountIn (at b k)) (sym after);
         balanced = follows .bought ∙ fair-balanced (bookOf t) (step-fair (bookOf t) (workOf t) _ shape) ∙ sym (follows .sold);
         fair = follows .fair;
+        read = follows .read;
       }
 
 -- ---- steps, where the reports of each tell its events

@@ -1,6 +1,7 @@
 -- What the report of an event says of its order, and what that makes of the order's account: exactly what the event makes of the
 -- order's own amounts.
 use mathlib.Core.Path.{_≡_, refl, sym, ap, _∙_}
+use mathlib.Core.Bool.{false}
 use mathlib.Core.Logic.{_≢_}
 use Prim.Native.Nat.{ℕ, _+_, _-_, _≤_}
 use native.Mathlib.Omega.{arith}
@@ -17,7 +18,7 @@ use Rattle.report.specs.declared.Kind.{Kind}
 use Rattle.report.specs.declared.Reading.{Reading}
 use Rattle.readback.specs.Says.{says}
 use Rattle.readback.specs.Told.{kindTold, reasonTold}
-use Rattle.promises.specs.Tallies.{Account, afterReport, noted}
+use Rattle.promises.specs.Tallies.{Account, afterReport, noted, isRefused}
 
 -- ---- what a report says
 
@@ -32,6 +33,19 @@ pub record Tells (r : Reading) (e : Event) (o : Order) (m : ℕ) : Type 0 where
   pub side : says 54 r ≡ o .side
   pub mpid : says 109 r ≡ o .mpid
   pub other : says 375 r ≡ m
+
+-- every event has a report that Read takes
+told-read : (e : Event) → isRefused (kindTold e) ≡ false
+told-read (event.Accepted n o) = refl
+told-read (event.Replaced n l q p) = refl
+told-read (event.Withdrawn n q) = refl
+told-read (event.Canceled n q) = refl
+told-read (event.Decremented n q) = refl
+told-read (event.Traded n m q l) = refl
+told-read (event.Expired n q) = refl
+
+pub tells-read : (r : Reading) (e : Event) (o : Order) (m : ℕ) → Tells r e o m → isRefused (r .kind) ≡ false
+tells-read r e o m t = ap isRefused (t .kind) ∙ told-read e
 
 -- ---- what an event does to an order
 

@@ -23,7 +23,7 @@ use Rattle.market.specs.declared.depth.DepthAnswer.the-variants as depth-answer
 use Rattle.market.specs.Depth.{depthAnswer}
 use Rattle.intake.proofs.Theorems.{submit-keeps}
 use Rattle.promises.specs.History.{Call, tableAfter, reportsAfter, stepsAfter, noSubmit}
-use Rattle.promises.specs.Tallies.{blank, accountOf, bought, sold, selfTrades}
+use Rattle.promises.specs.Tallies.{blank, accountOf, bought, sold, selfTrades, unread}
 use Rattle.promises.specs.Whole.{openIn, ordersIn, overDepth}
 use Rattle.promises.proofs.Kept.{Told, after-market, after-told, account-adds, account-left, account-none, submit-found, run-found, depth-found, buys-above}
 use Rattle.promises.proofs.Depths.{totals-open, orders-open}
@@ -71,7 +71,12 @@ module _ (before venue port code : List ℕ) (first : ℕ) (mpids modes : List �
   pub no-others : (k : ℕ) → (1 ≤ k → k ≤ filled table → ⊥) → accountOf k reports ≡ blank
   no-others = account-none table reports told
 
-  -- ---- all trades
+  -- ---- all reports
+
+  -- Read takes each of them
+  pub all-read : unread reports ≡ 0
+  all-read = told .read
+
 
   -- what is bought is sold
   pub balanced : bought reports ≡ sold reports
