@@ -1,6 +1,6 @@
 -- The lines of a side, one after another: how long they can be, and what is written after some of them.
-use mathlib.Core.Path.{_≡_, refl, sym, ap, _∙_}
-use mathlib.Core.Bool.{Bool, true, false, cond, _&&_, _||_, not}
+use mathlib.Core.Path.{_≡_, refl, sym, _∙_}
+use mathlib.Core.Bool.{cond, _&&_, _||_}
 use mathlib.Core.List.{List, [], _∷_, _++_, append-nil}
 use mathlib.Core.Logic.{⊎-elim}
 use Prim.Native.Nat.{ℕ, zero, suc, _+_, _*_, _-_, _≤_, _<_, zero-le}
@@ -8,19 +8,16 @@ use native.Mathlib.Numerals.{add-one}
 use native.Mathlib.Omega.{arith}
 use lib.Dec.{eqb, lit≤}
 use lib.ListN.{length, length-append}
-use borrow.Author.Tests.{eq-eqb, ne-eqb, ltb-true, eqb-true, eqb-false}
+use borrow.Author.Tests.{ne-eqb, ltb-true, eqb-false}
 use Rattle.octets.specs.Written.{Room, Wrote}
-use Rattle.octets.proofs.Bools.{split, both-l, both-r}
+use Rattle.octets.proofs.Bools.{split, both-l}
 use Rattle.octets.proofs.Places.{below-or}
 use Rattle.octets.proofs.Runs.{then, wrote-none, wrote-length}
 use Rattle.decimal.specs.Writing.{decimal, fixed}
 use Rattle.decimal.proofs.Digits.{decimal-few}
 use Rattle.decimal.proofs.RoundTrip.{fixed-length}
-use Rattle.matching.specs.declared.Order.{Order}
-use Rattle.matching.specs.declared.Depth.{Depth}
-use Rattle.matching.specs.declared.Depth.the-variants.{Level, NoLevel}
-use Rattle.matching.specs.Matching.{Book, at, openOf, isOpen, buys, ahead, sumOver, countOf}
-use Rattle.matching.specs.Depth.{stands, behind, nearer, next, levelAt, onLevel, share, total, orders, depth}
+use Rattle.matching.specs.Matching.{Book, at, buys, ahead, countOf}
+use Rattle.matching.specs.Depth.{stands, behind, nearer, next, levelAt, onLevel, total, orders, depth}
 use Rattle.matching.specs.Held.{In, Sound}
 use Rattle.matching.proofs.Books.{open-in, sum-most}
 use Rattle.matching.proofs.Levels.{total-most}

@@ -1,11 +1,11 @@
 -- A line as a message: the characters in turn; and a line longer than any message, which changes nothing whatever it says.
 use mathlib.Core.Path.{_≡_, refl, sym, ap, _∙_}
-use mathlib.Core.Bool.{Bool, true, false, cond, not, _&&_}
+use mathlib.Core.Bool.{not}
 use mathlib.Core.List.{List, [], _∷_, _++_, append-nil, append-assoc}
-use Prim.Native.Nat.{ℕ, zero, suc, _+_, _-_, _≤_, _<_, zero-le}
+use Prim.Native.Nat.{ℕ, suc, _+_, _-_, _≤_, _<_, zero-le}
 use native.Mathlib.Numerals.{add-one}
 use native.Mathlib.Omega.{arith}
-use lib.Dec.{eqb, ltb, leb}
+use lib.Dec.{eqb, ltb}
 use lib.ListN.{length, take, drop, getD, set, length-set}
 use lib.Seq.{drop-cons, take-all, drop-length, take-suc-set, drop-set-lt}
 use borrow.Author.Tests.{eq-eqb, ne-eqb, le-leb, lt-leb}

@@ -1,22 +1,20 @@
 -- The sheet, test by test: the heading alone, or with the lines of both sides behind it.
-use mathlib.Core.Path.{_≡_, refl, sym, ap, _∙_}
-use mathlib.Core.Bool.{Bool, true, false, cond, not, _&&_}
-use mathlib.Core.List.{List, [], _∷_, _++_}
-use Prim.Native.Nat.{ℕ, _+_, _*_, _≤_, _<_}
+use mathlib.Core.Path.{_≡_, refl, sym, _∙_}
+use mathlib.Core.Bool.{Bool, true, false, not}
+use mathlib.Core.List.{List}
+use Prim.Native.Nat.{ℕ, _+_, _≤_, _<_}
 use native.Mathlib.Omega.{arith}
-use lib.Dec.{eqb}
 use lib.ListN.{length}
 use borrow.Author.Tests.{eq-eqb, ne-eqb}
-use Rattle.octets.specs.Written.{Room, Wrote}
-use Rattle.octets.proofs.Bools.{split, both-not-l}
+use Rattle.octets.specs.Written.{Wrote}
 use Rattle.octets.proofs.Runs.{then, wrote-length}
 use Rattle.table.specs.Heading.{workOf}
-use Rattle.table.specs.Orders.{filled, bookOf}
+use Rattle.table.specs.Orders.{bookOf}
 use Rattle.table.specs.Market.{isMarket}
 use Rattle.table.specs.Facts.{Market}
 use Rattle.table.proofs.Same.{filled-few}
 use Rattle.table.proofs.Books.{length-book}
-use Rattle.sheet.specs.Sheet.{heading, lines, sideLines, bothSides, sheetOf}
+use Rattle.sheet.specs.Sheet.{heading, sideLines, bothSides, sheetOf}
 use Rattle.sheet.proofs.Lines.{lines-short}
 
 -- the lines of a side of a market

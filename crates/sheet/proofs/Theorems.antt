@@ -1,17 +1,15 @@
 -- What holds of the program for every input: after each line its market is a market with nothing in work, so that every message
 -- is run to its end, and what is printed is the heading and a line for each level.
-use mathlib.Core.Path.{_≡_, refl, sym, ap, _∙_}
-use mathlib.Core.Bool.{Bool, true, false, cond, not, _&&_}
+use mathlib.Core.Path.{_≡_}
+use mathlib.Core.Bool.{true, cond}
 use mathlib.Core.List.{List, [], _∷_, _++_}
-use Prim.Native.Nat.{ℕ, _+_, _*_, _≤_, _<_, zero-le}
+use Prim.Native.Nat.{ℕ, _+_, _≤_, zero-le}
 use native.Mathlib.Omega.{arith}
-use lib.Dec.{eqb, lit≤}
-use lib.ListN.{length, replicate, length-replicate}
-use borrow.Author.Tests.{eq-eqb}
+use lib.Dec.{lit≤}
+use lib.ListN.{length}
 use Rattle.octets.proofs.Bools.{split}
 use Rattle.matching.specs.Matching.{Book, at, faces, countOf, metBy}
 use Rattle.matching.proofs.Books.{sum-most}
-use Rattle.table.specs.Places.{tableBytes}
 use Rattle.table.specs.Heading.{workOf}
 use Rattle.table.specs.Orders.{bookOf}
 use Rattle.table.specs.Market.{isMarket}

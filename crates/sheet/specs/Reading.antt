@@ -29,12 +29,12 @@ pub record Onward (t line : List ℕ) (held : ℕ) (s t₂ line₂ : List ℕ) (
   pub buffer : Held line₂ held₂
   pub same : (u : List ℕ) → readOn t (take held line) (s ++ u) ≡ readOn t₂ (take held₂ line₂) u
 
--- after something was read: that is known of it, since nothing is known of what a read gives
+-- after some input was read; no contract says which bytes a read gives, so it is known that there is such an input and no more
 pub record Came (t line : List ℕ) (held : ℕ) (t₂ line₂ : List ℕ) (held₂ : ℕ) : Type 0 where
   pub input : List ℕ
   pub onward : Onward t line held input t₂ line₂ held₂
 
--- what the program prints for what it read, n bytes at the start of out
+-- the n bytes at the start of out are what the program prints for the input that it read
 pub record Printed (out : List ℕ) (n : ℕ) (after : List ℕ) : Type 0 where
   pub input : List ℕ
   pub wrote : Wrote out 0 (bookPrinted input) n after

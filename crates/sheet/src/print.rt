@@ -1,12 +1,11 @@
 // What is printed for a table: a heading, then a line for each level, the buys before the sells, the best first.
 ghost use mathlib.Core.Path.{_≡_};
-ghost use mathlib.Core.List.{_∷_, []};
 ghost use Prim.Native.Nat.{_+_, _≤_, _<_};
 ghost use lib.ListN.{length};
 ghost use Rattle.octets.specs.Written.{Room, Wrote};
 ghost use Rattle.table.specs.Orders.{filled, bookOf};
 ghost use Rattle.table.specs.Facts.{Market};
-ghost use Rattle.sheet.specs.Sheet.{heading, figure, levelLine, sideLines, bothSides, sheetOf};
+ghost use Rattle.sheet.specs.Sheet.{figure, levelLine, sideLines, bothSides, sheetOf};
 use audit::is_market;
 use decimal::write::put_byte;
 use decimal::write::put_decimal;

@@ -2,7 +2,6 @@
 // ended is held in a buffer; of a line longer than a message only so much is held that it is seen to be.
 ghost use mathlib.Core.Path.{_≡_};
 ghost use mathlib.Core.List.{_∷_, []};
-ghost use Prim.Native.Nat.{_≤_};
 ghost use lib.ListN.{length, take};
 ghost use Rattle.sheet.specs.Book.{areaBytes, byteFor, messageOf, lineTaken};
 ghost use Rattle.sheet.specs.Reading.{readOn, Held, Onward};
