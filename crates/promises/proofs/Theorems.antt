@@ -77,7 +77,6 @@ module _ (before venue port code : List ℕ) (first : ℕ) (mpids modes : List �
   pub all-read : unread reports ≡ 0
   all-read = told .read
 
-
   -- what is bought is sold
   pub balanced : bought reports ≡ sold reports
   balanced = told .balanced

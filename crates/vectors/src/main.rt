@@ -58,7 +58,15 @@ fn open_named(table: &mut [u8], venue: &[u8], port: &[u8], code: &[u8], s: &[u8]
     let mut modes = [0u64; 16];
     let n = entries(s, &mut mpids, &mut modes);
     let number = number(part(s, 3));
-    kamurjesh_open(table, venue, port, code, number, first(&mpids, n), first(&modes, n))
+    kamurjesh_open(
+        table,
+        venue,
+        port,
+        code,
+        number,
+        first(&mpids, n),
+        first(&modes, n),
+    )
 }
 
 // Open.
@@ -99,7 +107,14 @@ fn run(table: &mut [u8], s: &[u8]) {
     let mut steps = 0;
     let room = at_most(number(part(s, 0)), 65536);
     let budget = number(part(s, 1));
-    let refusal = kamurjesh_run(table, &mut area[..room], budget, &mut bytes, &mut reports, &mut steps);
+    let refusal = kamurjesh_run(
+        table,
+        &mut area[..room],
+        budget,
+        &mut bytes,
+        &mut reports,
+        &mut steps,
+    );
     say::word(b"r");
     say::number(refusal);
     say::number(bytes);
@@ -227,7 +242,10 @@ fn read_line(buffer: &mut [u8]) -> Got {
     while i < buffer.len() {
         let b = read_byte();
         if b > 255 {
-            return Got { len: i, more: false };
+            return Got {
+                len: i,
+                more: false,
+            };
         }
         if b == 10 {
             return Got { len: i, more: true };

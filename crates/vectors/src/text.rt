@@ -104,11 +104,7 @@ pub fn number(s: &[u8]) -> u64 {
 pub fn at_most(n: u64, most: usize) -> usize
     ensures { λ r. ⌜ r ≤ most ⌝ }
 {
-    if n < most as u64 {
-        n as usize
-    } else {
-        most
-    }
+    if n < most as u64 { n as usize } else { most }
 }
 
 // The value of a hex digit, and 0 for what is none.

@@ -2,8 +2,8 @@
 use Rattle.audit.proofs.Amounts.{next-small}
 use Rattle.audit.proofs.Walked.{not-long, market-is}
 use borrow.Author.Needs.{needs}
-use Rattle.audit.proofs.market.is_market.Statement.{statement}
-use Rattle.audit.proofs.market.is_market.Tie as tie
+use Rattle.audit.proofs.whole.is_market.Statement.{statement}
+use Rattle.audit.proofs.whole.is_market.Tie as tie
 
 returns : tie.Need-returns
 returns c = not-long _ (c .if1 .taken)
