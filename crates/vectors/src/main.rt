@@ -85,31 +85,37 @@ fn open(table: &mut [u8], s: &[u8]) {
     say::word(b"\n");
 }
 
+// Submit, with as much of the area as the command lends.
+fn submit_in(table: &mut [u8], message: &[u8], area: &mut [u8], lent: u64) {
+    let mut len = 0;
+    let from = 0;
+    let room = at_most(lent, area.len());
+    let refusal = kamurjesh_submit(table, message, &mut area[from..room], &mut len);
+    say::word(b"s");
+    say::number(refusal);
+    say::number(len);
+    say::rest(part_at(area, 0, len as usize));
+}
+
 // Submit.
 fn submit(table: &mut [u8], s: &[u8]) {
     let mut message = [0u8; 8192];
     let mut area = io::large_buffer();
-    let mut len = 0;
     let n = bytes_of(part(s, 1), &mut message);
-    let room = at_most(number(part(s, 0)), 65536);
-    let refusal = kamurjesh_submit(table, part_at(&message, 0, n), &mut area[..room], &mut len);
-    say::word(b"s");
-    say::number(refusal);
-    say::number(len);
-    say::rest(part_at(&area, 0, len as usize));
+    let lent = number(part(s, 0));
+    submit_in(table, part_at(&message, 0, n), &mut area, lent);
 }
 
-// Run.
-fn run(table: &mut [u8], s: &[u8]) {
-    let mut area = io::large_buffer();
+// Run, with as much of the area as the command lends.
+fn run_in(table: &mut [u8], area: &mut [u8], lent: u64, budget: u64) {
     let mut bytes = 0;
     let mut reports = 0;
     let mut steps = 0;
-    let room = at_most(number(part(s, 0)), 65536);
-    let budget = number(part(s, 1));
+    let from = 0;
+    let room = at_most(lent, area.len());
     let refusal = kamurjesh_run(
         table,
-        &mut area[..room],
+        &mut area[from..room],
         budget,
         &mut bytes,
         &mut reports,
@@ -120,7 +126,15 @@ fn run(table: &mut [u8], s: &[u8]) {
     say::number(bytes);
     say::number(reports);
     say::number(steps);
-    say::rest(part_at(&area, 0, bytes as usize));
+    say::rest(part_at(area, 0, bytes as usize));
+}
+
+// Run.
+fn run(table: &mut [u8], s: &[u8]) {
+    let mut area = io::large_buffer();
+    let lent = number(part(s, 0));
+    let budget = number(part(s, 1));
+    run_in(table, &mut area, lent, budget);
 }
 
 // Depth's level.
@@ -265,7 +279,7 @@ fn turn(table: &mut [u8], buffer: &mut [u8]) -> bool {
 
 // The lines, one after another, at most a million.
 fn lines(table: &mut [u8], buffer: &mut [u8]) {
-    let mut k = 0;
+    let mut k: u64 = 0;
     while k < 1000000 {
         if !turn(table, buffer) {
             return;
