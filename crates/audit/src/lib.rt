@@ -1,8 +1,8 @@
 // Whether the bytes of a table are a market.
 pub mod book;
 pub mod checks;
-pub mod market;
 pub mod marks;
 pub mod sound;
+pub mod whole;
 
-pub use market::is_market;
+pub use whole::is_market;

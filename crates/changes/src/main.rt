@@ -1,9 +1,9 @@
 // Reads reports, one a line with `|` for SOH, and changes each byte of them to each of the 255 other values, one at a time: how many
 // of the changed reports are refused and how many are read, as they are and with their 10 made true again. Its file `stdout` was worked
 // out with the second program (tests/second), which read every one of them.
+use fix::frame::checksum;
 use octets::part::copy_into;
 use report::Kind;
-use report::write::check_sum;
 use report::write::put_trailer;
 ghost use mathlib.Core.Path.{_≡_};
 ghost use Prim.Native.Nat.{_≤_, _<_};
@@ -44,7 +44,7 @@ fn mend(s: &mut [u8])
     ensures { λ r. ⌜ now (s .exit) ≡ mended (now (s .entry)) ⌝ }
 {
     let end = s.len() - 7;
-    let sum = check_sum(&s[..end]);
+    let sum = checksum(&s[..end]);
     put_trailer(s, end, sum);
 }
 

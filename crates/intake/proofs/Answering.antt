@@ -1,10 +1,9 @@
 -- What the message asks is what Submit does: by the answer of the checks, by the request, and by the first refusals of the call.
-use mathlib.Core.Path.{_≡_, refl, sym, ap, subst, _∙_}
-use mathlib.Core.Bool.{Bool, true, false, cond, not}
-use mathlib.Core.List.{List, []}
+use mathlib.Core.Path.{_≡_, refl, sym, subst, _∙_}
+use mathlib.Core.Bool.{Bool, true, false, not}
+use mathlib.Core.List.{List}
 use Prim.Native.Nat.{ℕ, _≤_, _<_}
 use native.Mathlib.Omega.{arith}
-use lib.Dec.{eqb, ltb}
 use lib.ListN.{length}
 use borrow.Author.Tests.{eq-eqb, ne-eqb, lt-ltb, le-ltb, not-false}
 use Rattle.octets.specs.Octets.{put}
@@ -24,9 +23,9 @@ use Rattle.calls.specs.declared.Standing.{Standing}
 use Rattle.calls.specs.declared.Standing.the-variants.{Stands, Fails}
 use Rattle.calls.specs.declared.SubmitAnswer.{SubmitAnswer}
 use Rattle.calls.specs.declared.SubmitAnswer.the-variants as answer
-use Rattle.calls.specs.Told.{joined, areaAfter}
+use Rattle.calls.specs.Told.{joined}
 use Rattle.calls.specs.Checks.{textOf, holder, newStands, cancelStands, replaceStands}
-use Rattle.calls.specs.Submit.{Submitted, unchanged, faulted, newRejected, changeRejected, newTaken, replacementTaken, cancelTaken, entering, replacing, canceling, handled, submitted}
+use Rattle.calls.specs.Submit.{unchanged, faulted, newRejected, changeRejected, newTaken, replacementTaken, cancelTaken, entering, replacing, canceling, handled, submitted}
 use Rattle.intake.specs.Intake.{Asking, Unmet, Left}
 use Rattle.intake.proofs.Legibles.{replace-unmet, cancel-unmet}
 

@@ -1,11 +1,10 @@
 -- The checks of a request, test by test in their order.
-use mathlib.Core.Path.{_≡_, refl, sym, ap, _∙_}
-use mathlib.Core.Bool.{Bool, true, false, cond, not, _&&_, _||_}
+use mathlib.Core.Path.{_≡_, sym, _∙_}
+use mathlib.Core.Bool.{Bool, true, false, not, _&&_, _||_}
 use mathlib.Core.List.{List}
 use Prim.Native.Nat.{ℕ, _+_, _≤_, _<_}
 use native.Mathlib.Omega.{arith}
-use lib.Dec.{eqb, ltb, leb}
-use lib.ListN.{length}
+use lib.Dec.{eqb, ltb}
 use mir.Syntax.{w64}
 use mir.Val.{Fits}
 use borrow.Author.Tests.{eqb-false, eq-eqb, ne-eqb, le-leb, lt-leb, lt-ltb, le-ltb}

@@ -1,8 +1,8 @@
 -- How many reports Submit writes, how long they are, and what becomes of the next number.
 use mathlib.Core.Path.{_≡_, refl, sym, ap, _∙_}
-use mathlib.Core.Bool.{Bool, true, false}
-use mathlib.Core.List.{List, [], _∷_, _++_, append-nil}
-use Prim.Native.Nat.{ℕ, _+_, _*_, _^_, _≤_, _<_}
+use mathlib.Core.Bool.{true}
+use mathlib.Core.List.{List, _∷_}
+use Prim.Native.Nat.{ℕ, _+_, _*_, _≤_}
 use native.Mathlib.Nat.{add-zero}
 use native.Mathlib.Omega.{arith}
 use lib.Dec.{lit≤}
@@ -37,7 +37,7 @@ use Rattle.calls.specs.declared.Standing.the-variants.{Stands, Fails}
 use Rattle.calls.specs.declared.SubmitAnswer.{SubmitAnswer}
 use Rattle.calls.specs.declared.SubmitAnswer.the-variants as answer
 use Rattle.calls.specs.Checks.{textOf, holder, newStands, cancelStands, replaceStands}
-use Rattle.calls.specs.Submit.{Submitted, reported, rejecting, faulted, newRejected, changeRejected, newOrderOf, newTaken, replacementTaken, cancelTaken, entering, replacing, canceling, handled, submitted, submitLength, submitNumber}
+use Rattle.calls.specs.Submit.{Submitted, rejecting, faulted, newRejected, changeRejected, newOrderOf, newTaken, replacementTaken, cancelTaken, entering, replacing, canceling, handled, submitted, submitLength, submitNumber}
 use Rattle.intake.specs.Intake.{Asking}
 use Rattle.intake.proofs.Standing.{replace-in, cancel-in}
 use Rattle.intake.proofs.Doing.{accepted-long, replaced-long, withdrawn-long}

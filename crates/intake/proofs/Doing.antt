@@ -1,8 +1,8 @@
 -- What the functions that take a request need at each call: from what is asked and stands to what the table's stores and the
 -- report ask for.
-use mathlib.Core.Path.{_≡_, refl, sym, ap, _∙_}
-use mathlib.Core.Bool.{Bool, true, false, _||_}
-use mathlib.Core.List.{List, [], _∷_}
+use mathlib.Core.Path.{_≡_, ap, _∙_}
+use mathlib.Core.Bool.{true, _||_}
+use mathlib.Core.List.{List}
 use Prim.Native.Nat.{ℕ, _+_, _*_, _≤_, _<_}
 use native.Mathlib.Omega.{arith}
 use lib.Dec.{eqb, leb}
@@ -35,7 +35,7 @@ use Rattle.calls.specs.declared.Standing.the-variants.{Stands}
 use Rattle.calls.specs.Checks.{textOf, holder, newStands, cancelStands, replaceStands}
 use Rattle.calls.specs.Submit.{sentAt, noText, causeOf, newOrderOf}
 use Rattle.intake.specs.Intake.{Asking, orderWith}
-use Rattle.intake.proofs.Standing.{new-sound, new-capacity, new-class, new-free, cancel-in, cancel-holds}
+use Rattle.intake.proofs.Standing.{new-sound, new-capacity, new-class, new-free, cancel-holds}
 use Rattle.intake.proofs.Checking.{holder-below, below-256}
 use Rattle.intake.proofs.Legibles.{enter-legible, cancel-due, cancel-legible, replace-due, replace-legible}
 

@@ -1,11 +1,10 @@
 -- Submit leaves a market where it found one, whatever the message and the room.
-use mathlib.Core.Path.{_≡_, refl, sym, ap, _∙_}
-use mathlib.Core.Bool.{Bool, true, false, cond, not}
+use mathlib.Core.Path.{_≡_, refl, sym, ap}
+use mathlib.Core.Bool.{true, false, not}
 use mathlib.Core.List.{List}
-use Prim.Native.Nat.{ℕ, _+_, _≤_, _<_}
+use Prim.Native.Nat.{ℕ, _≤_, _<_}
 use native.Mathlib.Omega.{arith}
 use lib.Dec.{eqb, ltb}
-use lib.ListN.{length}
 use borrow.Author.Tests.{eqb-true, eqb-false, ltb-true, ltb-false, not-true, not-false}
 use Rattle.octets.proofs.Bools.{split}
 use Rattle.request.specs.declared.Refusal.{Refusal}
@@ -16,20 +15,18 @@ use Rattle.request.specs.declared.Asked.{Asked}
 use Rattle.request.specs.declared.Asked.the-variants.{Garbled, Refused, Enters, Replaces, Cancels}
 use Rattle.request.specs.Asks.{askedOf}
 use Rattle.matching.specs.declared.Order.{Order}
-use Rattle.matching.specs.declared.Event.the-variants.{Replaced, Withdrawn}
 use Rattle.matching.specs.Matching.{openOf}
 use Rattle.table.specs.Heading.{venueOf, portOf, nextOf, workOf}
-use Rattle.table.specs.Orders.{orderAt, filled}
+use Rattle.table.specs.Orders.{orderAt}
 use Rattle.table.specs.Market.{isMarket}
-use Rattle.table.specs.Facts.{Market}
-use Rattle.table.specs.Changes.{numbered, taken}
-use Rattle.table.proofs.Facts.{market-facts, facts-market}
+use Rattle.table.specs.Changes.{numbered}
+use Rattle.table.proofs.Facts.{market-facts}
 use Rattle.table.proofs.Theorems.{a-number-keeps, a-new-order-keeps, a-replacement-keeps, a-cancel-keeps}
 use Rattle.calls.specs.declared.Standing.{Standing}
 use Rattle.calls.specs.declared.Standing.the-variants.{Stands, Fails}
 use Rattle.calls.specs.declared.SubmitAnswer.the-variants as answer
 use Rattle.calls.specs.Checks.{textOf, holder, newStands, cancelStands, replaceStands}
-use Rattle.calls.specs.Submit.{Submitted, unchanged, rejecting, faulted, newRejected, changeRejected, newOrderOf, newTaken, replacementTaken, cancelTaken, entering, replacing, canceling, handled, submitted}
+use Rattle.calls.specs.Submit.{unchanged, rejecting, faulted, newRejected, changeRejected, newOrderOf, newTaken, replacementTaken, cancelTaken, entering, replacing, canceling, handled, submitted}
 use Rattle.intake.specs.Intake.{Asking}
 use Rattle.intake.proofs.Standing.{new-named, new-account, new-account-short, new-capacity, new-class, new-enters, new-time, cancel-in, cancel-at, cancel-named, replace-in, replace-named, replace-renews, replace-time}
 

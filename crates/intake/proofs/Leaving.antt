@@ -1,20 +1,17 @@
 -- What each request leaves, from what was written: the answer, the table, and the report area.
-use mathlib.Core.Path.{_≡_, refl, sym, ap, _∙_}
-use mathlib.Core.Bool.{Bool, true, false, cond, not, _&&_, _||_}
-use mathlib.Core.List.{List, [], _∷_, _++_, append-nil}
-use Prim.Native.Nat.{ℕ, _+_, _≤_, _<_}
+use mathlib.Core.Path.{_≡_, ap, _∙_}
+use mathlib.Core.List.{List, [], _∷_, append-nil}
+use Prim.Native.Nat.{ℕ, _+_, _≤_}
 use native.Mathlib.Omega.{arith}
 use lib.ListN.{length}
 use Rattle.octets.specs.Octets.{leAt, put}
 use Rattle.octets.specs.Written.{Wrote}
-use Rattle.octets.proofs.Places.{length-put}
 use Rattle.fix.specs.declared.frame.Part.{Part}
 use Rattle.request.specs.declared.Refusal.{Refusal}
 use Rattle.request.specs.declared.NewOrder.{NewOrder}
 use Rattle.request.specs.declared.Replacement.{Replacement}
 use Rattle.request.specs.declared.Cancellation.{Cancellation}
 use Rattle.matching.specs.declared.Order.{Order}
-use Rattle.matching.specs.declared.Event.{Event}
 use Rattle.matching.specs.declared.Event.the-variants.{Accepted, Replaced, Withdrawn}
 use Rattle.matching.specs.Matching.{openOf}
 use Rattle.table.specs.Heading.{nextOf, putNext, putWork}
@@ -31,7 +28,7 @@ use Rattle.calls.specs.declared.SubmitAnswer.{SubmitAnswer}
 use Rattle.calls.specs.declared.SubmitAnswer.the-variants as answer
 use Rattle.calls.specs.Told.{joined, areaAfter}
 use Rattle.calls.specs.Checks.{textOf}
-use Rattle.calls.specs.Submit.{Submitted, reported, sentAt, noText, causeOf, rejecting, faulted, newRejected, changeRejected, newOrderOf, newTaken, replacementTaken, cancelTaken}
+use Rattle.calls.specs.Submit.{reported, sentAt, noText, causeOf, rejecting, faulted, newRejected, changeRejected, newOrderOf, newTaken, replacementTaken, cancelTaken}
 use Rattle.intake.specs.Intake.{orderWith, Left}
 
 -- ---- one report

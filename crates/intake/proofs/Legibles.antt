@@ -1,17 +1,16 @@
 -- Every report that Submit writes is legible, on the table that it is written from; and the event of a request that is taken can
 -- happen to the book.
-use mathlib.Core.Path.{_≡_, refl, sym, ap, _∙_}
-use mathlib.Core.Bool.{Bool, true, false, cond, not, _&&_, _||_}
+use mathlib.Core.Path.{_≡_, refl, ap, _∙_}
+use mathlib.Core.Bool.{true, not, _&&_, _||_}
 use mathlib.Core.List.{List, [], _∷_}
-use Prim.Native.Nat.{ℕ, _+_, _≤_, _<_}
+use Prim.Native.Nat.{ℕ, _+_, _≤_}
 use native.Mathlib.Omega.{arith}
 use lib.Dec.{eqb, ltb, leb, lit≤}
 use lib.ListN.{length}
-use Rattle.octets.specs.Octets.{partAt}
 use Rattle.octets.proofs.Bools.{split}
 use Rattle.decimal.specs.Reading.{isTime}
 use Rattle.fix.specs.declared.frame.Part.{Part}
-use Rattle.fix.proofs.Values.{Spelt, Timed}
+use Rattle.fix.proofs.Values.{Spelt}
 use Rattle.request.specs.declared.Refusal.{Refusal}
 use Rattle.request.specs.declared.NewOrder.{NewOrder}
 use Rattle.request.specs.declared.Replacement.{Replacement}
@@ -22,8 +21,6 @@ use Rattle.request.specs.Session.{oneOf}
 use Rattle.request.proofs.Requests.{enters-right}
 use Rattle.request.proofs.Saying.{enters-spelt, replaces-spelt, cancels-spelt}
 use Rattle.request.proofs.Refusals.{refused-spelt}
-use Rattle.matching.specs.declared.Order.{Order}
-use Rattle.matching.specs.declared.Event.{Event}
 use Rattle.matching.specs.declared.Event.the-variants.{Accepted, Replaced, Withdrawn}
 use Rattle.matching.specs.Matching.{at, openOf}
 use Rattle.matching.specs.Held.{Ready}
@@ -44,7 +41,7 @@ use Rattle.calls.specs.declared.Standing.the-variants.{Stands, Fails}
 use Rattle.calls.specs.Checks.{textOf, holder, inTable, isCode, newStands, changeStands, cancelStands, andAbove, replaceStands}
 use Rattle.calls.specs.Submit.{sentAt, noText, causeOf, newOrderOf}
 use Rattle.intake.specs.Intake.{Asking, Unmet}
-use Rattle.intake.proofs.Standing.{between-printable, between-digits, holder-few, new-named, new-account, new-account-short, new-capacity, new-class, new-enters, new-time, cancel-in, cancel-at, cancel-named, replace-in, replace-at, replace-named, replace-renews, replace-time}
+use Rattle.intake.proofs.Standing.{between-printable, between-digits, holder-few, new-named, new-account, new-account-short, new-capacity, new-class, new-enters, new-time, cancel-in, cancel-at, cancel-named, replace-in, replace-named, replace-renews}
 
 -- ---- texts of the message
 

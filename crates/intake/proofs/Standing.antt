@@ -1,34 +1,33 @@
 -- What a request that stands promises: a ClOrdID that no order has, an order in its ranges, a record that has something open; so the
 -- table after it is a market.
-use mathlib.Core.Path.{_≡_, refl, sym, ap, _∙_}
-use mathlib.Core.Bool.{Bool, true, false, cond, not, _&&_, _||_}
+use mathlib.Core.Path.{_≡_, refl, sym}
+use mathlib.Core.Bool.{Bool, true, false, not, _&&_, _||_}
 use mathlib.Core.List.{List, [], _∷_}
-use Prim.Native.Nat.{ℕ, zero, suc, _+_, _-_, _≤_, _<_}
+use Prim.Native.Nat.{ℕ, suc, _+_, _-_, _≤_, _<_}
 use native.Mathlib.Omega.{arith}
-use lib.Dec.{eqb, ltb, leb, lit≤}
-use lib.ListN.{length, getD}
-use borrow.Author.Tests.{eqb-true, eqb-false, ltb-true, ltb-false, leb-true, leb-false, le-leb, lt-ltb, eq-eqb, ne-eqb, not-true, not-false}
-use Rattle.octets.specs.Octets.{partAt, sameBytes}
-use Rattle.octets.proofs.Bools.{split, both-i, both-l, both-r, or-l, or-r, neither-l, neither-r}
+use lib.Dec.{eqb, ltb, leb}
+use lib.ListN.{length}
+use borrow.Author.Tests.{eqb-true, eqb-false, ltb-true, ltb-false, leb-false, le-leb, lt-ltb, not-false}
+use Rattle.octets.specs.Octets.{sameBytes}
+use Rattle.octets.proofs.Bools.{split, both-i, or-l, neither-l, neither-r}
 use Rattle.decimal.specs.Reading.{isDigit, isTime}
-use Rattle.fix.proofs.Values.{Between, Spelt, Timed}
+use Rattle.fix.proofs.Values.{Between}
 use Rattle.request.specs.declared.NewOrder.{NewOrder}
 use Rattle.request.specs.declared.Replacement.{Replacement}
 use Rattle.request.specs.declared.Cancellation.{Cancellation}
 use Rattle.request.specs.declared.Asked.the-variants.{Enters, Replaces, Cancels}
 use Rattle.request.specs.Session.{oneOf}
-use Rattle.request.proofs.Requests.{NewRight, Sized, enters-right, replaces-right, cancels-right}
+use Rattle.request.proofs.Requests.{NewRight, enters-right, replaces-right}
 use Rattle.request.proofs.Saying.{NewSpelt, enters-spelt, ReplacementSpelt, replaces-spelt, CancelSpelt, cancels-spelt}
-use Rattle.matching.specs.declared.Order.{Order}
 use Rattle.matching.specs.Matching.{at, openOf}
 use Rattle.matching.specs.Held.{Sound, In, Enters as Entering, Renews}
-use Rattle.table.specs.Heading.{codeOf, nextOf, workOf, isListed}
-use Rattle.table.specs.Orders.{orderAt, filled, bookOf, recordWith, clOrdIdAt}
+use Rattle.table.specs.Heading.{codeOf, nextOf, isListed}
+use Rattle.table.specs.Orders.{orderAt, filled, bookOf, recordWith}
 use Rattle.table.specs.Market.{every, isPrintable, isCapacity, isClass}
-use Rattle.table.specs.Facts.{Market, Named}
+use Rattle.table.specs.Facts.{Named}
 use Rattle.table.proofs.Books.{length-book, at-book}
 use Rattle.table.proofs.Same.{filled-few}
-use Rattle.table.proofs.Lookups.{record-none, record-found, market-sound}
+use Rattle.table.proofs.Lookups.{record-none, record-found}
 use Rattle.calls.specs.declared.Standing.{Standing}
 use Rattle.calls.specs.declared.Standing.the-variants.{Stands, Fails}
 use Rattle.calls.specs.Checks.{textOf, holder, inTable, isCode, newStands, changeStands, cancelStands, andAbove, replaceStands}

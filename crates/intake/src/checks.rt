@@ -4,7 +4,6 @@ ghost use mathlib.Core.Bool.{not, _&&_};
 ghost use Prim.Native.Nat.{_+_, _≤_, _<_};
 ghost use lib.Dec.{ltb};
 ghost use lib.ListN.{length};
-ghost use Rattle.octets.specs.Octets.{sameBytes};
 ghost use Rattle.table.specs.Places.{tableBytes};
 ghost use Rattle.table.specs.Heading.{isListed};
 ghost use Rattle.table.specs.Orders.{filled};
@@ -117,7 +116,7 @@ pub fn cancel_stands(t: &[u8], message: &[u8], k: usize, o: Cancellation) -> Sta
 }
 
 // A quantity above what is executed and decremented of record k.
-fn is_above(t: &[u8], k: usize, quantity: u64) -> Standing
+fn quantity_stands(t: &[u8], k: usize, quantity: u64) -> Standing
     requires { ⌜ Market (now t) × (1 ≤ k) × (k ≤ filled (now t)) ⌝ }
     ensures { λ r. ⌜ r ≡ andAbove (now (t .entry)) k quantity Stands ⌝ }
 {
@@ -141,6 +140,6 @@ pub fn replace_stands(t: &[u8], message: &[u8], k: usize, o: Replacement) -> Sta
         o.side,
     ) {
         Standing::Fails(r) => Standing::Fails(r),
-        Standing::Stands => is_above(t, k, o.quantity),
+        Standing::Stands => quantity_stands(t, k, o.quantity),
     }
 }

@@ -1,5 +1,4 @@
 // What a message asks of a market that can take it: done, or rejected.
-ghost use mathlib.Core.Path.{_≡_};
 ghost use Prim.Native.Nat.{_≤_};
 ghost use lib.ListN.{length};
 ghost use Rattle.request.specs.declared.Asked.the-variants.{Enters, Replaces, Cancels};
@@ -26,7 +25,8 @@ use request::Replacement;
 // A new order is entered, or rejected.
 fn enters(table: &mut [u8], message: &[u8], area: &mut [u8], o: NewOrder) -> SubmitAnswer
     requires { ⌜ Asking (now table) (now message) (Enters o) × (1024 ≤ length (now area)) ⌝ }
-    ensures { λ r. ⌜ Left (entering (now (table .entry)) (now (message .entry)) o (newStands (now (table .entry)) (now (message .entry)) o)) (now (area .entry)) r (now (table .exit)) (now (area .exit)) ⌝ }
+    ensures { λ r. ⌜ Left (entering (now (table .entry)) (now (message .entry)) o (newStands (now (table .entry)) (now (message .entry)) o))
+        (now (area .entry)) r (now (table .exit)) (now (area .exit)) ⌝ }
 {
     match new_stands(table, message, o) {
         Standing::Stands => enter(table, message, area, o),
@@ -37,7 +37,8 @@ fn enters(table: &mut [u8], message: &[u8], area: &mut [u8], o: NewOrder) -> Sub
 // A replacement is done, or rejected.
 fn replaces(table: &mut [u8], message: &[u8], area: &mut [u8], o: Replacement) -> SubmitAnswer
     requires { ⌜ Asking (now table) (now message) (Replaces o) × (1024 ≤ length (now area)) ⌝ }
-    ensures { λ r. ⌜ Left (replacing (now (table .entry)) (now (message .entry)) o (replaceStands (now (table .entry)) (now (message .entry)) o)) (now (area .entry)) r (now (table .exit)) (now (area .exit)) ⌝ }
+    ensures { λ r. ⌜ Left (replacing (now (table .entry)) (now (message .entry)) o (replaceStands (now (table .entry)) (now (message .entry)) o))
+        (now (area .entry)) r (now (table .exit)) (now (area .exit)) ⌝ }
 {
     let k = holder_of(table, message, o.original);
     match replace_stands(table, message, k, o) {
@@ -51,7 +52,8 @@ fn replaces(table: &mut [u8], message: &[u8], area: &mut [u8], o: Replacement) -
 // A cancel is done, or rejected.
 fn cancels(table: &mut [u8], message: &[u8], area: &mut [u8], o: Cancellation) -> SubmitAnswer
     requires { ⌜ Asking (now table) (now message) (Cancels o) × (1024 ≤ length (now area)) ⌝ }
-    ensures { λ r. ⌜ Left (canceling (now (table .entry)) (now (message .entry)) o (cancelStands (now (table .entry)) (now (message .entry)) o)) (now (area .entry)) r (now (table .exit)) (now (area .exit)) ⌝ }
+    ensures { λ r. ⌜ Left (canceling (now (table .entry)) (now (message .entry)) o (cancelStands (now (table .entry)) (now (message .entry)) o))
+        (now (area .entry)) r (now (table .exit)) (now (area .exit)) ⌝ }
 {
     let k = holder_of(table, message, o.original);
     match cancel_stands(table, message, k, o) {

@@ -1,8 +1,8 @@
 // Submit: one message is taken or refused, and its first report is written.
-pub mod checks;
-pub mod handle;
-pub mod rejects;
-pub mod takes;
+mod checks;
+mod handle;
+mod rejects;
+mod takes;
 
 ghost use mathlib.Core.Path.{_≡_};
 ghost use lib.ListN.{length};

@@ -80,7 +80,8 @@ pub fn reject_change(
     response: u64,
 ) -> SubmitAnswer
     requires { ⌜ Unmet (now table) (now message) time id original k reason response × (1024 ≤ length (now area)) ⌝ }
-    ensures { λ r. ⌜ Left (changeRejected (now (table .entry)) (now (message .entry)) time id original k reason response) (now (area .entry)) r (now (table .exit)) (now (area .exit)) ⌝ }
+    ensures { λ r. ⌜ Left (changeRejected (now (table .entry)) (now (message .entry)) time id original k reason response)
+        (now (area .entry)) r (now (table .exit)) (now (area .exit)) ⌝ }
 {
     let n = next(table);
     let when = sent_at(time);

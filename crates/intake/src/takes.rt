@@ -105,7 +105,8 @@ fn new_order(terms: Terms, place: u64) -> Order
 // A new order is written as record k.
 fn write_new(t: &mut [u8], message: &[u8], k: usize, o: NewOrder, order: Order)
     requires { ⌜ Asking (now t) (now message) (Enters o) × (k < 256) × (order ≡ newOrderOf (now t) (now message) o) ⌝ }
-    ensures { λ _. ⌜ now (t .exit) ≡ accepted (now (t .entry)) k (textOf (now (message .entry)) (o .id)) (textOf (now (message .entry)) (o .account)) (o .terms .capacity) (o .terms .class) order ⌝ }
+    ensures { λ _. ⌜ now (t .exit) ≡ accepted (now (t .entry)) k (textOf (now (message .entry)) (o .id)) (textOf (now (message .entry)) (o .account))
+        (o .terms .capacity) (o .terms .class) order ⌝ }
 {
     let capacity = o.terms.capacity as u8;
     let class = o.terms.class as u8;
@@ -146,7 +147,8 @@ pub fn renew(
     o: Replacement,
     k: usize,
 ) -> SubmitAnswer
-    requires { ⌜ Asking (now table) (now message) (Replaces o) × (replaceStands (now table) (now message) o ≡ Stands) × (k ≡ holder (now table) (textOf (now message) (o .original))) × (1024 ≤ length (now area)) ⌝ }
+    requires { ⌜ Asking (now table) (now message) (Replaces o) × (replaceStands (now table) (now message) o ≡ Stands)
+        × (k ≡ holder (now table) (textOf (now message) (o .original))) × (1024 ≤ length (now area)) ⌝ }
     ensures { λ r. ⌜ Left (replacementTaken (now (table .entry)) (now (message .entry)) o k) (now (area .entry)) r (now (table .exit)) (now (area .exit)) ⌝ }
 {
     let n = next(table);
@@ -178,7 +180,8 @@ pub fn withdraw(
     o: Cancellation,
     k: usize,
 ) -> SubmitAnswer
-    requires { ⌜ Asking (now table) (now message) (Cancels o) × (cancelStands (now table) (now message) o ≡ Stands) × (k ≡ holder (now table) (textOf (now message) (o .original))) × (1024 ≤ length (now area)) ⌝ }
+    requires { ⌜ Asking (now table) (now message) (Cancels o) × (cancelStands (now table) (now message) o ≡ Stands)
+        × (k ≡ holder (now table) (textOf (now message) (o .original))) × (1024 ≤ length (now area)) ⌝ }
     ensures { λ r. ⌜ Left (cancelTaken (now (table .entry)) (now (message .entry)) o k) (now (area .entry)) r (now (table .exit)) (now (area .exit)) ⌝ }
 {
     let n = next(table);

@@ -20,13 +20,13 @@ pub enum DepthAnswer {
 }
 
 // The total open quantity of a level, and its number of orders.
-struct OnLevel {
-    total: u64,
-    orders: u64,
+pub struct OnLevel {
+    pub total: u64,
+    pub orders: u64,
 }
 
 // The best level of a side behind level x; 0 if there is none.
-fn next_level(t: &[u8], n: usize, side: u64, x: u64) -> u64
+pub fn next_level(t: &[u8], n: usize, side: u64, x: u64) -> u64
     requires { ⌜ Market (now t) × (n ≡ filled (now t)) ⌝ }
     ensures { λ r. ⌜ r ≡ next (bookOf (now (t .entry))) side x n ⌝ }
 {
@@ -57,7 +57,7 @@ fn level_at(t: &[u8], n: usize, side: u64, k: u64) -> u64
 }
 
 // What stands on a level of a side.
-fn sums(t: &[u8], n: usize, side: u64, level: u64) -> OnLevel
+pub fn sums(t: &[u8], n: usize, side: u64, level: u64) -> OnLevel
     requires { ⌜ Market (now t) × (n ≡ filled (now t)) ⌝ }
     ensures { λ r. ⌜ (r .total ≡ total (bookOf (now (t .entry))) side level) × (r .orders ≡ orders (bookOf (now (t .entry))) side level) ⌝ }
 {

@@ -1,20 +1,17 @@
 -- Steps on a market are matching's steps on its book, where there is room: the book and the order in work at the end, as many steps, and a
 -- report of each event in turn.
-use mathlib.Core.Path.{_≡_, refl, sym, ap, _∙_}
-use mathlib.Core.Bool.{Bool, true, false, _||_}
+use mathlib.Core.Path.{_≡_, refl, ap, _∙_}
+use mathlib.Core.Bool.{true, false}
 use mathlib.Core.List.{List, [], _∷_, _++_, append-nil}
-use Prim.Native.Nat.{ℕ, zero, suc, _+_, _*_, _-_, _≤_, _<_}
+use Prim.Native.Nat.{ℕ, zero, suc, _+_, _*_, _-_, _≤_}
 use native.Mathlib.Nat.{add-zero}
 use native.Mathlib.Omega.{arith}
-use lib.Dec.{eqb, ltb}
-use lib.ListN.{length, length-append}
-use borrow.Author.Tests.{eqb-true, eqb-false, eq-eqb, ne-eqb, le-ltb, ltb-false}
+use lib.Dec.{eqb}
+use lib.ListN.{length}
+use borrow.Author.Tests.{eqb-true, eqb-false, eq-eqb, le-ltb}
 use Rattle.octets.proofs.Bools.{split}
 use Rattle.matching.specs.declared.Event.{Event}
 use Rattle.matching.specs.Matching.{Book, metBy, happens, bookAfter, workAfter, Ran, run}
-use Rattle.matching.proofs.Steps.{step-is}
-use Rattle.matching.proofs.Ends.{step-two}
-use Rattle.matching.proofs.Theorems.{done as done-in-time}
 use Rattle.table.specs.Heading.{nextOf, workOf, modeOf}
 use Rattle.table.specs.Orders.{bookOf, applied}
 use Rattle.table.specs.Market.{isMarket}
@@ -22,16 +19,16 @@ use Rattle.table.specs.Facts.{Market}
 use Rattle.table.specs.Changes.{stepEvents, stepped}
 use Rattle.table.proofs.Facts.{market-facts}
 use Rattle.table.proofs.Kept.{stepped-kept}
-use Rattle.report.specs.Reports.{readOf}
 use Rattle.ticket.specs.Tickets.{keptCause}
 use Rattle.ticket.proofs.Running.{Legibles, step-legibles}
-use Rattle.ticket.proofs.Short.{ticket-short}
 use Rattle.readback.proofs.Events.{event-says}
-use Rattle.calls.specs.Told.{joined, roomAsked}
+use Rattle.calls.specs.Told.{joined}
 use Rattle.calls.specs.Run.{eventReport, eventReports, stepReports, Worked, stops, still, worked, Ran as RanBy, ran, runSteps}
-use Rattle.turns.proofs.Stepping.{step-book, step-work, step-modes}
+use Rattle.turns.proofs.Stepping.{step-book, step-work, step-modes, step-short}
 use Rattle.turns.proofs.Taking.{stops-still, worked-on}
-use Rattle.promises.specs.Shown.{ReportOf, ReportsOf}
+use Rattle.turns.proofs.Agreeing.{agrees}
+use Rattle.turns.proofs.Theorems.{run-ends}
+use Rattle.promises.specs.Shown.{ReportsOf}
 
 -- ---- the reports of a step
 reports-of : (es : List Event) (t : List ℕ) (n : ℕ) → Legibles t n es → ReportsOf (eventReports t n es) es
@@ -41,26 +38,9 @@ reports-of (e ∷ es) t n h =
     let s = event-says (applied t e) [] n (keptCause (applied t e)) e (h .0) in
     (record { kind = s .is-kind; order = s .says-37; quantity = s .says-32; reason = s .says-378 }, reports-of es (applied t e) (n + 1) (h .1))
 
-reports-short : (es : List Event) (t : List ℕ) (n : ℕ) → Legibles t n es → length (joined (eventReports t n es)) ≤ 512 * length es
-unfolding eventReports eventReport joined
-reports-short [] t n h = omega arith
-reports-short (e ∷ es) t n h =
-    let a = ticket-short (applied t e) [] n (keptCause (applied t e)) e (h .0) in
-    let b = reports-short es (applied t e) (n + 1) (h .1) in
-    omega (arith, length-append (eventReport (applied t e) n e) (joined (eventReports (applied t e) (n + 1) es)))
-
-module _ (t : List ℕ) (m : Market t) (l : 1 ≤ workOf t) where
-  step-reports : ReportsOf (stepReports t) (stepEvents t)
-  unfolding stepReports
-  step-reports = reports-of (stepEvents t) t (nextOf t) (step-legibles t m l)
-
-  step-few : length (stepEvents t) ≤ 2
-  unfolding stepEvents
-  step-few = step-two (bookOf t) (workOf t) _ (step-is (modeOf t) (bookOf t) (workOf t))
-
-  step-room : length (joined (stepReports t)) ≤ 1024
-  unfolding stepReports
-  step-room = omega (arith, reports-short (stepEvents t) t (nextOf t) (step-legibles t m l), step-few)
+step-reports : (t : List ℕ) → Market t → 1 ≤ workOf t → ReportsOf (stepReports t) (stepEvents t)
+unfolding stepReports
+step-reports t m l = reports-of (stepEvents t) t (nextOf t) (step-legibles t m l)
 
 -- ---- steps
 run-busy : (modes : ℕ → ℕ) (n : ℕ) (b : Book) (w : ℕ) → 1 ≤ w
@@ -70,16 +50,31 @@ unfolding run
 run-busy modes n b zero l = absurd (omega arith)
 run-busy modes n b (suc k) l = refl
 
-run-idle : (modes : ℕ → ℕ) (n : ℕ) (b : Book) → run modes n b 0 ≡ record { book = b; work = 0; events = []; steps = 0 }
-unfolding run
-run-idle modes zero b = refl
-run-idle modes (suc n) b = refl
-
 reports-append : (rs qs : List (List ℕ)) (es fs : List Event) → ReportsOf rs es → ReportsOf qs fs → ReportsOf (rs ++ qs) (es ++ fs)
 reports-append [] qs [] fs x y = y
 reports-append [] qs (e ∷ es) fs x y = absurd x
 reports-append (r ∷ rs) qs [] fs x y = absurd x
 reports-append (r ∷ rs) qs (e ∷ es) fs x y = (x .0, reports-append rs qs es fs (x .1) y)
+
+-- their reports, in turn
+worked-events : (n : ℕ) (t : List ℕ) (room : ℕ) → Market t → 1024 * n ≤ room
+    → ReportsOf (worked n t room .reports) (run (modeOf t) n (bookOf t) (workOf t) .events)
+unfolding worked run stepEvents
+worked-events zero t room m h = tt
+worked-events (suc n) t room m h =
+    split (eqb (workOf t) 0)
+    (λ z.
+    let e = eqb-true (workOf t) 0 z in
+    let s : stops t room ≡ true = rw z in
+    rw (s, e) tt)
+    (λ z.
+    let l : 1 ≤ workOf t = omega (arith, eqb-false (workOf t) 0 z) in
+    let s : stops t room ≡ false = rw (z, le-ltb room 1024 (omega arith)) in
+    let rs = stepReports t in
+    let short = step-short t (record { market = m; work = l }) in
+    let g = worked-events n (stepped t) (room - length (joined rs)) (stepped-kept t m l) (omega arith) in
+    let k = rw (step-modes t m l, step-book t m l, step-work t m l) at g in
+    rw (s, run-busy (modeOf t) n (bookOf t) (workOf t) l) (reports-append rs _ _ _ (step-reports t m l) k))
 
 -- what was worked on a table is what was run on a book
 pub record Matches (w : Worked) (r : Ran) : Type 0 where
@@ -89,28 +84,9 @@ pub record Matches (w : Worked) (r : Ran) : Type 0 where
   pub events : ReportsOf (w .reports) (r .events)
 
 pub worked-matches : (n : ℕ) (t : List ℕ) (room : ℕ) → Market t → 1024 * n ≤ room → Matches (worked n t room) (run (modeOf t) n (bookOf t) (workOf t))
-unfolding worked run stepEvents
-worked-matches zero t room m h = record { book = refl; work = refl; steps = refl; events = tt }
-worked-matches (suc n) t room m h =
-    split (eqb (workOf t) 0)
-    (λ z.
-    let e = eqb-true (workOf t) 0 z in
-    let s : stops t room ≡ true = rw z in
-    rw (s, e) (record { book = refl; work = e; steps = refl; events = tt }))
-    (λ z.
-    let l : 1 ≤ workOf t = omega (arith, eqb-false (workOf t) 0 z) in
-    let s : stops t room ≡ false = rw (z, le-ltb room 1024 (omega arith)) in
-    let rs = stepReports t in
-    let short = step-room t m l in
-    let g = worked-matches n (stepped t) (room - length (joined rs)) (stepped-kept t m l) (omega arith) in
-    let k = rw (step-modes t m l, step-book t m l, step-work t m l) at g in
-    rw (s, run-busy (modeOf t) n (bookOf t) (workOf t) l)
-    (record {
-      book = k .book;
-      work = k .work;
-      steps = ap suc (k .steps);
-      events = reports-append rs _ _ _ (step-reports t m l) (k .events);
-    }))
+worked-matches n t room m h =
+    let g = agrees n t room m h in
+    record { book = g .book; work = g .work; steps = g .steps; events = worked-events n t room m h }
 
 -- ---- a budget beyond the end of the work
 module _ (n k : ℕ) (t : List ℕ) (room : ℕ) (m : Market t) (h : 1024 * n ≤ room) (z : run (modeOf t) n (bookOf t) (workOf t) .work ≡ 0) where
@@ -154,8 +130,7 @@ ran-matches n t room budget m low h l z =
 -- m + 1 steps end the work
 pub ran-ends : (t : List ℕ) (room budget : ℕ) → isMarket t ≡ true → 1024 * (metBy (bookOf t) (workOf t) + 1) ≤ room → metBy (bookOf t) (workOf t) + 1 ≤ budget
     → (workOf (ran t room budget .table) ≡ 0) × (runSteps (ran t room budget .answer) ≤ metBy (bookOf t) (workOf t) + 1)
+unfolding ran
 ran-ends t room budget m h l =
-    let n : ℕ = metBy (bookOf t) (workOf t) + 1 in
-    let d = done-in-time (modeOf t) (bookOf t) (workOf t) (market-facts t m .held .work) in
-    let g = ran-matches n t room budget m (omega arith) h l (d .ended) in
-    (g .work ∙ d .ended, omega (arith, g .steps, d .within))
+    let g = run-ends budget t room m l h in
+    rw (le-ltb room 1024 (omega arith), m) (g .ended, g .within)

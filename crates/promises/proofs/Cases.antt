@@ -1,26 +1,24 @@
 -- The rehearsed cases (document 01, "Rehearsed books"), each over any table that is a market, whose book is the printed one with its last
 -- order in work, and whose modes are as said: which events the reports of Run are of, what is left open, and in how many steps.
-use mathlib.Core.Path.{_≡_, refl, sym, ap, _∙_}
+use mathlib.Core.Path.{_≡_, refl, ap, _∙_}
 use mathlib.Core.Bool.{true}
 use mathlib.Core.List.{List, [], _∷_, map}
-use Prim.Native.Nat.{ℕ, _+_, _*_, _≤_}
+use Prim.Native.Nat.{ℕ, _+_, _≤_}
 use native.Mathlib.Nat.{add-zero}
 use native.Mathlib.Omega.{arith}
-use Rattle.matching.specs.declared.Order.{Order}
 use Rattle.matching.specs.declared.Event.{Event}
 use Rattle.matching.specs.declared.Depth.the-variants.{Level, NoLevel}
 use Rattle.matching.specs.Matching.{Book, at, openOf, meets, faces, sumOver, countOf, metBy, run}
-use Rattle.matching.specs.Rehearsed.{yield, bookA, events1, events2, events3, book4, events4, book5, events5, book6, events6, book7, events7, book8, book9, events9, book10, book11, Shows, Averages}
+use Rattle.matching.specs.Rehearsed.{yield, bookA, events1, events2, events3, book4, events4, book5, events5, book6, events6, book7, events7, book8, book9, events9, book10, book11, Shows}
 use Rattle.matching.proofs.Theorems.{done}
 use Rattle.matching.proofs.Cases.{case1, case2, case3, case4, case5, case6, case7, case8, case9, case10, case11}
 use Rattle.table.specs.Heading.{workOf, modeOf}
 use Rattle.table.specs.Orders.{bookOf}
 use Rattle.table.specs.Market.{isMarket}
-use Rattle.calls.specs.Run.{ran}
 use Rattle.market.specs.declared.depth.DepthAnswer.the-variants.{Found}
 use Rattle.market.specs.Depth.{depthAnswer}
-use Rattle.promises.specs.Shown.{ReportsOf, ShowsIn, ShowsOn, AveragesIn, AveragesOn}
-use Rattle.promises.proofs.Agreeing.{RunsAs, ran-matches}
+use Rattle.promises.specs.Shown.{ShowsOn, AveragesOn}
+use Rattle.promises.proofs.Agreeing.{ran-matches}
 use Rattle.promises.proofs.Depths.{found}
 
 -- what matching shows on the book, Run shows on the table

@@ -1,16 +1,15 @@
 -- The levels that Depth answers, of a market with nothing in work, add up to all that is open.
 use mathlib.Core.Path.{_≡_, refl, sym, ap, _∙_}
-use mathlib.Core.Bool.{Bool, true, false, cond, not, _&&_, _||_}
+use mathlib.Core.Bool.{true, false, cond}
 use mathlib.Core.List.{List}
-use Prim.Native.Nat.{ℕ, zero, suc, _+_, _-_, _≤_, _<_}
+use Prim.Native.Nat.{ℕ, zero, suc, _+_, _-_, _≤_}
 use native.Mathlib.Omega.{arith}
-use lib.Dec.{eqb, ltb}
 use lib.ListN.{length}
 use borrow.Author.Tests.{eq-eqb, ltb-false}
 use Rattle.octets.proofs.Bools.{split}
 use Rattle.matching.specs.declared.Order.{Order}
 use Rattle.matching.specs.declared.Depth.{Depth}
-use Rattle.matching.specs.declared.Depth.the-variants.{Level, NoLevel}
+use Rattle.matching.specs.declared.Depth.the-variants.{NoLevel}
 use Rattle.matching.specs.Matching.{Book, at, openOf, isOpen, isBuy, sumOver, countOf}
 use Rattle.matching.specs.Held.{Sound, In}
 use Rattle.matching.specs.Depth.{stands, levelAt, depth, totalOf, ordersOf, overLevels, openOn, ordersOn}
@@ -19,13 +18,11 @@ use Rattle.matching.proofs.Theorems.{depth-totals, depth-orders, depth-ends}
 use Rattle.table.specs.Heading.{workOf}
 use Rattle.table.specs.Orders.{filled, bookOf}
 use Rattle.table.specs.Market.{isMarket}
-use Rattle.table.specs.Facts.{Market}
 use Rattle.table.proofs.Facts.{market-facts}
 use Rattle.table.proofs.Books.{length-book}
-use Rattle.table.proofs.Same.{filled-few}
 use Rattle.market.specs.declared.depth.DepthAnswer.the-variants.{Found}
 use Rattle.market.specs.Depth.{isSide, depthAnswer}
-use Rattle.promises.specs.Whole.{openIn, ordersIn, foundBy, overDepth}
+use Rattle.promises.specs.Whole.{openIn, ordersIn, overDepth}
 
 -- ---- there is no level behind the last
 module _ (b : Book) (s : ℕ) where

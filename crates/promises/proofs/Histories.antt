@@ -1,21 +1,21 @@
 -- Every history: each table on the way is a market, and all reports lead from the first table to the last.
-use mathlib.Core.Path.{_≡_, refl, sym, ap, _∙_}
+use mathlib.Core.Path.{_≡_, refl}
 use mathlib.Core.Bool.{true}
-use mathlib.Core.List.{List, [], _∷_, _++_}
+use mathlib.Core.List.{List, [], _∷_}
 use Prim.Native.Nat.{ℕ, _≤_}
 use Rattle.table.specs.Heading.{workOf}
 use Rattle.table.specs.Market.{isMarket}
 use Rattle.table.specs.Facts.{Market}
-use Rattle.turns.proofs.Taking.{ran-kept}
-use Rattle.intake.proofs.Keeping.{submitted-kept}
+use Rattle.turns.proofs.Theorems.{run-keeps}
+use Rattle.intake.proofs.Theorems.{submit-keeps}
 use Rattle.promises.specs.History.{Call, Submit, Run, Depth, Read, tableOf, reportsOf, tableAfter, reportsAfter}
 use Rattle.promises.proofs.Leads.{Leads, leads-then, leads-still}
 use Rattle.promises.proofs.Running.{StepTells, ran-leads}
 use Rattle.promises.proofs.Submitting.{Told, submitted-leads}
 
 pub call-keeps : (t : List ℕ) (c : Call) → isMarket t ≡ true → isMarket (tableOf t c) ≡ true
-call-keeps t (Submit message room) m = submitted-kept t message room m
-call-keeps t (Run room budget) m = ran-kept t room budget m
+call-keeps t (Submit message room) m = submit-keeps t message room m
+call-keeps t (Run room budget) m = run-keeps t room budget m
 call-keeps t (Depth side k) m = m
 call-keeps t (Read report) m = m
 

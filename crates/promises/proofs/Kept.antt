@@ -1,13 +1,12 @@
 -- From the first table on: what the reports of a history tell of its last table.
 use mathlib.Core.Path.{_≡_, refl, sym, ap, _∙_}
-use mathlib.Core.Bool.{Bool, true, false, cond, not}
-use mathlib.Core.List.{List, [], _∷_}
+use mathlib.Core.Bool.{Bool, true, false}
+use mathlib.Core.List.{List, []}
 use mathlib.Core.Logic.{_≢_, ⊎-elim}
 use Prim.Native.Nat.{ℕ, zero, suc, _+_, _≤_, _<_}
 use native.Mathlib.Omega.{arith}
 use lib.Dec.{eqb, ltb}
 use lib.ListN.{length, getD, List·getD-eq-default}
-use borrow.Author.Tests.{eq-eqb}
 use Rattle.octets.proofs.Bools.{split, not-both}
 use Rattle.octets.proofs.Places.{below-or}
 use Rattle.request.specs.declared.NewOrder.{NewOrder}
@@ -18,12 +17,11 @@ use Rattle.request.specs.declared.Asked.the-variants.{Garbled, Refused, Enters,
 use Rattle.request.specs.Asks.{askedOf}
 use Rattle.matching.specs.declared.Order.{Order}
 use Rattle.matching.specs.Depth.{depth}
-use Rattle.matching.specs.Matching.{Book, none, at, openOf, isBuy}
+use Rattle.matching.specs.Matching.{Book, none, at, openOf}
 use Rattle.matching.specs.Held.{Covered, In}
 use Rattle.table.specs.Heading.{venueOf, portOf, workOf}
 use Rattle.table.specs.Orders.{orderAt, filled, bookOf}
 use Rattle.table.specs.Market.{isMarket}
-use Rattle.table.specs.Facts.{Market}
 use Rattle.table.specs.Opened.{isOpening, opened}
 use Rattle.table.proofs.Facts.{market-facts}
 use Rattle.table.proofs.Books.{length-book, at-book}
@@ -41,9 +39,8 @@ use Rattle.intake.proofs.Keeping.{Comes, no-room, no-market, in-work, spent, he
 use Rattle.market.specs.declared.depth.DepthAnswer.the-variants as depth-answer
 use Rattle.market.specs.Depth.{isSide, depthAnswer}
 use Rattle.promises.specs.History.{Call, tableAfter, reportsAfter}
-use Rattle.promises.specs.Tallies.{Account, blank, accountFrom, accountOf, bought, sold, selfTrades}
+use Rattle.promises.specs.Tallies.{Account, blank, accountFrom, accountOf, bought, sold, selfTrades, unread}
 use Rattle.promises.proofs.Tells.{accountIn}
-use Rattle.promises.proofs.Leads.{Leads}
 use Rattle.promises.proofs.Opening.{opened-book}
 use Rattle.promises.proofs.Histories.{history-keeps, history-leads}
 use Rattle.promises.proofs.Telling.{step-tells, all-told}
@@ -53,6 +50,7 @@ pub record Told (t : List ℕ) (rs : List (List ℕ)) : Type 0 where
   pub accounts : (k : ℕ) → accountOf k rs ≡ accountIn (at (bookOf t) k)
   pub balanced : bought rs ≡ sold rs
   pub fair : selfTrades rs ≡ 0
+  pub read : unread rs ≡ 0
 
 -- ---- every history
 empty-account : (k : ℕ) → accountIn (at [] k) ≡ blank
@@ -78,6 +76,7 @@ module _ (before venue port code : List ℕ) (first : ℕ) (mpids modes : List �
             ∙ g .accounts k;
         balanced = g .balanced;
         fair = g .fair;
+        read = g .read;
       }
 
 -- ---- what that comes to

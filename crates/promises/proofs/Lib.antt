@@ -1,4 +1,5 @@
--- What holds of every history.
+-- What holds of every history. A reader begins with Theorems; Cases has the rehearsed books over any table, and Lived a history from
+-- Open on that is computed. The others are the way there, and nothing in them need be believed.
 pub mod Tells
 pub mod Exacts
 pub mod Leads
@@ -11,6 +12,7 @@ pub mod Histories
 pub mod Telling
 pub mod Agreeing
 pub mod Depths
+pub mod Spending
 pub mod Kept
 pub mod Theorems
 pub mod Cases

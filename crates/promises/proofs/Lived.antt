@@ -37,10 +37,14 @@ use Rattle.calls.specs.Run.{eventReport, eventReports, stepReports, worked, ran
 use Rattle.promises.specs.History.{Call, Submit, Run, tableAfter, reportsAfter}
 use Rattle.promises.specs.Tallies.{Account, noted, accountFrom, accountOf, tradedFor, traded, bought, sold, isSelfTrade, selfTrades}
 
--- opens all definitions
+-- open all definitions: those that the calls compute with, and those of reports and of what is told from them
 computes : ℕ
-unfolding leAt bytesOf put partAt textAt textBytes sameBytes allZero allUpTo firstFrom decimal places plain fixed shareOf meanOf bare bareOf exactlyOf amountOf fixedOf isDigit digitOf runOf numberAfter isNumber numOf digitAt isFraction fractionOf sizeOf levelOf isTimeLength twoAt timeShaped timeRanged isTime isFieldText startsTag leading tagOf valueFrom valueLen fieldOf fieldsAfter fieldsFrom stepOf findTag valueOf hasTag repeats cleanFields lastTagOr headedBy ordered headerRight partOf endOf tenAt lengthTrue sumOf checkSum sumTrue garbledMessage bodyPart headOf frameOf bodyOf saidIn lengthIn refusalOf termsIn requestIn completed bodyAsked headAsked askedOf kindOf oneOf belongs listed shapeOf charSays lookAs judge firstFailing firstMissing openOf meets better faces sameOwner sumOver countOf choose best partner prevention meeting ending outcome preventing causes change happens workAfter opposed opposedTo played stepEvents numbered stepped entered entries entryOf isListed modeOf mpidBytes every isPadded isText hasLength hasNames isEntry hasList hasSettings hasNext hasWork hasSpare restZero isCapacity isClass isRecord isRanged isKnown isWithin isShut isPriced isOrder hasOrders isFreshId hasIds isFreshPlace hasPlaces isDone noIoc isClear noCross hasNumbers isBook isMarket isName isNew isGiven areGiven areNames areSettings namedTable freshTable isOpening opened orderAt filled ordersFrom bookOf idIndex recordWith termBytes amountBytes fieldBytes recordOf applied accepted holder newStands newTaken submitted label written writtenField checkSumOf version front trailer reportBytes valueAt fieldAt hop placeOf bodyAt trailerAt readFramed executionFor kindFor firstOf kindOfReport oneReason readOf oneIn wordIn recordIn textIn timeIn acceptedSlots replacedSlots canceledSlots tradeSlots text orNumber digit avgPx replacedStatus tradeStatus figuresOf header acceptedFields replacedFields canceledFields tradeFields orStoredAt stampOn shownOn rowOf ticketOf says joined eventReport eventReports stepReports worked ran noted accountFrom tradedFor traded isSelfTrade selfTrades tableAfter reportsAfter
+unfolding leAt bytesOf put partAt textAt textBytes sameBytes allZero allUpTo firstFrom decimal places plain fixed shareOf meanOf bare bareOf exactlyOf amountOf fixedOf isDigit digitOf runOf numberAfter isNumber numOf digitAt isFraction fractionOf sizeOf levelOf isTimeLength twoAt timeShaped timeRanged isTime isFieldText startsTag leading tagOf valueFrom valueLen fieldOf fieldsAfter fieldsFrom stepOf findTag valueOf hasTag repeats cleanFields lastTagOr headedBy ordered headerRight partOf endOf tenAt lengthTrue sumOf checkSum sumTrue garbledMessage bodyPart headOf frameOf bodyOf saidIn lengthIn refusalOf termsIn requestIn completed bodyAsked headAsked askedOf kindOf oneOf belongs listed shapeOf charSays lookAs judge firstFailing firstMissing openOf meets better faces sameOwner sumOver countOf choose best partner prevention meeting ending outcome preventing causes change happens workAfter opposed opposedTo played stepEvents numbered stepped entered entries entryOf isListed modeOf mpidBytes every isPadded isText hasLength hasNames isEntry hasList hasSettings hasNext hasWork hasSpare restZero isCapacity isClass isRecord isRanged isKnown isWithin isShut isPriced isOrder hasOrders isFreshId hasIds isFreshPlace hasPlaces isDone noIoc isClear noCross hasNumbers isBook isMarket isName isNew isGiven areGiven areNames areSettings namedTable freshTable isOpening opened orderAt filled ordersFrom bookOf idIndex recordWith termBytes amountBytes fieldBytes recordOf applied accepted holder newStands newTaken submitted joined eventReport eventReports stepReports worked ran tableAfter reportsAfter
 computes = 0
+
+tells : ℕ
+unfolding label written writtenField checkSumOf version front trailer reportBytes valueAt fieldAt hop placeOf bodyAt trailerAt readFramed executionFor kindFor firstOf kindOfReport oneReason readOf oneIn wordIn recordIn textIn timeIn acceptedSlots replacedSlots canceledSlots tradeSlots text orNumber digit avgPx replacedStatus tradeStatus figuresOf header acceptedFields replacedFields canceledFields tradeFields orStoredAt stampOn shownOn rowOf ticketOf says noted accountFrom tradedFor traded isSelfTrade selfTrades
+tells = 0
 
 -- A is MPID 10 and has mode 3
 abbrev before : List ℕ
@@ -93,12 +97,12 @@ pub accounts-lived : accounts (reportsAfter opens lived)
     ≡ record { accepted = 200; executions = 0; decrements = 0; cancels = 200; left = 0 }
     ∷ record { accepted = 1200; executions = 800; decrements = 200; cancels = 0; left = 200 }
     ∷ []
-unfolding computes
+unfolding computes tells
 accounts-lived = refl
 
 -- 800 are bought and sold, and no trade is a self-trade
 pub totals-lived : totals (reportsAfter opens lived) ≡ 800 ∷ 800 ∷ 0 ∷ []
-unfolding computes
+unfolding computes tells
 totals-lived = refl
 
 -- 200 of the buy are open in the table

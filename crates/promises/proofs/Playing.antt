@@ -1,14 +1,13 @@
 -- Events that happen one after the other to a table, and their reports: every account follows, trades balance, and no MPID trades with
 -- itself, if each report tells its event and each event is exact.
 use mathlib.Core.Path.{_≡_, refl, sym, ap, subst, _∙_}
-use mathlib.Core.Bool.{Bool, true, false, cond, _||_, _&&_}
+use mathlib.Core.Bool.{Bool, true, false, cond}
 use mathlib.Core.List.{List, [], _∷_}
-use mathlib.Core.Logic.{_≢_}
 use Prim.Native.Nat.{ℕ, _+_, _≤_}
 use native.Mathlib.Omega.{arith}
 use lib.Dec.{eqb}
 use lib.ListN.{length}
-use borrow.Author.Tests.{eqb-true, eqb-false, eq-eqb, ne-eqb}
+use borrow.Author.Tests.{eqb-true, eqb-false, eq-eqb}
 use Rattle.octets.proofs.Bools.{split, or-r}
 use Rattle.matching.specs.declared.Order.{Order}
 use Rattle.matching.specs.declared.Event.{Event}
@@ -19,32 +18,21 @@ use Rattle.matching.specs.Accounts.{trades, bought as boughtBy, sold as soldBy}
 use Rattle.matching.specs.Happens.{moves}
 use Rattle.matching.proofs.Events.{Terms, termsOf, change-terms, after-here, after-there}
 use Rattle.table.specs.Places.{tableBytes}
-use Rattle.table.specs.Orders.{orderAt, filled, bookOf, applied}
-use Rattle.table.specs.Changes.{played}
+use Rattle.table.specs.Orders.{orderAt, bookOf, applied}
 use Rattle.table.proofs.Books.{length-book, at-book}
 use Rattle.table.proofs.Frames.{Framed, framed-long, framed-filled}
 use Rattle.table.proofs.Applied.{AllMove, framed-applied, book-applied}
 use Rattle.report.specs.declared.Reading.{Reading}
 use Rattle.report.specs.Reports.{readOf}
 use Rattle.calls.specs.Run.{eventReport, eventReports}
-use Rattle.readback.specs.Says.{says}
-use Rattle.promises.specs.Tallies.{Account, noted, accountFrom, isTrade, tradedFor, traded, isSelfTrade, selfTrades}
-use Rattle.promises.proofs.Tells.{Apart, Exact, Tells, accountIn, noted-here, noted-there}
+use Rattle.readback.specs.Told.{otherTold}
+use Rattle.promises.specs.Tallies.{Account, noted, accountFrom, tradedFor, traded, isSelfTrade, selfTrades, unread}
+use Rattle.promises.proofs.Tells.{Exact, Tells, tells-read, accountIn, noted-here, noted-there}
 use Rattle.promises.proofs.Exacts.{Exacts}
-
--- the MPID of the other order of a trade; 0 for no trade
-abbrev pub contra : List ℕ → Event → ℕ
-contra t (Accepted n o) = 0
-contra t (Replaced n l q p) = 0
-contra t (Withdrawn n q) = 0
-contra t (Canceled n q) = 0
-contra t (Decremented n q) = 0
-contra t (Traded n m q l) = orderAt t m .mpid
-contra t (Expired n q) = 0
 
 -- a report r tells event e on the table t after it
 abbrev pub TellsOn : List ℕ → Event → List ℕ → Type 0
-TellsOn t e r = Tells (readOf r) e (orderAt t (who e)) (contra t e)
+TellsOn t e r = Tells (readOf r) e (orderAt t (who e)) (otherTold t e)
 
 -- the reports of events, numbered from n on, tell them in turn
 abbrev pub TellsAll : List ℕ → ℕ → List Event → Type 0
@@ -65,12 +53,12 @@ module _ (t u : List ℕ) (e : Event) (low : 1 ≤ who e) (high : who e ≤ leng
       split (eqb k (who e))
       (λ z.
       let q = eqb-true k (who e) z in
-      let y : Tells (readOf r) e (change e (at (bookOf t) (who e))) (contra u e) = rw order-now at tells in
-      rw (q, same, after-here (bookOf t) e low (omega arith)) (noted-here (bookOf t) (readOf r) (contra u e) e x y))
+      let y : Tells (readOf r) e (change e (at (bookOf t) (who e))) (otherTold u e) = rw order-now at tells in
+      rw (q, same, after-here (bookOf t) e low (omega arith)) (noted-here (bookOf t) (readOf r) (otherTold u e) e x y))
       (λ z.
       let d = eqb-false k (who e) z in
       rw (same, after-there (bookOf t) e low (omega arith) k d)
-      (noted-there (bookOf t) (readOf r) (contra u e) e (orderAt u (who e)) tells k d _))
+      (noted-there (bookOf t) (readOf r) (otherTold u e) e (orderAt u (who e)) tells k d _))
 
 -- ---- what a report trades for a side, and that it is no self-trade
 pub nought : (c : Bool) → _≡_ {A = ℕ} (cond c 0 0) 0
@@ -153,7 +141,7 @@ module _ (c : Book) (t : List ℕ) (e : Event) (long : length t ≡ tableBytes) 
       ∙ ap (λ (y : ℕ). cond (eqb y 1) 0 (trades e)) (s (who e))
 
   -- by cases of the event
-  fair-by : (f : Event) → f ≡ e → Tells (readOf rep) f (orderAt (applied t e) (who f)) (contra (applied t e) f) → Exact (bookOf t) f → isSelfTrade (readOf rep) ≡ false
+  fair-by : (f : Event) → f ≡ e → Tells (readOf rep) f (orderAt (applied t e) (who f)) (otherTold (applied t e) f) → Exact (bookOf t) f → isSelfTrade (readOf rep) ≡ false
   unfolding isSelfTrade
   fair-by (Accepted n o) q y z = rw (y .kind)
   fair-by (Replaced n l a p) q y z = rw (y .kind)
@@ -177,12 +165,13 @@ module _ (c : Book) where
     pub bought : traded 1 (eventReports t n es) ≡ boughtBy c es
     pub sold : traded 2 (eventReports t n es) ≡ soldBy c es
     pub fair : selfTrades (eventReports t n es) ≡ 0
+    pub read : unread (eventReports t n es) ≡ 0
 
   -- one report before others
   pub all-follow : (es : List Event) (t : List ℕ) (n : ℕ) → length t ≡ tableBytes → AllMove es → Readies (bookOf t) es → Exacts (bookOf t) es → TellsAll t n es
       → ((k : ℕ) → at (bookOf t) k .side ≡ at c k .side) → Follows t n es
-  unfolding eventReports accountFrom traded selfTrades boughtBy soldBy play
-  all-follow [] t n long m r x tells s = record { accounts = λ k. refl; bought = refl; sold = refl; fair = refl }
+  unfolding eventReports accountFrom traded selfTrades unread boughtBy soldBy play
+  all-follow [] t n long m r x tells s = record { accounts = λ k. refl; bought = refl; sold = refl; fair = refl; read = refl }
   all-follow (e ∷ es) t n long m r x tells s =
       let u : List ℕ = applied t e in
       let rep : List ℕ = eventReport u n e in
@@ -198,4 +187,5 @@ module _ (c : Book) where
         bought = omega (arith, bought-then c t e long (m .0) (r .0) (x .0) rep (tells .0) s, g .bought);
         sold = omega (arith, sold-then c t e long (m .0) (r .0) (x .0) rep (tells .0) s, g .sold);
         fair = rw (fair-then c t e long (m .0) (r .0) (x .0) rep (tells .0) s) (omega (arith, g .fair));
+        read = rw (tells-read (readOf rep) e _ _ (tells .0)) (omega (arith, g .read));
       }

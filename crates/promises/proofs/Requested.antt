@@ -1,7 +1,7 @@
 -- The book after a request that is taken, before the next number and what is in work change, is the book after its event.
 use mathlib.Core.Path.{_≡_, refl, sym, ap, _∙_}
-use mathlib.Core.Bool.{Bool, true, false}
-use mathlib.Core.List.{List, [], _∷_}
+use mathlib.Core.Bool.{true}
+use mathlib.Core.List.{List}
 use Prim.Native.Nat.{ℕ, suc, _+_, _≤_, _<_}
 use native.Mathlib.Omega.{arith}
 use lib.Dec.{eqb, lit≤}
@@ -10,13 +10,12 @@ use borrow.Author.Tests.{eqb-true}
 use Rattle.octets.proofs.Bools.{split, or-r}
 use Rattle.octets.proofs.Places.{length-put}
 use Rattle.matching.specs.declared.Order.{Order}
-use Rattle.matching.specs.declared.Event.{Event}
 use Rattle.matching.specs.declared.Event.the-variants.{Accepted, Replaced, Withdrawn}
 use Rattle.matching.specs.Matching.{Book, at, put as putOrder, openOf, change, after}
-use Rattle.matching.specs.Held.{In, Held, Ready, Enters, Renews}
+use Rattle.matching.specs.Held.{In, Ready, Enters, Renews}
 use Rattle.table.specs.Places.{tableBytes}
-use Rattle.table.specs.Heading.{nextOf, workOf, isListed, putNext, putWork}
-use Rattle.table.specs.Orders.{orderAt, filled, bookOf, putId, putTerms, putAmounts, applied, withdrawn, replaced, accepted}
+use Rattle.table.specs.Heading.{nextOf, isListed, putWork}
+use Rattle.table.specs.Orders.{orderAt, filled, bookOf, putId, putTerms, applied, withdrawn, replaced, accepted}
 use Rattle.table.specs.Market.{every, isPrintable, isCapacity, isClass}
 use Rattle.table.specs.Facts.{Market, Named}
 use Rattle.table.specs.Changes.{numbered}

@@ -1,14 +1,12 @@
 -- The reports of a step lead from the table before it to the table after it, and so do those of a Run.
 use mathlib.Core.Path.{_≡_, refl, sym, ap, _∙_}
-use mathlib.Core.Bool.{true, false}
-use mathlib.Core.List.{List, [], _∷_, _++_}
-use Prim.Native.Nat.{ℕ, zero, suc, _+_, _-_, _≤_}
-use native.Mathlib.Omega.{arith}
+use mathlib.Core.Bool.{true}
+use mathlib.Core.List.{List}
+use Prim.Native.Nat.{ℕ, zero, suc, _-_, _≤_}
 use lib.Dec.{ltb}
 use lib.ListN.{length}
 use Rattle.octets.proofs.Bools.{split}
-use Rattle.matching.specs.declared.Event.{Event}
-use Rattle.matching.specs.Matching.{Book, at, play, happens, workAfter}
+use Rattle.matching.specs.Matching.{Book, at, play, workAfter}
 use Rattle.matching.proofs.Steps.{Stepped, step-is}
 use Rattle.matching.proofs.Fair.{step-fair, fair-balanced}
 use Rattle.table.specs.Heading.{nextOf, workOf, modeOf}
@@ -20,11 +18,11 @@ use Rattle.table.proofs.Facts.{market-facts}
 use Rattle.table.proofs.Kept.{stepped-kept}
 use Rattle.table.proofs.Applied.{fits-move}
 use Rattle.calls.specs.Told.{joined, roomAsked}
-use Rattle.calls.specs.Run.{eventReports, stepReports, Worked, stops, worked, ran}
+use Rattle.calls.specs.Run.{stepReports, stops, worked, ran}
 use Rattle.turns.proofs.Stepping.{in-work, events-ready, events-fit, step-book}
 use Rattle.turns.proofs.Taking.{goes-busy}
 use Rattle.promises.proofs.Tells.{accountIn}
-use Rattle.promises.proofs.Exacts.{Exacts, step-exact}
+use Rattle.promises.proofs.Exacts.{step-exact}
 use Rattle.promises.proofs.Leads.{Leads, leads-then, leads-still}
 use Rattle.promises.proofs.Playing.{TellsAll, Follows, all-follow}
 
@@ -53,6 +51,7 @@ module _ (t : List ℕ) (m : Market t) (l : 1 ≤ workOf t) (tells : StepTells t
         accounts = λ k. follows .accounts k ∙ ap (λ (b : Book). accountIn (at b k)) (sym after);
         balanced = follows .bought ∙ fair-balanced (bookOf t) (step-fair (bookOf t) (workOf t) _ shape) ∙ sym (follows .sold);
         fair = follows .fair;
+        read = follows .read;
       }
 
 -- ---- steps, where the reports of each tell its events

@@ -1,10 +1,9 @@
 -- The report of a Submit leads from the table before it to the table after it, whatever the message, if the reports of what is taken
 -- tell their events and those of what is rejected are of their kinds.
 use mathlib.Core.Path.{_≡_, refl, sym, ap, _∙_}
-use mathlib.Core.Bool.{Bool, true, false, cond}
+use mathlib.Core.Bool.{Bool, true, false}
 use mathlib.Core.List.{List, [], _∷_}
-use mathlib.Core.Logic.{_≢_}
-use Prim.Native.Nat.{ℕ, suc, _+_, _≤_, _<_}
+use Prim.Native.Nat.{ℕ, suc, _+_, _≤_}
 use native.Mathlib.Omega.{arith}
 use lib.Dec.{eqb}
 use lib.ListN.{length}
@@ -16,16 +15,13 @@ use Rattle.request.specs.declared.Replacement.{Replacement}
 use Rattle.request.specs.declared.Cancellation.{Cancellation}
 use Rattle.request.specs.declared.Asked.{Asked}
 use Rattle.request.specs.declared.Asked.the-variants.{Garbled, Refused, Enters, Replaces, Cancels}
-use Rattle.request.specs.Asks.{askedOf}
 use Rattle.matching.specs.declared.Order.{Order}
 use Rattle.matching.specs.declared.Event.{Event}
 use Rattle.matching.specs.declared.Event.the-variants.{Accepted, Replaced, Withdrawn, Canceled, Decremented, Traded, Expired}
 use Rattle.matching.specs.Matching.{Book, at, openOf, who, change, after}
-use Rattle.matching.specs.Held.{In}
 use Rattle.matching.proofs.Books.{length-put, length-put-new}
-use Rattle.table.specs.Heading.{venueOf, portOf, nextOf, workOf}
+use Rattle.table.specs.Heading.{nextOf}
 use Rattle.table.specs.Orders.{orderAt, filled, bookOf, accepted, replaced, withdrawn}
-use Rattle.table.specs.Market.{isMarket}
 use Rattle.table.specs.Facts.{Market}
 use Rattle.table.specs.Changes.{numbered, entered, renewed, taken}
 use Rattle.table.proofs.Books.{length-book}
@@ -40,8 +36,8 @@ use Rattle.calls.specs.Submit.{Submitted, causeOf, sentAt, noText, rejecting, f
 use Rattle.intake.specs.Intake.{Asking}
 use Rattle.intake.proofs.Standing.{new-named, new-account, new-account-short, new-capacity, new-class, new-enters, new-time, cancel-in, cancel-at, cancel-named, replace-in, replace-named, replace-renews, replace-time}
 use Rattle.intake.proofs.Keeping.{Comes, no-room, no-market, in-work, spent, heard, comes}
-use Rattle.promises.specs.Tallies.{accountFrom, tradedFor, traded, isSelfTrade, selfTrades}
-use Rattle.promises.proofs.Tells.{Exact, Tells, accountIn}
+use Rattle.promises.specs.Tallies.{accountFrom, tradedFor, traded, isSelfTrade, selfTrades, unread}
+use Rattle.promises.proofs.Tells.{Exact, Tells, tells-read, accountIn}
 use Rattle.promises.proofs.Leads.{Leads, leads-still, isSilent, leads-silent}
 use Rattle.promises.proofs.Playing.{TellsOn, account-then, traded-one, nought}
 use Rattle.promises.proofs.Requested.{book-numbered, book-working, long-accepted, book-accepted, long-withdrawn, book-withdrawn, long-replaced, book-replaced}
@@ -87,13 +83,14 @@ after-size b e low high =
 -- u is the table after the event, v the one that is left
 pub asked-leads : (t u v : List ℕ) (e : Event) (r : List ℕ) → isAsked e ≡ true → 1 ≤ who e → who e ≤ length (bookOf t) + 1
     → Exact (bookOf t) e → bookOf u ≡ after (bookOf t) e → bookOf v ≡ bookOf u → TellsOn u e r → Leads t v (r ∷ [])
-unfolding accountFrom traded selfTrades
+unfolding accountFrom traded selfTrades unread
 asked-leads t u v e r a low short x same left tells =
     let high : who e ≤ length (bookOf u) = rw same (after-size (bookOf t) e low short) in
     record {
       accounts = λ k. account-then t u e low high short x same r tells k ∙ ap (λ (b : Book). accountIn (at b k)) (sym left);
       balanced = ap (λ (n : ℕ). n + 0) (asked-traded e (readOf r) _ _ 1 a tells ∙ sym (asked-traded e (readOf r) _ _ 2 a tells));
       fair = rw (asked-fair e (readOf r) _ _ a tells);
+      read = rw (tells-read (readOf r) e _ _ tells);
     }
 
 -- ---- what is asked of the reports of Submit

@@ -1,13 +1,11 @@
 -- Every report that the market writes tells what it is of: those of the events of a step, of what Submit takes, and of what it rejects.
 use mathlib.Core.Path.{_≡_, refl, sym, ap, _∙_}
-use mathlib.Core.Bool.{Bool, true, false, cond, not, _&&_, _||_}
+use mathlib.Core.Bool.{Bool, true, not, _&&_, _||_}
 use mathlib.Core.List.{List, [], _∷_}
-use Prim.Native.Nat.{ℕ, _+_, _≤_, _<_}
+use Prim.Native.Nat.{ℕ, _+_, _≤_}
 use native.Mathlib.Omega.{arith}
 use lib.Dec.{eqb, ltb, leb}
-use lib.ListN.{length}
-use Rattle.octets.specs.Octets.{partAt}
-use Rattle.octets.proofs.Bools.{split, or-l, or-r}
+use Rattle.octets.proofs.Bools.{split}
 use Rattle.decimal.specs.Reading.{isDigit, isTime}
 use Rattle.fix.specs.declared.frame.Part.{Part}
 use Rattle.fix.proofs.Values.{Spelt, Timed}
@@ -18,67 +16,42 @@ use Rattle.request.specs.declared.Cancellation.{Cancellation}
 use Rattle.request.specs.declared.Asked.{Asked}
 use Rattle.request.specs.declared.Asked.the-variants.{Refused, Enters, Replaces, Cancels}
 use Rattle.request.specs.Session.{oneOf}
-use Rattle.request.proofs.Requests.{NewRight, enters-right}
-use Rattle.request.proofs.Saying.{NewSpelt, enters-spelt, ReplacementSpelt, replaces-spelt, CancelSpelt, cancels-spelt}
-use Rattle.request.proofs.Refusals.{RefusalSpelt, refused-spelt}
-use Rattle.matching.specs.declared.Order.{Order}
+use Rattle.request.proofs.Requests.{enters-right}
+use Rattle.request.proofs.Saying.{enters-spelt, replaces-spelt, cancels-spelt}
+use Rattle.request.proofs.Refusals.{refused-spelt}
 use Rattle.matching.specs.declared.Event.{Event}
 use Rattle.matching.specs.declared.Event.the-variants.{Accepted, Replaced, Withdrawn, Canceled, Decremented, Traded, Expired}
-use Rattle.matching.specs.Matching.{openOf, who}
+use Rattle.matching.specs.Matching.{openOf}
 use Rattle.matching.specs.Accounts.{trades}
 use Rattle.table.specs.Heading.{nextOf, workOf, isListed}
-use Rattle.table.specs.Orders.{orderAt, filled, accepted, replaced, withdrawn, applied}
+use Rattle.table.specs.Orders.{orderAt, filled, applied}
 use Rattle.table.specs.Market.{isPrintable}
 use Rattle.table.specs.Facts.{Market}
 use Rattle.table.specs.Changes.{stepEvents}
 use Rattle.table.proofs.Same.{filled-few}
 use Rattle.table.proofs.Frames.{market-formed}
-use Rattle.report.specs.declared.Place.{Place}
-use Rattle.report.specs.declared.Kind.{Kind}
 use Rattle.report.specs.declared.Reading.{Reading}
-use Rattle.report.specs.Reports.{readOf}
-use Rattle.rows.specs.Rows.{text}
 use Rattle.ticket.specs.declared.Cause.{Cause}
 use Rattle.ticket.specs.Tickets.{ticketOf, keptCause}
-use Rattle.ticket.specs.Legible.{textBy, isAmong, Placed, Headed, Legible, LegibleRefused, LegibleUnchanged, LegibleFaulty}
+use Rattle.ticket.specs.Legible.{textBy, isAmong, Placed, Headed, Legible}
 use Rattle.ticket.proofs.Formed.{formed-headed}
 use Rattle.ticket.proofs.Running.{Legibles, step-legibles}
 use Rattle.ticket.proofs.Taking.{sent-text, sent-placed, new-legible, replaced-legible, withdrawn-legible, unchanged-legible}
-use Rattle.readback.specs.Says.{says}
-use Rattle.readback.specs.Told.{kindTold, reasonTold, quantityTold, otherTold, SaysEvent}
+use Rattle.readback.specs.Told.{quantityTold}
 use Rattle.readback.proofs.Events.{event-says, refused-is-read, unchanged-is-read, faulty-is-read}
 use Rattle.calls.specs.declared.Standing.{Standing}
 use Rattle.calls.specs.declared.Standing.the-variants.{Stands, Fails}
 use Rattle.calls.specs.Checks.{textOf, holder, inTable, isCode, newStands, changeStands, cancelStands, andAbove, replaceStands}
-use Rattle.calls.specs.Submit.{causeOf, sentAt, noText, rejecting, faulted, newRejected, changeRejected, newOrderOf}
+use Rattle.calls.specs.Submit.{causeOf, sentAt, noText, rejecting, faulted, newRejected, changeRejected}
 use Rattle.calls.specs.Run.{eventReport}
 use Rattle.intake.specs.Intake.{Asking}
-use Rattle.intake.proofs.Standing.{between-printable, between-digits, holder-few, new-named, new-account, new-account-short, new-capacity, new-class, new-enters, new-time, cancel-in, cancel-named, replace-in, replace-named, replace-renews, replace-time}
-use Rattle.promises.proofs.Tells.{kindFor, reasonFor, Tells}
+use Rattle.intake.proofs.Standing.{between-printable, between-digits, holder-few, new-named, new-account, new-account-short, new-capacity, new-class, new-enters, cancel-in, cancel-named, replace-in, replace-named, replace-renews}
 use Rattle.promises.proofs.Leads.{isSilent}
-use Rattle.promises.proofs.Playing.{contra, TellsOn, TellsAll}
+use Rattle.promises.proofs.Playing.{TellsOn, TellsAll}
 use Rattle.promises.proofs.Running.{StepTells}
 use Rattle.promises.proofs.Submitting.{Told, NewTells, ReplaceTells, CancelTells, Silent}
 
--- ---- what is read of an event is what it tells
-kind-told : (e : Event) → kindTold e ≡ kindFor e
-kind-told (Accepted n o) = refl
-kind-told (Replaced n l q p) = refl
-kind-told (Withdrawn n q) = refl
-kind-told (Canceled n q) = refl
-kind-told (Decremented n q) = refl
-kind-told (Traded n m q l) = refl
-kind-told (Expired n q) = refl
-
-reason-told : (e : Event) → reasonTold e ≡ reasonFor e
-reason-told (Accepted n o) = refl
-reason-told (Replaced n l q p) = refl
-reason-told (Withdrawn n q) = refl
-reason-told (Canceled n q) = refl
-reason-told (Decremented n q) = refl
-reason-told (Traded n m q l) = refl
-reason-told (Expired n q) = refl
-
+-- ---- what is read of an event is what it tells; its 32 is what it trades
 quantity-told : (e : Event) → quantityTold e ≡ trades e
 quantity-told (Accepted n o) = refl
 quantity-told (Replaced n l q p) = refl
@@ -88,28 +61,19 @@ quantity-told (Decremented n q) = refl
 quantity-told (Traded n m q l) = refl
 quantity-told (Expired n q) = refl
 
-other-told : (t : List ℕ) (e : Event) → otherTold t e ≡ contra t e
-other-told t (Accepted n o) = refl
-other-told t (Replaced n l q p) = refl
-other-told t (Withdrawn n q) = refl
-other-told t (Canceled n q) = refl
-other-told t (Decremented n q) = refl
-other-told t (Traded n m q l) = refl
-other-told t (Expired n q) = refl
-
 legible-tells : (t message : List ℕ) (n : ℕ) (c : Cause) (e : Event) → Legible t message n c e → TellsOn t e (ticketOf t message n c e)
 legible-tells t message n c e h =
     let s = event-says t message n c e h in
     record {
-      kind = s .is-kind ∙ kind-told e;
+      kind = s .is-kind;
       order = s .says-37;
       quantity = s .says-38;
       left = s .says-151;
       executed = s .says-32 ∙ quantity-told e;
-      reason = s .says-378 ∙ reason-told e;
+      reason = s .says-378;
       side = s .says-54;
       mpid = s .says-109;
-      other = s .says-375 ∙ other-told t e;
+      other = s .says-375;
     }
 
 -- ---- the events of a step

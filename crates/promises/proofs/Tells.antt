@@ -1,14 +1,11 @@
 -- What the report of an event says of its order, and what that makes of the order's account: exactly what the event makes of the
 -- order's own amounts.
 use mathlib.Core.Path.{_≡_, refl, sym, ap, _∙_}
-use mathlib.Core.Bool.{Bool, true, false, cond}
-use mathlib.Core.List.{List, [], _∷_, _++_}
+use mathlib.Core.Bool.{false}
 use mathlib.Core.Logic.{_≢_}
 use Prim.Native.Nat.{ℕ, _+_, _-_, _≤_}
 use native.Mathlib.Omega.{arith}
-use lib.Dec.{eqb}
-use borrow.Author.Tests.{eqb-true, eqb-false, eq-eqb, ne-eqb}
-use Rattle.octets.proofs.Bools.{split}
+use borrow.Author.Tests.{eq-eqb, ne-eqb}
 use Rattle.matching.specs.declared.Order.{Order}
 use Rattle.matching.specs.declared.Event.{Event}
 use Rattle.matching.specs.declared.Event.the-variants as event
@@ -18,43 +15,37 @@ use Rattle.matching.specs.Accounts.{trades}
 use Rattle.matching.specs.Happens.{Fresh}
 use Rattle.matching.proofs.Books.{at-new}
 use Rattle.report.specs.declared.Kind.{Kind}
-use Rattle.report.specs.declared.Kind.the-variants as kind
 use Rattle.report.specs.declared.Reading.{Reading}
 use Rattle.readback.specs.Says.{says}
-use Rattle.promises.specs.Tallies.{Account, blank, afterReport, noted}
+use Rattle.readback.specs.Told.{kindTold, reasonTold}
+use Rattle.promises.specs.Tallies.{Account, afterReport, noted, isRefused}
 
 -- ---- what a report says
 
--- the kind of the report of an event, and its 378, 0 for none
-abbrev pub kindFor : Event → Kind
-kindFor (event.Accepted n o) = kind.Accepted
-kindFor (event.Replaced n l q p) = kind.Replaced
-kindFor (event.Withdrawn n q) = kind.Canceled
-kindFor (event.Canceled n q) = kind.Canceled
-kindFor (event.Decremented n q) = kind.Replaced
-kindFor (event.Traded n m q l) = kind.Trade
-kindFor (event.Expired n q) = kind.Canceled
-
-abbrev pub reasonFor : Event → ℕ
-reasonFor (event.Accepted n o) = 0
-reasonFor (event.Replaced n l q p) = 0
-reasonFor (event.Withdrawn n q) = 0
-reasonFor (event.Canceled n q) = 100
-reasonFor (event.Decremented n q) = 100
-reasonFor (event.Traded n m q l) = 0
-reasonFor (event.Expired n q) = 99
-
 -- the report r of event e, after which its order is o and the other order has the MPID m
 pub record Tells (r : Reading) (e : Event) (o : Order) (m : ℕ) : Type 0 where
-  pub kind : r .kind ≡ kindFor e
+  pub kind : r .kind ≡ kindTold e
   pub order : says 37 r ≡ who e
   pub quantity : says 38 r ≡ o .qty
   pub left : says 151 r ≡ openOf o
   pub executed : says 32 r ≡ trades e
-  pub reason : says 378 r ≡ reasonFor e
+  pub reason : says 378 r ≡ reasonTold e
   pub side : says 54 r ≡ o .side
   pub mpid : says 109 r ≡ o .mpid
   pub other : says 375 r ≡ m
+
+-- every event has a report that Read takes
+told-read : (e : Event) → isRefused (kindTold e) ≡ false
+told-read (event.Accepted n o) = refl
+told-read (event.Replaced n l q p) = refl
+told-read (event.Withdrawn n q) = refl
+told-read (event.Canceled n q) = refl
+told-read (event.Decremented n q) = refl
+told-read (event.Traded n m q l) = refl
+told-read (event.Expired n q) = refl
+
+pub tells-read : (r : Reading) (e : Event) (o : Order) (m : ℕ) → Tells r e o m → isRefused (r .kind) ≡ false
+tells-read r e o m t = ap isRefused (t .kind) ∙ told-read e
 
 -- ---- what an event does to an order
 
@@ -90,7 +81,7 @@ fall o n q x h e = omega arith
 -- after the report of an exact event
 module _ (b : Book) (r : Reading) (m : ℕ) where
   pub account-after : (e : Event) → Exact b e → Tells r e (change e (at b (who e))) m
-      → afterReport (kindFor e) r (accountIn (at b (who e))) ≡ accountIn (change e (at b (who e)))
+      → afterReport (kindTold e) r (accountIn (at b (who e))) ≡ accountIn (change e (at b (who e)))
   unfolding change
   account-after (event.Accepted n o) x t =
       let z : at b n ≡ none = rw (x .number) (at-new b) in

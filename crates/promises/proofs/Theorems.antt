@@ -1,7 +1,7 @@
 -- What the market promises, of every history: any calls in turn, from an accepted Open with any settings, refused calls among them. A
 -- statement about the table and the reports after a history holds after each of its calls, since what went before a call is a history
 -- too. Everything is said of the definitions that the contracts of the calls cite, and of the bytes of the reports as Read gives them.
-use mathlib.Core.Path.{_≡_, sym, ap, _∙_}
+use mathlib.Core.Path.{_≡_}
 use mathlib.Core.Bool.{true}
 use mathlib.Core.List.{List}
 use mathlib.Core.Logic.{_≢_}
@@ -21,12 +21,14 @@ use Rattle.calls.specs.Submit.{submitted}
 use Rattle.calls.specs.Run.{ran, runSteps}
 use Rattle.market.specs.declared.depth.DepthAnswer.the-variants as depth-answer
 use Rattle.market.specs.Depth.{depthAnswer}
-use Rattle.promises.specs.History.{Call, tableAfter, reportsAfter}
-use Rattle.promises.specs.Tallies.{blank, accountOf, bought, sold, selfTrades}
+use Rattle.intake.proofs.Theorems.{submit-keeps}
+use Rattle.promises.specs.History.{Call, tableAfter, reportsAfter, stepsAfter, noSubmit}
+use Rattle.promises.specs.Tallies.{blank, accountOf, bought, sold, selfTrades, unread}
 use Rattle.promises.specs.Whole.{openIn, ordersIn, overDepth}
 use Rattle.promises.proofs.Kept.{Told, after-market, after-told, account-adds, account-left, account-none, submit-found, run-found, depth-found, buys-above}
 use Rattle.promises.proofs.Depths.{totals-open, orders-open}
 use Rattle.promises.proofs.Agreeing.{ran-ends}
+use Rattle.promises.proofs.Spending.{steps-most}
 
 module _ (before venue port code : List ℕ) (first : ℕ) (mpids modes : List ℕ) (taken : isOpening before venue port code first mpids modes ≡ true)
     (calls : List Call) where
@@ -69,7 +71,11 @@ module _ (before venue port code : List ℕ) (first : ℕ) (mpids modes : List �
   pub no-others : (k : ℕ) → (1 ≤ k → k ≤ filled table → ⊥) → accountOf k reports ≡ blank
   no-others = account-none table reports told
 
-  -- ---- all trades
+  -- ---- all reports
+
+  -- Read takes each of them
+  pub all-read : unread reports ≡ 0
+  all-read = told .read
 
   -- what is bought is sold
   pub balanced : bought reports ≡ sold reports
@@ -94,8 +100,19 @@ module _ (before venue port code : List ℕ) (first : ℕ) (mpids modes : List �
         → 0 < openOf (orderAt table i) → 0 < openOf (orderAt table j) → orderAt table j .level < orderAt table i .level
     uncrossed = buys-above table a-market idle
 
-  -- ---- an order in work that meets m open opposite orders is done within m + 1 steps, given room for their reports
-  pub done-in-time : (room budget : ℕ)
-      → let m = metBy (bookOf table) (workOf table) in
-      1024 * (m + 1) ≤ room → m + 1 ≤ budget → (workOf (ran table room budget .table) ≡ 0) × (runSteps (ran table room budget .answer) ≤ m + 1)
-  done-in-time room budget = ran-ends table room budget a-market
+  -- ---- a message that comes next: m is the number of open opposite orders that its order meets then
+  module _ (message : List ℕ) (room : ℕ) where
+    abbrev after : List ℕ
+    after = submitted table message room .table
+
+    abbrev met : ℕ
+    met = metBy (bookOf after) (workOf after)
+
+    -- it is done with a budget of m + 1 steps, and within m + 1 steps, given room for their reports
+    pub done-in-time : (area budget : ℕ) → 1024 * (met + 1) ≤ area → met + 1 ≤ budget
+        → (workOf (ran after area budget .table) ≡ 0) × (runSteps (ran after area budget .answer) ≤ met + 1)
+    done-in-time area budget = ran-ends after area budget (submit-keeps table message room a-market)
+
+    -- and takes no more than m + 1 steps in all, however its Runs divide them and whatever room each has
+    pub steps-in-all : (later : List Call) → noSubmit later ≡ true → stepsAfter after later ≤ met + 1
+    steps-in-all later = steps-most later after (submit-keeps table message room a-market)

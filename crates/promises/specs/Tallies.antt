@@ -1,6 +1,6 @@
 -- What a member tells from reports alone (document 01, "The reports", what demand 3 takes from them): of the order that 37 names, the
 -- quantity accepted, the executions, the decrements, the cancels and what was last reported open; of the whole market, what was
--- bought and sold. All of it is taken from the bytes of reports as Read gives them. Assumes nothing.
+-- bought and sold. All of it is taken from the bytes of reports as Read gives them, if it takes them. Assumes nothing.
 use mathlib.Core.Bool.{Bool, true, false, cond, not, _&&_}
 use mathlib.Core.List.{List, [], _∷_}
 use Prim.Native.Nat.{ℕ, _+_, _-_}
@@ -117,3 +117,21 @@ isSelfTrade r = isTrade (r .kind) && eqb (says 109 r) (says 375 r) && not (eqb (
 unfoldable pub selfTrades : List (List ℕ) → ℕ
 selfTrades [] = 0
 selfTrades (r ∷ rs) = cond (isSelfTrade (readOf r)) 1 0 + selfTrades rs
+
+-- ---- reports as such
+
+-- Read refuses the bytes
+abbrev pub isRefused : Kind → Bool
+isRefused Accepted = false
+isRefused Replaced = false
+isRefused Canceled = false
+isRefused Trade = false
+isRefused Rejected = false
+isRefused CancelReject = false
+isRefused SessionReject = false
+isRefused Refused = true
+
+-- the number of reports that it refuses
+unfoldable pub unread : List (List ℕ) → ℕ
+unread [] = 0
+unread (r ∷ rs) = cond (isRefused (readOf r .kind)) 1 0 + unread rs

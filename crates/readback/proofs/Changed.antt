@@ -11,7 +11,8 @@ use Rattle.decimal.specs.Writing.{decimal, places}
 use Rattle.report.specs.declared.Kind.{Kind}
 use Rattle.report.specs.declared.Kind.the-variants.{Accepted, Replaced, Canceled, Trade, Rejected, CancelReject, SessionReject, Refused}
 use Rattle.report.specs.Fields.{label, written, rowBytes}
-use Rattle.report.specs.Frame.{total, checkSum, front, trailer, reportBytes}
+use Rattle.fix.specs.Garbled.{sumOf}
+use Rattle.report.specs.Frame.{checkSum, front, trailer, reportBytes}
 use Rattle.report.specs.Reports.{readOf}
 use Rattle.report.proofs.Bytes.{trailer-length}
 use Rattle.report.proofs.ReadOnly.{read-only}
@@ -19,14 +20,15 @@ use Rattle.report.proofs.ReadOnly.{read-only}
 -- ---- the CheckSum
 
 -- one byte for another
-total-set : (s : List ℕ) (i b : ℕ) → i < length s → total (set s i b) + getD s i 0 ≡ total s + b
-total-set [] i b h = absurd (not-suc-le-zero h)
-total-set (x ∷ s) zero b h = omega arith
-total-set (x ∷ s) (suc i) b h = omega (arith, total-set s i b (omega arith))
+sum-set : (s : List ℕ) (i b : ℕ) → i < length s → sumOf (set s i b) + getD s i 0 ≡ sumOf s + b
+unfolding sumOf
+sum-set [] i b h = absurd (not-suc-le-zero h)
+sum-set (x ∷ s) zero b h = omega arith
+sum-set (x ∷ s) (suc i) b h = omega (arith, sum-set s i b (omega arith))
 
 sum-differs : (s : List ℕ) (i b : ℕ) → i < length s → getD s i 0 < 256 → b < 256 → (b ≡ getD s i 0 → ⊥) → checkSum s ≡ checkSum (set s i b) → ⊥
 unfolding checkSum
-sum-differs s i b h l m n e = omega (arith, total-set s i b h, n, e)
+sum-differs s i b h l m n e = omega (arith, sum-set s i b h, n, e)
 
 -- its three digits tell it
 whole-tells : (c d : ℕ) → c / 10 ≡ d / 10 → 48 + c % 10 ≡ 48 + d % 10 → c ≡ d

@@ -1,8 +1,7 @@
--- The bytes of rows and reports: one field more, how long they are, the sum one byte on.
-use Prim.Native.Nat.{ℕ, zero, suc, _+_, _%_, _^_, _≤_, _<_}
+-- The bytes of rows and reports: one field more, and how long they are.
+use Prim.Native.Nat.{ℕ, zero, suc, _+_, _≤_, _<_}
 use native.Mathlib.Omega.{arith}
 use native.Mathlib.Numerals.{add-one}
-use native.Mathlib.Nat.{zero-add}
 use mathlib.Core.Path.{_≡_, refl, sym, ap, _∙_}
 use mathlib.Core.Bool.{Bool, true, false, cond}
 use mathlib.Core.List.{List, [], _∷_, _++_, append-assoc, append-nil}
@@ -17,7 +16,7 @@ use Rattle.report.specs.declared.Field.{Field}
 use Rattle.report.specs.declared.Value.{Value}
 use Rattle.report.specs.declared.Value.the-variants.{Absent, Number, Char, Word, Sent, Stored, Level, Mean}
 use Rattle.report.specs.Fields.{field, isAbsent, valueBytes, label, written, fieldBytes, rowBytes}
-use Rattle.report.specs.Frame.{total, checkSum, version, front, trailer, reportBytes}
+use Rattle.report.specs.Frame.{checkSum, version, front, trailer, reportBytes}
 
 -- ---- fields
 module _ (sent stored : List ℕ) (f : Field) where
@@ -52,20 +51,6 @@ module _ (sent stored : List ℕ) where
       ∙ row-append (take i xs) (drop i xs)
       ∙ ap (λ (l : List Field). rowBytes sent stored (take i xs) ++ rowBytes sent stored l) (drop-cons xs i d h)
       ∙ sym (append-assoc (rowBytes sent stored (take i xs)) (fieldBytes sent stored (getD xs i d)) (rowBytes sent stored (drop (suc i) xs)))
-
--- ---- the CheckSum
-total-append : (xs ys : List ℕ) → total (xs ++ ys) ≡ total xs + total ys
-total-append [] ys = sym (zero-add (total ys))
-total-append (x ∷ xs) ys = omega (arith, total-append xs ys)
-
-pub check-none : checkSum [] ≡ 0
-unfolding checkSum
-check-none = refl
-
--- one byte more
-pub check-more : (s : List ℕ) (i sum : ℕ) → i < length s → sum ≡ checkSum (take i s) → (sum + getD s i 0) % 2 ^ 8 ≡ checkSum (take (i + 1) s)
-unfolding checkSum
-check-more s i sum h e = rw (add-one i, take-suc s i 0 h, total-append (take i s) (getD s i 0 ∷ [])) (omega (arith, e))
 
 -- ---- lengths
 pub length-written : (tag : ℕ) (value : List ℕ) → length (written tag value) ≡ length (decimal tag) + length value + 2

@@ -14,11 +14,11 @@ use crate::parse::place_of;
 use crate::parse::read_row;
 use crate::parse::value_end;
 use crate::slots::slots_of;
-use crate::write::check_sum;
 use crate::write::is_absent;
 use crate::write::put_trailer;
 use decimal::read::byte_at;
 use decimal::write::digits;
+use fix::frame::checksum;
 use octets::part_at;
 use octets::same;
 ghost use mathlib.Core.Path.{_≡_};
@@ -88,7 +88,7 @@ fn trailer_at(s: &[u8], end: usize) -> bool
     ensures { λ r. ⌜ r ≡ trailerAt (now (s .entry)) end ⌝ }
 {
     let mut t = [0u8; 8];
-    let n = put_trailer(&mut t, 0, check_sum(&s[..end]));
+    let n = put_trailer(&mut t, 0, checksum(&s[..end]));
     same(&s[end..], &t[..n])
 }
 

@@ -6,6 +6,7 @@ use decimal::write::put_decimal;
 use decimal::write::put_level;
 use decimal::write::put_mean;
 use decimal::write::put_places;
+use fix::frame::checksum;
 use octets::part::copy_into;
 use octets::part::part_at;
 ghost use mathlib.Core.Path.{_≡_};
@@ -15,7 +16,7 @@ ghost use lib.ListN.{length};
 ghost use Rattle.octets.specs.Written.{Room, Wrote};
 ghost use Rattle.decimal.specs.Writing.{decimal};
 ghost use Rattle.report.specs.Fields.{isAbsent, valueBytes, label, written, fieldBytes, rowBytes};
-ghost use Rattle.report.specs.Frame.{checkSum, front, trailer, reportBytes};
+ghost use Rattle.report.specs.Frame.{front, trailer, reportBytes};
 
 // Four characters.
 fn put_four(out: &mut [u8], at: usize, w: u8, x: u8, y: u8, z: u8) -> usize
@@ -106,19 +107,6 @@ pub fn put_row(out: &mut [u8], at: usize, row: [Field; 36], sent: &[u8], stored:
     o
 }
 
-// The sum of the bytes, in one byte that wraps on purpose.
-pub fn check_sum(s: &[u8]) -> u8
-    ensures { λ r. ⌜ r ≡ checkSum (now (s .entry)) ⌝ }
-{
-    let mut sum = 0u8;
-    let mut i = 0;
-    while i < s.len() {
-        sum = std::num::wrapping_add_u8(sum, s[i]);
-        i += 1;
-    }
-    sum
-}
-
 // 9, the length of the body.
 fn put_length(out: &mut [u8], at: usize, n: u64) -> usize
     requires { ⌜ Room (now out) at (written 9 (decimal n)) ⌝ }
@@ -159,6 +147,6 @@ pub fn write_report(out: &mut [u8], row: [Field; 36], sent: &[u8], stored: &[u8]
     let mut body = [0u8; 489];
     let n = put_row(&mut body, 0, row, sent, stored);
     let at = put_front(out, &body[..n]);
-    let sum = check_sum(&out[..at]);
+    let sum = checksum(&out[..at]);
     put_trailer(out, at, sum)
 }

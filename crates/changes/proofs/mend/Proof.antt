@@ -7,14 +7,14 @@ use Rattle.changes.proofs.mend.Tie as tie
 sub-end : tie.Need-sub-end
 sub-end c = search needs
 
-slice-reshare-prefix-check-sum : tie.Need-slice-reshare-prefix-check-sum
-slice-reshare-prefix-check-sum c = search needs
+slice-reshare-prefix-checksum : tie.Need-slice-reshare-prefix-checksum
+slice-reshare-prefix-checksum c = search needs
 
-slice-aggregate-check-sum : tie.Need-slice-aggregate-check-sum
-slice-aggregate-check-sum c = search (needs, mend-cut)
+slice-aggregate-checksum : tie.Need-slice-aggregate-checksum
+slice-aggregate-checksum c = search (needs, mend-cut)
 
-check-sum-requires : tie.Need-check-sum-requires
-check-sum-requires c κs = search needs
+checksum-requires : tie.Need-checksum-requires
+checksum-requires c κs = search needs
 
 put-trailer-requires : tie.Need-put-trailer-requires
 put-trailer-requires c κs = search (needs, mend-room)
@@ -30,9 +30,9 @@ mend-spec =
     tie.close
     (tie.spec
     sub-end
-    slice-reshare-prefix-check-sum
-    slice-aggregate-check-sum
-    check-sum-requires
+    slice-reshare-prefix-checksum
+    slice-aggregate-checksum
+    checksum-requires
     put-trailer-requires
     same-length
     returns)

@@ -19,8 +19,8 @@ enum-known-r c = search needs
 enum-told : tie.Need-enum-told
 enum-told c = search needs
 
-is-above-requires : tie.Need-is-above-requires
-is-above-requires c κs = (search needs, search (needs, change-some), search (needs, holder-below))
+quantity-stands-requires : tie.Need-quantity-stands-requires
+quantity-stands-requires c κs = (search needs, search (needs, change-some), search (needs, holder-below))
 
 returns : tie.Need-returns
 returns c = search (needs, replace-fails)
@@ -37,6 +37,6 @@ replace-stands-spec =
     change-stands-requires
     enum-known-r
     enum-told
-    is-above-requires
+    quantity-stands-requires
     returns
     returns-2)

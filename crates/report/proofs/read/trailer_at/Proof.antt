@@ -11,11 +11,11 @@ use Rattle.report.proofs.read.trailer_at.Tie as tie
 slice-aggregate-put-trailer : tie.Need-slice-aggregate-put-trailer
 slice-aggregate-put-trailer c = search needs
 
-slice-aggregate-check-sum : tie.Need-slice-aggregate-check-sum
-slice-aggregate-check-sum c = simp length-take (omega arith)
+slice-aggregate-checksum : tie.Need-slice-aggregate-checksum
+slice-aggregate-checksum c = simp length-take (omega arith)
 
-check-sum-requires : tie.Need-check-sum-requires
-check-sum-requires c κs = search needs
+checksum-requires : tie.Need-checksum-requires
+checksum-requires c κs = search needs
 
 put-trailer-requires : tie.Need-put-trailer-requires
 put-trailer-requires c κs = trailer-room _
@@ -39,15 +39,15 @@ same-requires : tie.Need-same-requires
 same-requires c κs = search needs
 
 returns : tie.Need-returns
-returns c = trailer-is _ _ (search needs) _ (c .before .before .before .before .before .check-sum .ensures) _ _ (wrote-front (c .before .before .before .before .put-trailer .ensures) (trailer-room _)) (c .same .ensures)
+returns c = trailer-is _ _ (search needs) _ (c .before .before .before .before .before .checksum .ensures) _ _ (wrote-front (c .before .before .before .before .put-trailer .ensures) (trailer-room _)) (c .same .ensures)
 
 pub trailer-at-spec : {M : Type 1} → statement M
 trailer-at-spec =
     tie.close
     (tie.spec
     slice-aggregate-put-trailer
-    slice-aggregate-check-sum
-    check-sum-requires
+    slice-aggregate-checksum
+    checksum-requires
     put-trailer-requires
     sub-same
     part-same-start

@@ -41,17 +41,17 @@ front-room : (c : tie.After-slice-known2) → let s = c .before .before .before 
 unfolding reportBytes
 front-room c = let s = c .before .before .before .before .before .before .before .before .before .before .before in record { fits = omega (arith, s .pre, report-length (rowBytes (s .args .sent .now) (s .args .stored .now) (s .args .row)) (s .pre .0)) }
 
-sum-is : (c : tie.After-check-sum) → let s = c .before .before .before .before .before .before .before .before .before .before .before .before .before in c .check-sum .result ≡ checkSum (front (rowBytes (s .args .sent .now) (s .args .stored .now) (s .args .row)))
-sum-is c = c .check-sum .ensures ∙ ap checkSum (wrote-front (front-wrote (c .before .before)) (room-first _ _ (front-room (c .before .before))))
+sum-is : (c : tie.After-checksum) → let s = c .before .before .before .before .before .before .before .before .before .before .before .before .before in c .checksum .result ≡ checkSum (front (rowBytes (s .args .sent .now) (s .args .stored .now) (s .args .row)))
+sum-is c = c .checksum .ensures ∙ ap checkSum (wrote-front (front-wrote (c .before .before)) (room-first _ _ (front-room (c .before .before))))
 
-slice-reshare-prefix-check-sum : tie.Need-slice-reshare-prefix-check-sum
-slice-reshare-prefix-check-sum c = wrote-within (front-wrote c) (room-first _ _ (front-room c))
+slice-reshare-prefix-checksum : tie.Need-slice-reshare-prefix-checksum
+slice-reshare-prefix-checksum c = wrote-within (front-wrote c) (room-first _ _ (front-room c))
 
-slice-aggregate-check-sum : tie.Need-slice-aggregate-check-sum
-slice-aggregate-check-sum c = omega (arith, front-wrote (c .before) .place, ap length (wrote-front (front-wrote (c .before)) (room-first _ _ (front-room (c .before)))))
+slice-aggregate-checksum : tie.Need-slice-aggregate-checksum
+slice-aggregate-checksum c = omega (arith, front-wrote (c .before) .place, ap length (wrote-front (front-wrote (c .before)) (room-first _ _ (front-room (c .before)))))
 
-check-sum-requires : tie.Need-check-sum-requires
-check-sum-requires c κs = search needs
+checksum-requires : tie.Need-checksum-requires
+checksum-requires c κs = search needs
 
 put-trailer-requires : tie.Need-put-trailer-requires
 put-trailer-requires c κs = rw (sum-is (c .before)) (room-then _ (front-room (c .before .before .before)) (front-wrote (c .before .before .before)))
@@ -72,9 +72,9 @@ write-report-spec =
     array-share-prefix-body
     slice-aggregate-put-front
     put-front-requires
-    slice-reshare-prefix-check-sum
-    slice-aggregate-check-sum
-    check-sum-requires
+    slice-reshare-prefix-checksum
+    slice-aggregate-checksum
+    checksum-requires
     put-trailer-requires
     same-length
     returns)
