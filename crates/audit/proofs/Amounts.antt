@@ -5,13 +5,14 @@ use mathlib.Core.List.{List}
 use Prim.Native.Nat.{ℕ, _+_, _*_, _-_, _<_}
 use native.Mathlib.Omega.{arith}
 use lib.Dec.{eqb, leb, ltb}
+use lib.ListN.{getD}
 use borrow.Author.Tests.{ltb-true, ltb-false, leb-true, leb-false, lt-ltb, le-ltb, eq-eqb, ne-eqb}
-use Rattle.octets.specs.Octets.{partAt, allZero, Bytes}
+use Rattle.octets.specs.Octets.{leAt, partAt, allZero, Bytes}
 use Rattle.octets.specs.Tests.{allUpTo}
 use Rattle.octets.proofs.Bools.{split}
 use Rattle.octets.proofs.Places.{leAt-lt}
 use Rattle.matching.specs.declared.Order.{Order}
-use Rattle.matching.specs.Matching.{openOf, isOpen}
+use Rattle.matching.specs.Matching.{openOf, isOpen, isBuy}
 use Rattle.table.specs.Places.{recordAt}
 use Rattle.table.specs.Heading.{nextOf, entries}
 use Rattle.table.specs.Orders.{orderAt}
@@ -48,6 +49,16 @@ open-used o =
     split (ltb u (o .qty))
     (λ e. rw e (sym (lt-ltb 0 (o .qty - u) (omega (arith, ltb-true)))))
     (λ e. rw e (sym (le-ltb 0 (o .qty - u) (omega (arith, ltb-false)))))
+
+-- the same of record i, by the numbers that were read
+pub open-read : (t : List ℕ) (i a b c q : ℕ) → a ≡ leAt 4 t (128 * i + 72) → b ≡ leAt 4 t (128 * i + 76) → c ≡ leAt 4 t (128 * i + 80)
+    → q ≡ leAt 4 t (128 * i + 52) → ltb (a + b + c) q ≡ isOpen (orderAt t i)
+unfolding orderAt
+open-read t i a b c q e f g h = rw (e, f, g, h) (open-used (orderAt t i))
+
+pub buy-read : (t : List ℕ) (i x : ℕ) → x ≡ getD t (128 * i + 44) 0 → eqb x 1 ≡ isBuy (orderAt t i)
+unfolding orderAt
+buy-read t i x e = rw e
 
 pub shut-used : (o : Order) → leb (o .qty) (o .executed + o .decremented + o .canceled) ≡ eqb (openOf o) 0
 unfolding openOf
