@@ -80,14 +80,31 @@ zero-join : (t : List ℕ) (p m n : ℕ) {a b : Bool} → a ≡ allZero (partAt 
 unfolding partAt
 zero-join t p m n e f = rw (e, f, take-add, zero-append, drop-drop)
 
-pub zero-sixteen : (t : List ℕ) (p : ℕ) (a b c d : Bool) → a ≡ allZero (partAt t p 4) → b ≡ allZero (partAt t (p + 4) 4) → c ≡ allZero (partAt t (p + 8) 4)
-    → d ≡ allZero (partAt t (p + 12) 4) → (a && b && c && d) ≡ allZero (partAt t p 16)
-zero-sixteen t p a b c d e f g h = zero-join t p 12 4 (zero-join t p 8 4 (zero-join t p 4 4 e f) g) h
+-- the same where a sum is 0 exactly if each part of it is
+sum-zero : (x y : ℕ) → eqb (x + y) 0 ≡ (eqb x 0 && eqb y 0)
+sum-zero x y =
+    split (eqb x 0)
+    (λ e. split (eqb y 0)
+    (λ f. rw (e, f) (eq-eqb (x + y) 0 (omega (arith, eqb-true x 0 e, eqb-true y 0 f))))
+    (λ f. rw (e, f) (ne-eqb (x + y) 0 (λ z. eqb-false y 0 f (omega arith)))))
+    (λ e. rw e (ne-eqb (x + y) 0 (λ z. eqb-false x 0 e (omega arith))))
 
-pub zero-unused : (t : List ℕ) (p : ℕ) (a b c d e : Bool) → a ≡ allZero (partAt t p 16) → b ≡ allZero (partAt t (p + 16) 16)
-    → c ≡ allZero (partAt t (p + 32) 4) → d ≡ allZero (partAt t (p + 36) 4) → e ≡ allZero (partAt t (p + 40) 4)
-    → (a && b && c && d && e) ≡ allZero (partAt t p 44)
-zero-unused t p a b c d e f g h i j = zero-join t p 40 4 (zero-join t p 36 4 (zero-join t p 32 4 (zero-join t p 16 16 f g) h) i) j
+sum-join : (t : List ℕ) (p m n x y : ℕ) → eqb x 0 ≡ allZero (partAt t p m) → y ≡ leAt n t (p + m) → p + m + n ≤ length t
+    → eqb (x + y) 0 ≡ allZero (partAt t p (m + n))
+sum-join t p m n x y e f h = sum-zero x y ∙ zero-join t p m n e (zeros-read n t (p + m) y f h)
+
+pub sum-four : (t : List ℕ) (p a b c d : ℕ) → a ≡ leAt 4 t p → b ≡ leAt 4 t (p + 4) → c ≡ leAt 4 t (p + 8) → d ≡ leAt 4 t (p + 12) → p + 16 ≤ length t
+    → eqb (a + b + c + d) 0 ≡ allZero (partAt t p 16)
+sum-four t p a b c d e f g h l =
+    sum-join t p 12 4 (a + b + c) d
+    (sum-join t p 8 4 (a + b) c (sum-join t p 4 4 a b (zeros-read 4 t p a e (omega arith)) f (omega arith)) g (omega arith)) h (omega arith)
+
+pub sum-unused : (t : List ℕ) (p a b x y z : ℕ) → eqb a 0 ≡ allZero (partAt t p 16) → eqb b 0 ≡ allZero (partAt t (p + 16) 16) → x ≡ leAt 4 t (p + 32)
+    → y ≡ leAt 4 t (p + 36) → z ≡ leAt 4 t (p + 40) → p + 44 ≤ length t → eqb (a + b + x + y + z) 0 ≡ allZero (partAt t p 44)
+sum-unused t p a b x y z e f g h i l =
+    let two : eqb (a + b) 0 ≡ allZero (partAt t p 32) = sum-zero a b ∙ zero-join t p 16 16 e f in
+    sum-join t p 40 4 (a + b + x + y) z
+    (sum-join t p 36 4 (a + b + x) y (sum-join t p 32 4 (a + b) x two g (omega arith)) h (omega arith)) i (omega arith)
 
 -- ---- a text of no bytes is zeros in all its room
 part-empty : (t : List ℕ) (p : ℕ) → partAt t p 0 ≡ []

@@ -61,12 +61,15 @@ pub fn zeros_at(t: &[u8], p: usize, n: usize) -> bool
     octets::le_at(t, p, n) == 0
 }
 
-// Whether the 16 bytes from place p on are zero.
-pub fn sixteen_zero(t: &[u8], p: usize) -> bool
+// The sum of the four numbers of four bytes from place p on: it is 0 exactly if all the bytes are.
+pub fn sum_of_four(t: &[u8], p: usize) -> u64
     requires { ⌜ p + 16 ≤ length (now t) ⌝ }
-    ensures { λ r. ⌜ r ≡ allZero (partAt (now (t .entry)) p 16) ⌝ }
+    ensures { λ r. ⌜ (eqb r 0 ≡ allZero (partAt (now (t .entry)) p 16)) × (r < 17179869184) ⌝ }
 {
-    zeros_at(t, p, 4) & zeros_at(t, p + 4, 4) & zeros_at(t, p + 8, 4) & zeros_at(t, p + 12, 4)
+    octets::le_at(t, p, 4)
+        + octets::le_at(t, p + 4, 4)
+        + octets::le_at(t, p + 8, 4)
+        + octets::le_at(t, p + 12, 4)
 }
 
 // Whether venue, port and code are such.
