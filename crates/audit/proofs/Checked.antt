@@ -1,16 +1,18 @@
 -- What the code that checks texts and the heading comes to, in the words of Market.
-use mathlib.Core.Path.{_≡_, refl, sym, _∙_}
+use mathlib.Core.Path.{_≡_, refl, sym, ap, _∙_}
 use mathlib.Core.Bool.{Bool, true, false, not, _&&_, and-assoc, and-true}
-use mathlib.Core.List.{List}
-use Prim.Native.Nat.{ℕ, _+_, _-_, _≤_, _<_, zero-le}
+use mathlib.Core.List.{List, [], _∷_}
+use Prim.Native.Nat.{ℕ, zero, suc, _+_, _*_, _-_, _≤_, _<_, zero-le}
+use native.Mathlib.Nat.{add-zero, sub-zero}
 use native.Mathlib.Numerals.{add-one}
 use native.Mathlib.Omega.{arith}
 use lib.Dec.{eqb, leb}
-use lib.ListN.{length, getD, drop}
-use lib.Seq.{drop-cons, drop-length}
-use borrow.Author.Tests.{le-leb, lt-leb, eq-eqb, ne-eqb}
-use Rattle.octets.specs.Octets.{partAt, textAt, sameBytes, allZero}
-use Rattle.octets.proofs.Bools.{both-not-r}
+use lib.ListN.{length, getD, take, drop}
+use lib.Seq.{drop-cons, drop-drop, drop-length, take-add}
+use borrow.Author.Tests.{le-leb, lt-leb, eq-eqb, ne-eqb, eqb-true, eqb-false}
+use Rattle.octets.specs.Octets.{leAt, partAt, textAt, sameBytes, allZero}
+use Rattle.octets.proofs.Bools.{split, both-not-r}
+use Rattle.octets.proofs.Zeros.{zero-append}
 use Rattle.decimal.specs.Reading.{isTime}
 use Rattle.table.specs.Heading.{workOf, stampOf}
 use Rattle.table.specs.Orders.{filled}
@@ -54,6 +56,77 @@ tested-end {f} {s} {good} {i} p l =
     let e : i ≡ length s = omega (arith, p .within) in
     let z : every f (drop i s) ≡ true = rw (e, drop-length) in
     sym (and-true good) ∙ rw z at (p .left)
+
+-- ---- zeros: n bytes are zero exactly if their number is; parts in a row
+both-zero : (x r : ℕ) → eqb (x + 256 * r) 0 ≡ (eqb x 0 && eqb r 0)
+both-zero x r =
+    split (eqb x 0)
+    (λ e. split (eqb r 0)
+    (λ f. rw (e, f) (eq-eqb (x + 256 * r) 0 (omega (arith, eqb-true x 0 e, eqb-true r 0 f))))
+    (λ f. rw (e, f) (ne-eqb (x + 256 * r) 0 (λ z. eqb-false r 0 f (omega arith)))))
+    (λ e. rw e (ne-eqb (x + 256 * r) 0 (λ z. eqb-false x 0 e (omega arith))))
+
+number-zero : (n : ℕ) (t : List ℕ) (p : ℕ) → p + n ≤ length t → eqb (leAt n t p) 0 ≡ allZero (partAt t p n)
+unfolding leAt partAt allZero
+number-zero zero t p h = refl
+number-zero (suc n) t p h =
+    let turn : drop p t ≡ getD t p 0 ∷ drop (p + 1) t = rw add-one (drop-cons t p 0 (omega arith)) in
+    rw turn (both-zero (getD t p 0) (leAt n t (p + 1)) ∙ ap (λ (b : Bool). eqb (getD t p 0) 0 && b) (number-zero n t (p + 1) (omega arith)))
+
+pub zeros-read : (n : ℕ) (t : List ℕ) (p r : ℕ) → r ≡ leAt n t p → p + n ≤ length t → eqb r 0 ≡ allZero (partAt t p n)
+zeros-read n t p r e h = rw e (number-zero n t p h)
+
+zero-join : (t : List ℕ) (p m n : ℕ) {a b : Bool} → a ≡ allZero (partAt t p m) → b ≡ allZero (partAt t (p + m) n) → (a && b) ≡ allZero (partAt t p (m + n))
+unfolding partAt
+zero-join t p m n e f = rw (e, f, take-add, zero-append, drop-drop)
+
+-- the same where a sum is 0 exactly if each part of it is
+sum-zero : (x y : ℕ) → eqb (x + y) 0 ≡ (eqb x 0 && eqb y 0)
+sum-zero x y =
+    split (eqb x 0)
+    (λ e. split (eqb y 0)
+    (λ f. rw (e, f) (eq-eqb (x + y) 0 (omega (arith, eqb-true x 0 e, eqb-true y 0 f))))
+    (λ f. rw (e, f) (ne-eqb (x + y) 0 (λ z. eqb-false y 0 f (omega arith)))))
+    (λ e. rw e (ne-eqb (x + y) 0 (λ z. eqb-false x 0 e (omega arith))))
+
+sum-join : (t : List ℕ) (p m n x y : ℕ) → eqb x 0 ≡ allZero (partAt t p m) → y ≡ leAt n t (p + m) → p + m + n ≤ length t
+    → eqb (x + y) 0 ≡ allZero (partAt t p (m + n))
+sum-join t p m n x y e f h = sum-zero x y ∙ zero-join t p m n e (zeros-read n t (p + m) y f h)
+
+pub sum-four : (t : List ℕ) (p a b c d : ℕ) → a ≡ leAt 4 t p → b ≡ leAt 4 t (p + 4) → c ≡ leAt 4 t (p + 8) → d ≡ leAt 4 t (p + 12) → p + 16 ≤ length t
+    → eqb (a + b + c + d) 0 ≡ allZero (partAt t p 16)
+sum-four t p a b c d e f g h l =
+    sum-join t p 12 4 (a + b + c) d
+    (sum-join t p 8 4 (a + b) c (sum-join t p 4 4 a b (zeros-read 4 t p a e (omega arith)) f (omega arith)) g (omega arith)) h (omega arith)
+
+pub sum-unused : (t : List ℕ) (p a b x y z : ℕ) → eqb a 0 ≡ allZero (partAt t p 16) → eqb b 0 ≡ allZero (partAt t (p + 16) 16) → x ≡ leAt 4 t (p + 32)
+    → y ≡ leAt 4 t (p + 36) → z ≡ leAt 4 t (p + 40) → p + 44 ≤ length t → eqb (a + b + x + y + z) 0 ≡ allZero (partAt t p 44)
+sum-unused t p a b x y z e f g h i l =
+    let two : eqb (a + b) 0 ≡ allZero (partAt t p 32) = sum-zero a b ∙ zero-join t p 16 16 e f in
+    sum-join t p 40 4 (a + b + x + y) z
+    (sum-join t p 36 4 (a + b + x) y (sum-join t p 32 4 (a + b) x two g (omega arith)) h (omega arith)) i (omega arith)
+
+-- ---- a text of no bytes is zeros in all its room
+part-empty : (t : List ℕ) (p : ℕ) → partAt t p 0 ≡ []
+unfolding partAt
+part-empty t p = go (drop p t)
+  where
+    go : (xs : List ℕ) → take 0 xs ≡ []
+    go [] = refl
+    go (x ∷ xs) = refl
+
+text-empty : (f : ℕ → Bool) (room : ℕ) (t : List ℕ) (p : ℕ) (z : Bool) → getD t p 0 ≡ 0 → z ≡ allZero (partAt t (p + 1) room) → z ≡ isText f 0 room t p
+unfolding isText isPadded textAt every
+text-empty f room t p z e h = h ∙ rw (e, part-empty, add-zero, sub-zero, le-leb 0 room zero-le)
+
+pub account-none : (f : ℕ → Bool) (t : List ℕ) (p n : ℕ) (a b c : Bool) → n ≡ getD t p 0 → n ≡ 0 → a ≡ allZero (partAt t (p + 1) 4)
+    → b ≡ allZero (partAt t (p + 5) 4) → c ≡ allZero (partAt t (p + 9) 2) → (a && b && c) ≡ isText f 0 10 t p
+account-none f t p n a b c e z g h i =
+    let five : p + 5 ≡ p + 1 + 4 = omega arith in
+    let nine : p + 9 ≡ p + 1 + 8 = omega arith in
+    let u : b ≡ allZero (partAt t (p + 1 + 4) 4) = rw (← five) h in
+    let v : c ≡ allZero (partAt t (p + 1 + 8) 2) = rw (← nine) i in
+    text-empty f 10 t p (a && b && c) (sym e ∙ z) (zero-join t (p + 1) 8 2 (zero-join t (p + 1) 4 4 g u) v)
 
 -- ---- a text: too short, too long, or tested by its bytes and the zeros behind it
 module _ (f : ℕ → Bool) (least room : ℕ) (t : List ℕ) (p n : ℕ) (e : n ≡ getD t p 0) where

@@ -13,7 +13,7 @@ use Rattle.octets.specs.Octets.{allZero, Bytes}
 use Rattle.octets.specs.Tests.{allUpTo}
 use Rattle.octets.proofs.Places.{below-or}
 use Rattle.matching.specs.declared.Order.{Order}
-use Rattle.matching.specs.Matching.{none, at, openOf, isOpen, opposite, opposed, opposedTo, sumOver, countOf}
+use Rattle.matching.specs.Matching.{none, at, openOf, isOpen, isBuy, opposite, opposed, opposedTo, sumOver, countOf}
 use Rattle.table.specs.Heading.{nextOf, workOf}
 use Rattle.table.specs.Orders.{orderAt, filled, bookOf}
 use Rattle.table.specs.Market.{hasLength, hasSettings, hasNext, hasWork, hasSpare, restZero, hasOrders, hasIds, isDone, noIoc, noCross, hasNumbers, isBook, isMarket}
@@ -24,29 +24,29 @@ use Rattle.audit.proofs.Marked.{at-record, book-length}
 use Rattle.audit.proofs.Bounds.{uncrossed-is}
 
 -- ---- one order, by the tests that the code makes of it
-module _ (had : ℕ) (apart x : Bool) (o : Order) (e : x ≡ isOpen o) where
-  pub low-yes : (not apart && x && eqb (o .side) 1 && ltb (o .level) had) ≡ true → o .level ≡ lowWith had apart o
+module _ (had : ℕ) (apart x y : Bool) (level : ℕ) (o : Order) (d : level ≡ o .level) (e : x ≡ isOpen o) (f : y ≡ isBuy o) where
+  pub low-yes : (not apart && x && y && ltb level had) ≡ true → level ≡ lowWith had apart o
   unfolding lowWith
   low-yes h =
-      let g = rw e at h in
-      rw g
+      let g = rw (d, e, f) at h in
+      rw (d, g)
 
-  pub low-no : (not apart && x && eqb (o .side) 1 && ltb (o .level) had) ≡ false → had ≡ lowWith had apart o
+  pub low-no : (not apart && x && y && ltb level had) ≡ false → had ≡ lowWith had apart o
   unfolding lowWith
   low-no h =
-      let g = rw e at h in
+      let g = rw (d, e, f) at h in
       rw g
 
-  pub high-yes : (not apart && x && not (eqb (o .side) 1) && ltb had (o .level + 1)) ≡ true → o .level + 1 ≡ highWith had apart o
+  pub high-yes : (not apart && x && not y && ltb had (level + 1)) ≡ true → level + 1 ≡ highWith had apart o
   unfolding highWith
   high-yes h =
-      let g = rw e at h in
-      rw g
+      let g = rw (d, e, f) at h in
+      rw (d, g)
 
-  pub high-no : (not apart && x && not (eqb (o .side) 1) && ltb had (o .level + 1)) ≡ false → had ≡ highWith had apart o
+  pub high-no : (not apart && x && not y && ltb had (level + 1)) ≡ false → had ≡ highWith had apart o
   unfolding highWith
   high-no h =
-      let g = rw e at h in
+      let g = rw (d, e, f) at h in
       rw g
 
 module _ (had : ℕ) (x y : Bool) (o r : Order) (e : x ≡ isOpen r) (f : y ≡ opposite o r) where
@@ -92,16 +92,16 @@ pub scanned-none : {t : List ℕ} {w n : ℕ} → Scanned t w n 4294967296 0 0
 unfolding lowBuy highSell
 scanned-none = record { within = zero-le; low-is = refl; high-is = refl; low-small = omega arith; high-small = omega arith }
 
-pub scanned-more : {t : List ℕ} {w n low high k : ℕ} (o : Order) (x y : ℕ) → Scanned t w n low high k → n ≡ filled t → k < n → o ≡ orderAt t (k + 1)
-    → (x ≡ lowWith low (eqb (k + 1) w) o) × (x < 4294967297) → (y ≡ highWith high (eqb (k + 1) w) o) × (y < 4294967297)
-    → Scanned t w n x y (k + 1)
+pub scanned-more : {t : List ℕ} {w n low high k : ℕ} (x y : ℕ) → Scanned t w n low high k → n ≡ filled t → k < n
+    → (x ≡ lowWith low (eqb (k + 1) w) (orderAt t (k + 1))) × (x < 4294967297)
+    → (y ≡ highWith high (eqb (k + 1) w) (orderAt t (k + 1))) × (y < 4294967297) → Scanned t w n x y (k + 1)
 unfolding lowBuy highSell
-scanned-more {t} {w} {n} {low} {high} {k} o x y s e l f p q =
-    let g : o ≡ at (bookOf t) (suc k) = f ∙ sym (at-record t n k e l) in
+scanned-more {t} {w} {n} {low} {high} {k} x y s e l p q =
+    let g : orderAt t (k + 1) ≡ at (bookOf t) (suc k) = sym (at-record t n k e l) in
     record {
       within = omega arith;
-      low-is = p .0 ∙ rw (add-one k, g, s .low-is);
-      high-is = q .0 ∙ rw (add-one k, g, s .high-is);
+      low-is = p .0 ∙ rw (g, add-one k, s .low-is);
+      high-is = q .0 ∙ rw (g, add-one k, s .high-is);
       low-small = p .1;
       high-small = q .1;
     }

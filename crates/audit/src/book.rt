@@ -3,7 +3,7 @@ ghost use mathlib.Core.Path.{_≡_};
 ghost use mathlib.Core.Bool.{cond};
 ghost use Prim.Native.Nat.{_+_, _≤_, _<_};
 ghost use lib.ListN.{length};
-ghost use Rattle.matching.specs.Matching.{countOf, opposed};
+ghost use Rattle.matching.specs.Matching.{countOf, isBuy, isOpen, opposed};
 ghost use Rattle.table.specs.Places.{tableBytes};
 ghost use Rattle.table.specs.Orders.{orderAt, filled, bookOf};
 ghost use Rattle.audit.specs.Widths.{Narrow};
@@ -48,25 +48,56 @@ fn no_ioc(t: &[u8], n: usize, w: usize) -> bool
     true
 }
 
-// The lowest open buy level so far, with order o unless it is set apart.
-fn low_with(low: u64, apart: bool, o: Order) -> u64
-    requires { ⌜ (low < 4294967297) × Narrow o ⌝ }
-    ensures { λ r. ⌜ (r ≡ lowWith low apart o) × (r < 4294967297) ⌝ }
+// Whether record i is open, by the numbers that say it.
+fn open_at(t: &[u8], i: usize) -> bool
+    requires { ⌜ (length (now t) ≡ tableBytes) × (i < 256) ⌝ }
+    ensures { λ r. ⌜ r ≡ isOpen (orderAt (now (t .entry)) i) ⌝ }
 {
-    if !apart & has_open(o) & (o.side == 1) & (o.level < low) {
-        o.level
+    let b = 128 * i;
+    let executed = octets::le_at(t, b + 72, 4);
+    let decremented = octets::le_at(t, b + 76, 4);
+    let canceled = octets::le_at(t, b + 80, 4);
+    let qty = octets::le_at(t, b + 52, 4);
+    executed + decremented + canceled < qty
+}
+
+// Whether record i is a buy.
+fn buys_at(t: &[u8], i: usize) -> bool
+    requires { ⌜ (length (now t) ≡ tableBytes) × (i < 256) ⌝ }
+    ensures { λ r. ⌜ r ≡ isBuy (orderAt (now (t .entry)) i) ⌝ }
+{
+    octets::wide(t[128 * i + 44]) == 1
+}
+
+// The level of record i.
+fn level_at(t: &[u8], i: usize) -> u64
+    requires { ⌜ (length (now t) ≡ tableBytes) × (i < 256) ⌝ }
+    ensures { λ r. ⌜ (r ≡ orderAt (now (t .entry)) i .level) × (r < 4294967296) ⌝ }
+{
+    octets::le_at(t, 128 * i + 48, 4)
+}
+
+// The lowest open buy level so far, with record i unless it is set apart.
+fn low_with(t: &[u8], i: usize, low: u64, apart: bool) -> u64
+    requires { ⌜ (length (now t) ≡ tableBytes) × (i < 256) × (low < 4294967297) ⌝ }
+    ensures { λ r. ⌜ (r ≡ lowWith low apart (orderAt (now (t .entry)) i)) × (r < 4294967297) ⌝ }
+{
+    let level = level_at(t, i);
+    if !apart & open_at(t, i) & buys_at(t, i) & (level < low) {
+        level
     } else {
         low
     }
 }
 
-// One more than the highest open sell level so far, with order o unless it is set apart.
-fn high_with(high: u64, apart: bool, o: Order) -> u64
-    requires { ⌜ (high < 4294967297) × Narrow o ⌝ }
-    ensures { λ r. ⌜ (r ≡ highWith high apart o) × (r < 4294967297) ⌝ }
+// One more than the highest open sell level so far, with record i unless it is set apart.
+fn high_with(t: &[u8], i: usize, high: u64, apart: bool) -> u64
+    requires { ⌜ (length (now t) ≡ tableBytes) × (i < 256) × (high < 4294967297) ⌝ }
+    ensures { λ r. ⌜ (r ≡ highWith high apart (orderAt (now (t .entry)) i)) × (r < 4294967297) ⌝ }
 {
-    if !apart & has_open(o) & !(o.side == 1) & (high < o.level + 1) {
-        o.level + 1
+    let level = level_at(t, i);
+    if !apart & open_at(t, i) & !buys_at(t, i) & (high < level + 1) {
+        level + 1
     } else {
         high
     }
@@ -81,9 +112,8 @@ fn no_cross(t: &[u8], n: usize, w: usize) -> bool
     let mut high: u64 = 0;
     let mut k = 0;
     while k < n {
-        let o = load(t, k + 1);
-        low = low_with(low, k + 1 == w, o);
-        high = high_with(high, k + 1 == w, o);
+        low = low_with(t, k + 1, low, k + 1 == w);
+        high = high_with(t, k + 1, high, k + 1 == w);
         k += 1;
     }
     high <= low

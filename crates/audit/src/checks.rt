@@ -4,6 +4,7 @@ ghost use mathlib.Core.Bool.{not, _&&_};
 ghost use Prim.Native.Nat.{_+_, _-_, _≤_, _<_};
 ghost use lib.Dec.{eqb, leb};
 ghost use lib.ListN.{length};
+ghost use Rattle.octets.specs.Octets.{allZero, partAt};
 ghost use Rattle.octets.specs.Tests.{allUpTo};
 ghost use Rattle.table.specs.Places.{tableBytes};
 ghost use Rattle.table.specs.Heading.{mpidAt, entries};
@@ -50,6 +51,25 @@ pub fn is_text(t: &[u8], p: usize, least: usize, room: usize, low: u8, high: u8)
     }
     let q = p + 1 + n;
     all_within(octets::text_at(t, p), low, high) & octets::all_zero(octets::part_at(t, q, room - n))
+}
+
+// Whether the n bytes from place p on are zero, as one number.
+pub fn zeros_at(t: &[u8], p: usize, n: usize) -> bool
+    requires { ⌜ (p + n ≤ length (now t)) × (n ≤ 8) ⌝ }
+    ensures { λ r. ⌜ r ≡ allZero (partAt (now (t .entry)) p n) ⌝ }
+{
+    octets::le_at(t, p, n) == 0
+}
+
+// The sum of the four numbers of four bytes from place p on: it is 0 exactly if all the bytes are.
+pub fn sum_of_four(t: &[u8], p: usize) -> u64
+    requires { ⌜ p + 16 ≤ length (now t) ⌝ }
+    ensures { λ r. ⌜ (eqb r 0 ≡ allZero (partAt (now (t .entry)) p 16)) × (r < 17179869184) ⌝ }
+{
+    octets::le_at(t, p, 4)
+        + octets::le_at(t, p + 4, 4)
+        + octets::le_at(t, p + 8, 4)
+        + octets::le_at(t, p + 12, 4)
 }
 
 // Whether venue, port and code are such.

@@ -5,8 +5,14 @@ use borrow.Author.Needs.{needs}
 use Rattle.audit.proofs.book.high_with.Statement.{statement}
 use Rattle.audit.proofs.book.high_with.Tie as tie
 
-has-open-requires : tie.Need-has-open-requires
-has-open-requires c κs = search needs
+level-at-requires : tie.Need-level-at-requires
+level-at-requires c κs = search needs
+
+open-at-requires : tie.Need-open-at-requires
+open-at-requires c κs = search needs
+
+buys-at-requires : tie.Need-buys-at-requires
+buys-at-requires c κs = search needs
 
 add-if1 : tie.Need-add-if1
 add-if1 c = search needs
@@ -15,10 +21,19 @@ add-result : tie.Need-add-result
 add-result c = search needs
 
 returns : tie.Need-returns
-returns c = (high-yes _ _ _ _ (c .before .before .before .before .has-open .ensures) (c .before .if1 .taken), omega arith)
+returns c = (search (needs, high-yes), omega arith)
 
 returns-2 : tie.Need-returns-2
-returns-2 c = (high-no _ _ _ _ (c .before .before .before .has-open .ensures) (c .if1 .left), omega arith)
+returns-2 c = (search (needs, high-no), omega arith)
 
 pub high-with-spec : {M : Type 1} → statement M
-high-with-spec = tie.close (tie.spec has-open-requires add-if1 add-result returns returns-2)
+high-with-spec =
+    tie.close
+    (tie.spec
+    level-at-requires
+    open-at-requires
+    buys-at-requires
+    add-if1
+    add-result
+    returns
+    returns-2)

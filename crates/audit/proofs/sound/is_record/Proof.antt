@@ -16,20 +16,17 @@ classification-requires c κs = search needs
 is-text-requires : tie.Need-is-text-requires
 is-text-requires c κs = search needs
 
-add-is-text : tie.Need-add-is-text
-add-is-text c = search needs
+add-is-account : tie.Need-add-is-account
+add-is-account c = search needs
 
-is-text-requires-2 : tie.Need-is-text-requires-2
-is-text-requires-2 c κs = search needs
+is-account-requires : tie.Need-is-account-requires
+is-account-requires c κs = search needs
 
-add-part-at : tie.Need-add-part-at
-add-part-at c = search needs
+add-is-unused : tie.Need-add-is-unused
+add-is-unused c = search needs
 
-part-at-requires : tie.Need-part-at-requires
-part-at-requires c κs = search needs
-
-all-zero-requires : tie.Need-all-zero-requires
-all-zero-requires c κs = search needs
+is-unused-requires : tie.Need-is-unused-requires
+is-unused-requires c κs = search needs
 
 returns : tie.Need-returns
 unfolding isRecord isCapacity isClass
@@ -43,9 +40,8 @@ is-record-spec =
     capacity-requires
     classification-requires
     is-text-requires
-    add-is-text
-    is-text-requires-2
-    add-part-at
-    part-at-requires
-    all-zero-requires
+    add-is-account
+    is-account-requires
+    add-is-unused
+    is-unused-requires
     returns)
