@@ -1,0 +1,103 @@
+# For the commands ./book and ./rehearse: proves and builds what they need. Says on standard error what it is doing meanwhile, and does
+# nothing where nothing has changed since it was last done. Sourced by bash, in the tree's folder.
+
+command -v rt >/dev/null || { echo "the Rattle kit is needed: there is no command rt" >&2; exit 1; }
+
+# crates_below NAME: this crate and all it stands on, as crates.txt says, a line each, the lowest first.
+crates_below() {
+  awk -v name="$1" '
+    function visit(crate,    i, n, below) {
+      if (seen[crate]++ || !(crate in stands_on)) return
+      n = split(stands_on[crate], below, " ")
+      for (i = 1; i <= n; i++) visit(below[i])
+      print crate
+    }
+    { sub(/#.*/, "") }
+    /:/ { crate = $0; sub(/:.*/, "", crate); gsub(/[ \t]/, "", crate); sub(/^[^:]*:/, ""); stands_on[crate] = $0 }
+    END { visit(name) }' crates.txt
+}
+
+# content_of NAME [PATH..]: one number that tells whether anything has changed of what a build is made from: the kit, the crate and
+# those below it, and the files at the paths.
+content_of() {
+  local name=$1
+  shift
+  {
+    rt version
+    uname -m
+    cat crates.txt
+    # shellcheck disable=SC2046
+    find $(crates_below "$name" | sed 's,^,crates/,') "$@" -name must-fail -prune -o -type f -print0 | LC_ALL=C sort -z | xargs -0 sha256sum
+  } | sha256sum
+}
+
+# is_built FILE CONTENT: whether the file is as it was when it was last made, and was made from that content. mark_built notes both.
+is_built() { [ -f "$1" ] && [ "$(cat "$1.content" 2>/dev/null)" = "$(made_from "$@")" ]; }
+mark_built() { made_from "$@" >"$1.content"; }
+made_from() { echo "$(sha256sum <"$1") from $2"; }
+
+# say_progress CRATE..: how far rt is: its log of a crate is there from the start of the crate's check, and ends with the verdict.
+say_progress() {
+  local crate log proved=0 now=() words
+  for crate in "$@"; do
+    log=target/log/$crate.out
+    [ -f "$log" ] || continue
+    if grep -q "^rt: $crate proved" "$log"; then proved=$((proved + 1)); else now+=("$crate"); fi
+  done
+  words="$proved of $# crates proved${now[*]:+, proving ${now[*]}}"
+  if [ -t 2 ]; then
+    printf '\r\033[K%s, %s s so far' "$words" "$SECONDS" >&2
+  elif [ "$words" != "$said" ] || [ $((SECONDS - said_at)) -ge 30 ]; then
+    printf '%s, %s s so far\n' "$words" "$SECONDS" >&2
+    said=$words said_at=$SECONDS
+  fi
+}
+
+# watched NAME COMMAND..: runs a command that proves crate NAME and those below it, and says meanwhile how far it is. Where it
+# fails, what it said is printed, and the script ends with status 1. Interrupted, it stops the provers as well.
+watched() {
+  local name=$1 crates crate log job said='' said_at=0
+  shift
+  mapfile -t crates < <(crates_below "$name")
+  for crate in "${crates[@]}"; do rm -f "target/log/$crate.out"; done
+  log=$(mktemp)
+  SECONDS=0
+  set -m
+  "$@" </dev/null >"$log" 2>&1 &
+  job=$!
+  set +m
+  trap 'kill -- -$job 2>/dev/null; rm -f "$log"; exit 130' INT TERM
+  while kill -0 "$job" 2>/dev/null; do
+    sleep 0.5
+    [ "$SECONDS" -lt 2 ] || say_progress "${crates[@]}"
+  done
+  trap - INT TERM
+  [ ! -t 2 ] || [ "$SECONDS" -lt 2 ] || printf '\r\033[K' >&2
+  wait "$job" || { cat "$log" >&2; rm -f "$log"; exit 1; }
+  rm -f "$log"
+}
+
+# need_program NAME: target/bin/NAME is proved and built.
+need_program() {
+  local content
+  content=$(content_of "$1")
+  is_built "target/bin/$1" "$content" && return
+  watched "$1" rt check "$1"
+  mark_built "target/bin/$1" "$content"
+}
+
+# need_library NAME: target/staticlib/libNAME.a is proved and built. The crates below are proved side by side first, which
+# `rt staticlib` does one by one.
+need_library() {
+  local content file=target/staticlib/lib$1.a
+  content=$(content_of "$1")
+  is_built "$file" "$content" && return
+  watched "$1" prove_library "$1"
+  mark_built "$file" "$content"
+}
+prove_library() {
+  local below
+  mapfile -t below < <(crates_below "$1" | head -n -1)
+  rt check "${below[@]}" || return 1
+  rt staticlib "$1" >"target/log/$1.out" 2>&1 || { cat "target/log/$1.out"; return 1; }
+}

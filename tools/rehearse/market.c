@@ -1,0 +1,95 @@
+/* The calls of the market, each answer in words. */
+#include "market.h"
+
+#include <inttypes.h>
+#include <stdlib.h>
+
+#include "garbled.h"
+#include "kamurjesh.h"
+#include "meanings.h"
+#include "reports.h"
+
+static uint8_t table[KAMURJESH_TABLE_BYTES];
+static uint8_t area[65536];
+
+/* Stops with a word where the market refuses what this program never gives it. */
+static void expect_taken(const char *call, uint64_t refusal)
+{
+    if (refusal == KAMURJESH_TAKEN)
+        return;
+    fflush(stdout);
+    fprintf(stderr, "rehearse: %s was refused with %" PRIu64 "\n", call, refusal);
+    exit(1);
+}
+
+void open_market(void)
+{
+    static const uint64_t mpids[] = {10, 11, 12, 13, 14};
+    static const uint64_t modes[] = {KAMURJESH_CANCEL_NEWEST, KAMURJESH_CANCEL_NEWEST, KAMURJESH_CANCEL_NEWEST,
+                                     KAMURJESH_CANCEL_NEWEST, KAMURJESH_CANCEL_NEWEST};
+    expect_taken("Open", kamurjesh_open(table, sizeof table, (const uint8_t *)"V", 1, (const uint8_t *)"P", 1,
+                                        (const uint8_t *)"350", 3, 1, mpids, 5, modes, 5));
+}
+
+/* Run is called until it takes no step: it stops where the area has no room for what may follow. */
+static void run_to_the_end(void)
+{
+    uint64_t bytes, reports, steps;
+    do {
+        expect_taken("Run", kamurjesh_run(table, sizeof table, area, sizeof area, UINT64_MAX, &bytes, &reports, &steps));
+        print_reports((struct part){area, (size_t)bytes});
+    } while (steps > 0);
+}
+
+static void print_answer(uint64_t refusal, const struct message *message, struct part report)
+{
+    switch (refusal) {
+    case KAMURJESH_TAKEN: printf("taken"); break;
+    case KAMURJESH_NUMBERS_SPENT: printf("refused (4): the report numbers are used up"); break;
+    case KAMURJESH_GARBLED:
+        printf("garbled (5): ");
+        if (!print_garbled(message))
+            printf("the bytes have not the form of a message");
+        break;
+    case KAMURJESH_SESSION_REJECT: print_session_reject(report); break;
+    case KAMURJESH_ORDER_REJECT: print_order_reject(report); break;
+    case KAMURJESH_CHANGE_REJECT: print_change_reject(report); break;
+    default: expect_taken("Submit", refusal);
+    }
+    putchar('\n');
+}
+
+void take_message(const struct message *message)
+{
+    uint64_t length;
+    uint64_t refusal = kamurjesh_submit(table, sizeof table, message->bytes, message->kept, area, sizeof area, &length);
+    struct part report = {area, (size_t)length};
+    print_answer(refusal, message, report);
+    print_reports(report);
+    run_to_the_end();
+}
+
+static void print_level(uint64_t side, int64_t yield, uint64_t total, uint64_t orders)
+{
+    int64_t size = yield < 0 ? -yield : yield;
+    printf("%" PRIu64 " %s%" PRId64 ".%03" PRId64 " %" PRIu64 " %" PRIu64 "\n", side, yield < 0 ? "-" : "", size / 1000,
+           size % 1000, total, orders);
+}
+
+static void print_side(uint64_t side)
+{
+    uint64_t found = 1, total, orders;
+    int64_t yield;
+    for (uint64_t k = 0; found; k++) {
+        expect_taken("Depth", kamurjesh_depth(table, sizeof table, side, k, &found, &yield, &total, &orders));
+        if (found)
+            print_level(side, yield, total, orders);
+    }
+}
+
+void print_depth(void)
+{
+    puts("side yield quantity orders");
+    print_side(KAMURJESH_BUY);
+    print_side(KAMURJESH_SELL);
+}

@@ -1,0 +1,16 @@
+/* The market of a rehearsal. */
+#ifndef MARKET_H
+#define MARKET_H
+
+#include "lines.h"
+
+/* Opens the market that ./book has. */
+void open_market(void);
+
+/* Takes a message to its end and prints the answer in words behind what stands in the line already, then the reports. */
+void take_message(const struct message *message);
+
+/* Prints the depth as ./book prints it. */
+void print_depth(void);
+
+#endif

@@ -1,0 +1,24 @@
+/* What the command line of `rehearse` asks for. */
+#ifndef OPTIONS_H
+#define OPTIONS_H
+
+#include <stdbool.h>
+#include <stdio.h>
+
+struct options {
+    bool help;
+    const char *file; /* NULL, or -, for standard input */
+    FILE *input;
+};
+
+/* The values are also the exit status of ask.c. */
+enum asked { ASKED_TO_REHEARSE = 0, ASKED_FOR_HELP = 1, ASKED_BADLY = 2 };
+
+/* Reads the words of the command line and opens the input. Help is printed where it is asked for; where the words mean nothing or
+ * the file cannot be opened, one line on standard error says why. */
+enum asked ask(struct options *options, int count, char **words);
+
+/* One line on standard error: what went wrong with the input, as errno has it. */
+void complain_of_input(const struct options *options);
+
+#endif

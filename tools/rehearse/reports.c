@@ -1,0 +1,71 @@
+/* Takes reports apart and prints them. */
+#include "reports.h"
+
+#include <stdio.h>
+#include <string.h>
+
+#include "kamurjesh.h"
+#include "lines.h"
+#include "meanings.h"
+
+struct part value_of(struct part report, uint64_t tag)
+{
+    uint64_t start, length;
+    struct part value = {report.bytes, 0};
+    if (kamurjesh_field(report.bytes, report.length, tag, &start, &length)) {
+        value.bytes += start;
+        value.length = (size_t)length;
+    }
+    return value;
+}
+
+bool part_is(struct part part, const char *text)
+{
+    return part.length == strlen(text) && memcmp(part.bytes, text, part.length) == 0;
+}
+
+void print_part(struct part part)
+{
+    for (size_t i = 0; i < part.length; i++)
+        putchar(part.bytes[i] == SOH ? '|' : part.bytes[i]);
+}
+
+/* The first report of some: 9 counts the bytes behind its own SOH, and 10 has seven more. */
+static struct part first_of(struct part reports)
+{
+    struct part digits = value_of(reports, 9);
+    size_t body = 0;
+    for (size_t i = 0; i < digits.length; i++)
+        body = 10 * body + (size_t)(digits.bytes[i] - '0');
+    size_t front = (size_t)(digits.bytes - reports.bytes) + digits.length + 1;
+    return (struct part){reports.bytes, front + body + 7};
+}
+
+/* Which order, and what has become of it; of the two rejects that are no execution reports, that they are rejects. */
+static void print_words(struct part report)
+{
+    struct part happened = value_of(report, 150), reason = value_of(report, 378), order = value_of(report, 37);
+    if (happened.length == 0 || part_is(order, "NONE")) {
+        printf("reject");
+        return;
+    }
+    printf("order ");
+    print_part(order);
+    printf(", %s", meaning_of(order_statuses, happened));
+    if (reason.length > 0)
+        printf(", %s", meaning_of(restatements, reason));
+}
+
+void print_reports(struct part reports)
+{
+    while (reports.length > 0) {
+        struct part report = first_of(reports);
+        printf("  ");
+        print_words(report);
+        printf(": ");
+        print_part(report);
+        putchar('\n');
+        reports.bytes += report.length;
+        reports.length -= report.length;
+    }
+}

@@ -1,0 +1,24 @@
+/* The reports that the market writes, one by one. */
+#ifndef REPORTS_H
+#define REPORTS_H
+
+#include <stdbool.h>
+#include <stddef.h>
+#include <stdint.h>
+
+/* Some bytes of a report or a message. */
+struct part {
+    const uint8_t *bytes;
+    size_t length;
+};
+
+/* The value of a tag; empty where there is none. */
+struct part value_of(struct part report, uint64_t tag);
+
+bool part_is(struct part part, const char *text);
+void print_part(struct part part);
+
+/* Prints each of the reports that stand one behind the other: a line with a few words, a colon, and its bytes with | for SOH. */
+void print_reports(struct part reports);
+
+#endif
