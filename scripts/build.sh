@@ -1,4 +1,4 @@
-# For the commands ./book and ./rehearse: proves and builds what they need. Says on standard error what it is doing meanwhile, and does
+# For ./book, ./rehearse, the tests and bench/run: proves and builds what they need. Says on standard error what it is doing meanwhile, and does
 # nothing where nothing has changed since it was last done. Sourced by bash, in the tree's folder.
 
 command -v rt >/dev/null || { echo "the Rattle kit is needed: there is no command rt" >&2; exit 1; }
