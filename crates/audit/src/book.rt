@@ -12,6 +12,7 @@ ghost use Rattle.audit.specs.Checking.{lowWith, highWith};
 use crate::marks::has_places;
 use crate::sound::has_open;
 use matching::Order;
+use table::places;
 use table::record::load;
 
 // Whether an order is no open IOC.
@@ -27,7 +28,7 @@ fn is_done_at(t: &[u8], i: usize) -> bool
     requires { ⌜ (length (now t) ≡ tableBytes) × (i < 256) ⌝ }
     ensures { λ r. ⌜ r ≡ isDone (orderAt (now (t .entry)) i) ⌝ }
 {
-    if t[128 * i + 45] != 3 {
+    if t[places::RECORD * i + places::TIF] != 3 {
         return true;
     }
     is_done(load(t, i))
@@ -53,11 +54,11 @@ fn open_at(t: &[u8], i: usize) -> bool
     requires { ⌜ (length (now t) ≡ tableBytes) × (i < 256) ⌝ }
     ensures { λ r. ⌜ r ≡ isOpen (orderAt (now (t .entry)) i) ⌝ }
 {
-    let b = 128 * i;
-    let executed = octets::le_at(t, b + 72, 4);
-    let decremented = octets::le_at(t, b + 76, 4);
-    let canceled = octets::le_at(t, b + 80, 4);
-    let qty = octets::le_at(t, b + 52, 4);
+    let b = places::RECORD * i;
+    let executed = octets::le_at(t, b + places::EXECUTED, 4);
+    let decremented = octets::le_at(t, b + places::DECREMENTED, 4);
+    let canceled = octets::le_at(t, b + places::CANCELED, 4);
+    let qty = octets::le_at(t, b + places::QTY, 4);
     executed + decremented + canceled < qty
 }
 
@@ -66,7 +67,7 @@ fn buys_at(t: &[u8], i: usize) -> bool
     requires { ⌜ (length (now t) ≡ tableBytes) × (i < 256) ⌝ }
     ensures { λ r. ⌜ r ≡ isBuy (orderAt (now (t .entry)) i) ⌝ }
 {
-    octets::wide(t[128 * i + 44]) == 1
+    octets::wide(t[places::RECORD * i + places::SIDE]) == 1
 }
 
 // The level of record i.
@@ -74,7 +75,7 @@ fn level_at(t: &[u8], i: usize) -> u64
     requires { ⌜ (length (now t) ≡ tableBytes) × (i < 256) ⌝ }
     ensures { λ r. ⌜ (r ≡ orderAt (now (t .entry)) i .level) × (r < 4294967296) ⌝ }
 {
-    octets::le_at(t, 128 * i + 48, 4)
+    octets::le_at(t, places::RECORD * i + places::LEVEL, 4)
 }
 
 // The lowest open buy level so far, with record i unless it is set apart.

@@ -7,6 +7,7 @@ ghost use Rattle.table.specs.Places.{tableBytes};
 ghost use Rattle.table.specs.Orders.{filled, bookOf, orderAt};
 ghost use Rattle.table.specs.Market.{isFreshId, hasIds, isFreshPlace, hasPlaces};
 ghost use Rattle.audit.specs.Checking.{keyOf};
+use table::places;
 use table::record::clordid;
 
 // The key of a ClOrdID.
@@ -67,7 +68,7 @@ pub fn place(t: &[u8], i: usize) -> u64
     requires { ⌜ (length (now t) ≡ tableBytes) × (i < 256) ⌝ }
     ensures { λ r. ⌜ (r ≡ orderAt (now (t .entry)) i .place) × (r < 4294967296) ⌝ }
 {
-    octets::le_at(t, 128 * i + 56, 4)
+    octets::le_at(t, places::RECORD * i + places::PLACE, 4)
 }
 
 // Whether the place of record j + 1 is that of no record before it; n records are filled.

@@ -17,6 +17,7 @@ use crate::checks::sum_of_four;
 use crate::checks::zeros_at;
 use matching::Order;
 use table::entries::is_listed;
+use table::places;
 use table::record::capacity;
 use table::record::classification;
 
@@ -28,7 +29,7 @@ fn is_account(t: &[u8], p: usize) -> bool
     if octets::wide(t[p]) == 0 {
         return zeros_at(t, p + 1, 4) & zeros_at(t, p + 5, 4) & zeros_at(t, p + 9, 2);
     }
-    is_text(t, p, 0, 10, 32, 126)
+    is_text(t, p, 0, places::ACCOUNT_ROOM, 32, 126)
 }
 
 // Whether the 44 bytes of a record that nothing uses, from place p on, are zero: the sum of their eleven numbers is.
@@ -48,14 +49,14 @@ fn is_record(t: &[u8], i: usize) -> bool
     requires { ⌜ (length (now t) ≡ tableBytes) × (i < 256) ⌝ }
     ensures { λ r. ⌜ r ≡ isRecord (now (t .entry)) i ⌝ }
 {
-    let b = 128 * i;
+    let b = places::RECORD * i;
     let capacity = capacity(t, i);
     let class = classification(t, i);
-    is_text(t, b, 1, 32, 32, 126)
-        & is_account(t, b + 33)
+    is_text(t, b, 1, places::CL_ORD_ID_ROOM, 32, 126)
+        & is_account(t, b + places::ACCOUNT)
         & ((capacity == 65) | (capacity == 80))
         & ((class == 1) | ((3 <= class) & (class <= 6)))
-        & is_unused(t, b + 84)
+        & is_unused(t, b + places::RECORD_END)
 }
 
 // Whether each number of an order is in its range.
@@ -127,8 +128,8 @@ fn sum_at(t: &[u8], i: usize) -> u64
     requires { ⌜ (length (now t) ≡ tableBytes) × (i < 256) ⌝ }
     ensures { λ r. ⌜ r ≡ orderAt (now (t .entry)) i .sum ⌝ }
 {
-    let low = octets::le_at(t, 128 * i + 64, 4);
-    let high = octets::le_at(t, 128 * i + 68, 4);
+    let low = octets::le_at(t, places::RECORD * i + places::SUM, 4);
+    let high = octets::le_at(t, places::RECORD * i + places::SUM_HIGH, 4);
     low + 4294967296 * high
 }
 
@@ -137,18 +138,18 @@ fn order_at(t: &[u8], i: usize) -> Order
     requires { ⌜ (length (now t) ≡ tableBytes) × (i < 256) ⌝ }
     ensures { λ r. ⌜ r ≡ orderAt (now (t .entry)) i ⌝ }
 {
-    let b = 128 * i;
+    let b = places::RECORD * i;
     Order {
-        side: octets::wide(t[b + 44]),
-        tif: octets::wide(t[b + 45]),
-        level: octets::le_at(t, b + 48, 4),
-        qty: octets::le_at(t, b + 52, 4),
-        executed: octets::le_at(t, b + 72, 4),
-        decremented: octets::le_at(t, b + 76, 4),
-        canceled: octets::le_at(t, b + 80, 4),
+        side: octets::wide(t[b + places::SIDE]),
+        tif: octets::wide(t[b + places::TIF]),
+        level: octets::le_at(t, b + places::LEVEL, 4),
+        qty: octets::le_at(t, b + places::QTY, 4),
+        executed: octets::le_at(t, b + places::EXECUTED, 4),
+        decremented: octets::le_at(t, b + places::DECREMENTED, 4),
+        canceled: octets::le_at(t, b + places::CANCELED, 4),
         sum: sum_at(t, i),
-        place: octets::le_at(t, b + 56, 4),
-        mpid: octets::le_at(t, b + 60, 4),
+        place: octets::le_at(t, b + places::PLACE, 4),
+        mpid: octets::le_at(t, b + places::MPID, 4),
     }
 }
 

@@ -6,6 +6,7 @@ ghost use lib.ListN.{length};
 ghost use Rattle.octets.specs.Octets.{put};
 ghost use Rattle.table.specs.Places.{tableBytes};
 ghost use Rattle.table.specs.Orders.{clOrdIdAt, accountAt, capacityAt, classificationAt, orderAt, termBytes, amountBytes, fieldBytes, putId, putTerms, putAmounts, accepted};
+use crate::places;
 use matching::Order;
 
 // The ClOrdID of record i.
@@ -13,7 +14,7 @@ pub fn clordid(t: &[u8], i: usize) -> &[u8]
     requires { ⌜ i < 256 ⌝ }
     ensures { λ r. ⌜ now r ≡ clOrdIdAt (now (t .entry)) i ⌝ }
 {
-    octets::text_at(t, 128 * i)
+    octets::text_at(t, places::RECORD * i)
 }
 
 // The account of record i, empty for none.
@@ -21,7 +22,7 @@ pub fn account(t: &[u8], i: usize) -> &[u8]
     requires { ⌜ i < 256 ⌝ }
     ensures { λ r. ⌜ now r ≡ accountAt (now (t .entry)) i ⌝ }
 {
-    octets::text_at(t, 128 * i + 33)
+    octets::text_at(t, places::RECORD * i + places::ACCOUNT)
 }
 
 // The capacity of record i, a character.
@@ -29,7 +30,7 @@ pub fn capacity(t: &[u8], i: usize) -> u64
     requires { ⌜ (length (now t) ≡ tableBytes) × (i < 256) ⌝ }
     ensures { λ r. ⌜ (r ≡ capacityAt (now (t .entry)) i) × (r < 256) ⌝ }
 {
-    octets::wide(t[128 * i + 46])
+    octets::wide(t[places::RECORD * i + places::CAPACITY])
 }
 
 // The classification of record i, a number.
@@ -37,7 +38,7 @@ pub fn classification(t: &[u8], i: usize) -> u64
     requires { ⌜ (length (now t) ≡ tableBytes) × (i < 256) ⌝ }
     ensures { λ r. ⌜ (r ≡ classificationAt (now (t .entry)) i) × (r < 256) ⌝ }
 {
-    octets::wide(t[128 * i + 47])
+    octets::wide(t[places::RECORD * i + places::CLASS])
 }
 
 // Record i as an order.
@@ -45,18 +46,18 @@ pub fn load(t: &[u8], i: usize) -> Order
     requires { ⌜ (length (now t) ≡ tableBytes) × (i < 256) ⌝ }
     ensures { λ r. ⌜ r ≡ orderAt (now (t .entry)) i ⌝ }
 {
-    let b = 128 * i;
+    let b = places::RECORD * i;
     Order {
-        side: octets::wide(t[b + 44]),
-        tif: octets::wide(t[b + 45]),
-        level: octets::le_at(t, b + 48, 4),
-        qty: octets::le_at(t, b + 52, 4),
-        executed: octets::le_at(t, b + 72, 4),
-        decremented: octets::le_at(t, b + 76, 4),
-        canceled: octets::le_at(t, b + 80, 4),
-        sum: octets::le_at(t, b + 64, 8),
-        place: octets::le_at(t, b + 56, 4),
-        mpid: octets::le_at(t, b + 60, 4),
+        side: octets::wide(t[b + places::SIDE]),
+        tif: octets::wide(t[b + places::TIF]),
+        level: octets::le_at(t, b + places::LEVEL, 4),
+        qty: octets::le_at(t, b + places::QTY, 4),
+        executed: octets::le_at(t, b + places::EXECUTED, 4),
+        decremented: octets::le_at(t, b + places::DECREMENTED, 4),
+        canceled: octets::le_at(t, b + places::CANCELED, 4),
+        sum: octets::le_at(t, b + places::SUM, 8),
+        place: octets::le_at(t, b + places::PLACE, 4),
+        mpid: octets::le_at(t, b + places::MPID, 4),
     }
 }
 
@@ -108,7 +109,7 @@ pub fn put_id(t: &mut [u8], i: usize, clordid: &[u8])
     requires { ⌜ (length (now t) ≡ tableBytes) × (i < 256) × (length (now clordid) ≤ 32) ⌝ }
     ensures { λ _. ⌜ now (t .exit) ≡ putId (now (t .entry)) i (now (clordid .entry)) ⌝ }
 {
-    octets::put_text(t, 128 * i, 32, clordid);
+    octets::put_text(t, places::RECORD * i, places::CL_ORD_ID_ROOM, clordid);
 }
 
 // Sets the terms of record i: level, OrderQty, place.
@@ -116,7 +117,7 @@ pub fn put_terms(t: &mut [u8], i: usize, o: Order)
     requires { ⌜ (length (now t) ≡ tableBytes) × (i < 256) ⌝ }
     ensures { λ _. ⌜ now (t .exit) ≡ putTerms (now (t .entry)) i o ⌝ }
 {
-    write_terms(t, 128 * i + 48, o);
+    write_terms(t, places::RECORD * i + places::LEVEL, o);
 }
 
 // Sets the amounts of record i: sum, executed, decremented, canceled.
@@ -124,7 +125,7 @@ pub fn put_amounts(t: &mut [u8], i: usize, o: Order)
     requires { ⌜ (length (now t) ≡ tableBytes) × (i < 256) ⌝ }
     ensures { λ _. ⌜ now (t .exit) ≡ putAmounts (now (t .entry)) i o ⌝ }
 {
-    write_amounts(t, 128 * i + 64, o);
+    write_amounts(t, places::RECORD * i + places::SUM, o);
 }
 
 // Writes a new order as record i.
@@ -140,7 +141,12 @@ pub fn accept(
     requires { ⌜ (length (now t) ≡ tableBytes) × (i < 256) × (length (now clordid) ≤ 32) × (length (now account) ≤ 10) × (o .side < 256) × (o .tif < 256) ⌝ }
     ensures { λ _. ⌜ now (t .exit) ≡ accepted (now (t .entry)) i (now (clordid .entry)) (now (account .entry)) capacity class o ⌝ }
 {
-    octets::put_text(t, 128 * i, 32, clordid);
-    octets::put_text(t, 128 * i + 33, 10, account);
-    write_fields(t, 128 * i + 44, capacity, class, o);
+    octets::put_text(t, places::RECORD * i, places::CL_ORD_ID_ROOM, clordid);
+    octets::put_text(
+        t,
+        places::RECORD * i + places::ACCOUNT,
+        places::ACCOUNT_ROOM,
+        account,
+    );
+    write_fields(t, places::RECORD * i + places::SIDE, capacity, class, o);
 }
