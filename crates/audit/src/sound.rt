@@ -9,7 +9,7 @@ ghost use Rattle.octets.specs.Tests.{allUpTo};
 ghost use Rattle.matching.specs.Matching.{isOpen};
 ghost use Rattle.table.specs.Places.{tableBytes};
 ghost use Rattle.table.specs.Heading.{entries};
-ghost use Rattle.table.specs.Orders.{filled, orderAt};
+ghost use Rattle.table.specs.Orders.{filled};
 ghost use Rattle.audit.specs.Widths.{Narrow};
 ghost use Rattle.table.specs.Market.{isText, isRecord, isRanged, isKnown, isWithin, isShut, isPriced, isOrder, hasOrders};
 use crate::checks::is_text;
@@ -20,6 +20,7 @@ use table::entries::is_listed;
 use table::places;
 use table::record::capacity;
 use table::record::classification;
+use table::record::load;
 
 // Whether an account or none stands at place p. Most orders have none, and then all its room is zeros.
 fn is_account(t: &[u8], p: usize) -> bool
@@ -123,42 +124,12 @@ fn is_priced(o: Order) -> bool
     (o.executed <= o.sum) & (o.sum <= o.executed * 1999999999)
 }
 
-// The sum of record i, by its two halves.
-fn sum_at(t: &[u8], i: usize) -> u64
-    requires { ⌜ (length (now t) ≡ tableBytes) × (i < 256) ⌝ }
-    ensures { λ r. ⌜ r ≡ orderAt (now (t .entry)) i .sum ⌝ }
-{
-    let low = octets::le_at(t, places::RECORD * i + places::SUM, 4);
-    let high = octets::le_at(t, places::RECORD * i + places::SUM_HIGH, 4);
-    low + 4294967296 * high
-}
-
-// Record i as an order: what table's load gives, but read in place where it is tested.
-fn order_at(t: &[u8], i: usize) -> Order
-    requires { ⌜ (length (now t) ≡ tableBytes) × (i < 256) ⌝ }
-    ensures { λ r. ⌜ r ≡ orderAt (now (t .entry)) i ⌝ }
-{
-    let b = places::RECORD * i;
-    Order {
-        side: octets::wide(t[b + places::SIDE]),
-        tif: octets::wide(t[b + places::TIF]),
-        level: octets::le_at(t, b + places::LEVEL, 4),
-        qty: octets::le_at(t, b + places::QTY, 4),
-        executed: octets::le_at(t, b + places::EXECUTED, 4),
-        decremented: octets::le_at(t, b + places::DECREMENTED, 4),
-        canceled: octets::le_at(t, b + places::CANCELED, 4),
-        sum: sum_at(t, i),
-        place: octets::le_at(t, b + places::PLACE, 4),
-        mpid: octets::le_at(t, b + places::MPID, 4),
-    }
-}
-
 // Whether record i is an order; n is the number of MPIDs.
 fn is_order(t: &[u8], n: usize, i: usize) -> bool
     requires { ⌜ (length (now t) ≡ tableBytes) × (n ≡ entries (now t)) × (n ≤ 8) × (i < 256) ⌝ }
     ensures { λ r. ⌜ r ≡ isOrder (now (t .entry)) i ⌝ }
 {
-    let o = order_at(t, i);
+    let o = load(t, i);
     is_record(t, i)
         & is_ranged(o)
         & is_known(t, n, o.mpid)

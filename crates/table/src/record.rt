@@ -3,7 +3,8 @@ ghost use mathlib.Core.Path.{_≡_};
 ghost use Prim.Native.Nat.{_+_, _*_, _≤_, _<_};
 ghost use mathlib.Core.List.{[], _∷_};
 ghost use lib.ListN.{length};
-ghost use Rattle.octets.specs.Octets.{put};
+ghost use Rattle.octets.specs.Octets.{leAt, put};
+ghost use Rattle.matching.specs.Matching.{isOpen, isBuy};
 ghost use Rattle.table.specs.Places.{tableBytes};
 ghost use Rattle.table.specs.Orders.{clOrdIdAt, accountAt, capacityAt, classificationAt, orderAt, termBytes, amountBytes, fieldBytes, putId, putTerms, putAmounts, accepted};
 use crate::places;
@@ -41,7 +42,30 @@ pub fn classification(t: &[u8], i: usize) -> u64
     octets::wide(t[places::RECORD * i + places::CLASS])
 }
 
-// Record i as an order.
+// The number whose four bytes start at place p. The four are added up with no loop between them, so that the compiler reads them as one.
+pub fn four_at(t: &[u8], p: usize) -> u64
+    requires { ⌜ p + 4 ≤ length (now t) ⌝ }
+    ensures { λ r. ⌜ (r ≡ leAt 4 (now (t .entry)) p) × (r < 4294967296) ⌝ }
+{
+    let a = octets::wide(t[p]);
+    let b = octets::wide(t[p + 1]);
+    let c = octets::wide(t[p + 2]);
+    let d = octets::wide(t[p + 3]);
+    a + 256 * b + 65536 * c + 16777216 * d
+}
+
+// The sum of record i, by its two halves.
+fn sum_at(t: &[u8], i: usize) -> u64
+    requires { ⌜ (length (now t) ≡ tableBytes) × (i < 256) ⌝ }
+    ensures { λ r. ⌜ r ≡ orderAt (now (t .entry)) i .sum ⌝ }
+{
+    let b = places::RECORD * i;
+    let low = four_at(t, b + places::SUM);
+    let high = four_at(t, b + places::SUM_HIGH);
+    low + 4294967296 * high
+}
+
+// Record i as an order. It is small enough that the compiler takes it apart where it is used, and reads only what is looked at.
 pub fn load(t: &[u8], i: usize) -> Order
     requires { ⌜ (length (now t) ≡ tableBytes) × (i < 256) ⌝ }
     ensures { λ r. ⌜ r ≡ orderAt (now (t .entry)) i ⌝ }
@@ -50,15 +74,52 @@ pub fn load(t: &[u8], i: usize) -> Order
     Order {
         side: octets::wide(t[b + places::SIDE]),
         tif: octets::wide(t[b + places::TIF]),
-        level: octets::le_at(t, b + places::LEVEL, 4),
-        qty: octets::le_at(t, b + places::QTY, 4),
-        executed: octets::le_at(t, b + places::EXECUTED, 4),
-        decremented: octets::le_at(t, b + places::DECREMENTED, 4),
-        canceled: octets::le_at(t, b + places::CANCELED, 4),
-        sum: octets::le_at(t, b + places::SUM, 8),
-        place: octets::le_at(t, b + places::PLACE, 4),
-        mpid: octets::le_at(t, b + places::MPID, 4),
+        level: four_at(t, b + places::LEVEL),
+        qty: four_at(t, b + places::QTY),
+        executed: four_at(t, b + places::EXECUTED),
+        decremented: four_at(t, b + places::DECREMENTED),
+        canceled: four_at(t, b + places::CANCELED),
+        sum: sum_at(t, i),
+        place: four_at(t, b + places::PLACE),
+        mpid: four_at(t, b + places::MPID),
     }
+}
+
+// Whether record i is open, by the numbers that say it.
+pub fn open_at(t: &[u8], i: usize) -> bool
+    requires { ⌜ (length (now t) ≡ tableBytes) × (i < 256) ⌝ }
+    ensures { λ r. ⌜ r ≡ isOpen (orderAt (now (t .entry)) i) ⌝ }
+{
+    let b = places::RECORD * i;
+    let executed = four_at(t, b + places::EXECUTED);
+    let decremented = four_at(t, b + places::DECREMENTED);
+    let canceled = four_at(t, b + places::CANCELED);
+    let qty = four_at(t, b + places::QTY);
+    executed + decremented + canceled < qty
+}
+
+// Whether record i is a buy.
+pub fn buys_at(t: &[u8], i: usize) -> bool
+    requires { ⌜ (length (now t) ≡ tableBytes) × (i < 256) ⌝ }
+    ensures { λ r. ⌜ r ≡ isBuy (orderAt (now (t .entry)) i) ⌝ }
+{
+    octets::wide(t[places::RECORD * i + places::SIDE]) == 1
+}
+
+// The level of record i.
+pub fn level_at(t: &[u8], i: usize) -> u64
+    requires { ⌜ (length (now t) ≡ tableBytes) × (i < 256) ⌝ }
+    ensures { λ r. ⌜ (r ≡ orderAt (now (t .entry)) i .level) × (r < 4294967296) ⌝ }
+{
+    four_at(t, places::RECORD * i + places::LEVEL)
+}
+
+// The place of record i.
+pub fn place_at(t: &[u8], i: usize) -> u64
+    requires { ⌜ (length (now t) ≡ tableBytes) × (i < 256) ⌝ }
+    ensures { λ r. ⌜ (r ≡ orderAt (now (t .entry)) i .place) × (r < 4294967296) ⌝ }
+{
+    four_at(t, places::RECORD * i + places::PLACE)
 }
 
 // Writes the terms of an order from place p on.
