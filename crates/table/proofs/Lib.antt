@@ -1,4 +1,5 @@
 -- The laws of `table`, for the proofs of this crate and of those above it. Nothing here need be believed.
+pub mod Loaded
 pub mod Searches
 pub mod Same
 pub mod Stores

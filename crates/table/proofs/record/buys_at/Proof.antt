@@ -1,8 +1,8 @@
--- `audit::buys_at` meets its contract.
-use Rattle.audit.proofs.Amounts.{buy-read}
+-- `table::record::buys_at` meets its contract: the side is 1 exactly if it is a buy.
+use Rattle.table.proofs.Loaded.{buy-read}
 use borrow.Author.Needs.{needs}
-use Rattle.audit.proofs.book.buys_at.Statement.{statement}
-use Rattle.audit.proofs.book.buys_at.Tie as tie
+use Rattle.table.proofs.record.buys_at.Statement.{statement}
+use Rattle.table.proofs.record.buys_at.Tie as tie
 
 mul-wide : tie.Need-mul-wide
 mul-wide c = search needs
@@ -20,4 +20,11 @@ returns : tie.Need-returns
 returns c = search (needs, buy-read)
 
 pub buys-at-spec : {M : Type 1} → statement M
-buys-at-spec = tie.close (tie.spec mul-wide add-wide shared-slice-read-wide wide-requires returns)
+buys-at-spec =
+    tie.close
+    (tie.spec
+    mul-wide
+    add-wide
+    shared-slice-read-wide
+    wide-requires
+    returns)
