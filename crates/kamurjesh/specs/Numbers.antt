@@ -4,8 +4,8 @@ use Prim.Native.Nat.{ℕ}
 use lib.IntN.{ℤ, pos, subℕ}
 use Rattle.matching.specs.declared.Depth.{Depth}
 use Rattle.matching.specs.declared.Depth.the-variants.{Level, NoLevel}
-use Rattle.market.specs.declared.depth.DepthAnswer.{DepthAnswer}
-use Rattle.market.specs.declared.depth.DepthAnswer.the-variants.{NoMarket, InWork, BadSide, Found}
+use Rattle.market.specs.declared.DepthAnswer.{DepthAnswer}
+use Rattle.market.specs.declared.DepthAnswer.the-variants.{NoMarket, InWork, BadSide, Found}
 use Rattle.report.specs.declared.Part.{Part}
 use Rattle.report.specs.declared.Part.the-variants.{At, Nowhere}
 

@@ -33,7 +33,7 @@ use crate::numbers::submit_length;
 use crate::numbers::submit_number;
 use crate::numbers::total_of;
 use crate::numbers::yield_of;
-use market::depth::depth;
+use market::depth;
 use market::open;
 use market::read;
 use market::run;

@@ -12,7 +12,7 @@ ghost use Rattle.kamurjesh.specs.Numbers.{levelIn, hasLevel, yieldOf, is
 use calls::OpenAnswer;
 use calls::RunAnswer;
 use calls::SubmitAnswer;
-use market::depth::DepthAnswer;
+use market::DepthAnswer;
 use matching::Depth;
 use report::Kind;
 use report::Part;
