@@ -18,11 +18,6 @@ levelIn InWork = NoLevel
 levelIn BadSide = NoLevel
 levelIn (Found d) = d
 
--- whether there is one
-abbrev pub hasLevel : Depth → ℕ
-hasLevel (Level level total orders) = 1
-hasLevel NoLevel = 0
-
 -- its yield in thousandths: a level is 1,000,000,000 and the yield
 abbrev pub yieldOf : Depth → ℤ
 yieldOf (Level level total orders) = subℕ level 1_000_000_000

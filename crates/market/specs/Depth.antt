@@ -35,9 +35,9 @@ depthNumber (Found d) = 0
 
 -- its values: 1 if there is such a level, else 0; the level, its total open quantity and its number of orders, each 0 where
 -- there is none
-abbrev pub isThere : Depth → ℕ
-isThere (Level l t n) = 1
-isThere NoLevel = 0
+abbrev pub hasLevel : Depth → ℕ
+hasLevel (Level l t n) = 1
+hasLevel NoLevel = 0
 
 abbrev pub levelIs : Depth → ℕ
 levelIs (Level l t n) = l
