@@ -2,6 +2,7 @@
 pub mod Bools
 pub mod Ranges
 pub mod Places
+pub mod Searches
 pub mod Parts
 pub mod Zeros
 pub mod Runs

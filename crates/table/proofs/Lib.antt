@@ -1,5 +1,4 @@
 -- The laws of `table`, for the proofs of this crate and of those above it. Nothing here need be believed.
-pub mod Searches
 pub mod Same
 pub mod Stores
 pub mod Writes
