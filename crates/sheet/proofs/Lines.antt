@@ -25,7 +25,7 @@ use Rattle.table.specs.Orders.{filled, bookOf}
 use Rattle.table.specs.Facts.{Market}
 use Rattle.table.proofs.Same.{filled-few}
 use Rattle.table.proofs.Books.{length-book}
-use Rattle.market.proofs.Levels.{level-first, level-next, level-none}
+use Rattle.market.proofs.LevelLaws.{level-first, level-next, level-none}
 use Rattle.sheet.specs.Sheet.{space, lineEnd, figure, levelLine, lineOf, lines, sideLines}
 
 -- ---- how long a line can be

@@ -5,6 +5,7 @@ use mathlib.Core.Bool.{cond}
 use mathlib.Core.List.{List, [], _∷_}
 use Prim.Native.Nat.{ℕ}
 use lib.Dec.{eqb}
+use Rattle.octets.specs.Characters.{byte, bytes, soh}
 use Rattle.table.specs.Opened.{freshTable}
 use Rattle.calls.specs.Submit.{submitted}
 use Rattle.calls.specs.Run.{ran}
@@ -14,7 +15,7 @@ use Rattle.sheet.specs.Sheet.{lineEnd, sheetOf}
 
 -- the byte that a character of a line stands for: SOH for `|`
 abbrev pub byteFor : ℕ → ℕ
-byteFor c = cond (eqb c 124) 1 c
+byteFor c = cond (eqb c (byte "|")) soh c
 
 unfoldable pub messageOf : List ℕ → List ℕ
 messageOf [] = []
@@ -52,7 +53,7 @@ linesTaken t (l ∷ ls) = linesTaken (lineTaken t l) ls
 
 -- its market: venue V, port P, code 350, first number 1, MPIDs 10 to 14, all of mode 1
 unfoldable pub rehearsal : List ℕ
-rehearsal = freshTable (86 ∷ []) (80 ∷ []) (51 ∷ 53 ∷ 48 ∷ []) 1 (10 ∷ 11 ∷ 12 ∷ 13 ∷ 14 ∷ []) (1 ∷ 1 ∷ 1 ∷ 1 ∷ 1 ∷ [])
+rehearsal = freshTable (bytes "V") (bytes "P") (bytes "350") 1 (10 ∷ 11 ∷ 12 ∷ 13 ∷ 14 ∷ []) (1 ∷ 1 ∷ 1 ∷ 1 ∷ 1 ∷ [])
 
 unfoldable pub bookPrinted : List ℕ → List ℕ
 bookPrinted input = sheetOf (linesTaken rehearsal (linesOf input))

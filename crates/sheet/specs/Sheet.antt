@@ -6,6 +6,7 @@ use mathlib.Core.List.{List, [], _∷_, _++_}
 use Prim.Native.Nat.{ℕ, zero, suc}
 use lib.Dec.{eqb}
 use lib.ListN.{length}
+use Rattle.octets.specs.Characters.{byte, bytes}
 use Rattle.decimal.specs.Writing.{decimal, fixed}
 use Rattle.matching.specs.declared.Depth.{Depth}
 use Rattle.matching.specs.declared.Depth.the-variants.{Level, NoLevel}
@@ -16,16 +17,14 @@ use Rattle.table.specs.Orders.{bookOf}
 use Rattle.table.specs.Market.{isMarket}
 
 abbrev pub space : ℕ
-space = 32
+space = byte " "
 
 abbrev pub lineEnd : ℕ
-lineEnd = 10
+lineEnd = byte "\n"
 
--- the words `side yield quantity orders`, and a line end
+-- the words at the top, and a line end
 abbrev pub heading : List ℕ
-heading =
-    115 ∷ 105 ∷ 100 ∷ 101 ∷ 32 ∷ 121 ∷ 105 ∷ 101 ∷ 108 ∷ 100 ∷ 32 ∷ 113 ∷ 117 ∷ 97 ∷ 110 ∷ 116 ∷ 105 ∷ 116 ∷ 121 ∷ 32 ∷ 111
-    ∷ 114 ∷ 100 ∷ 101 ∷ 114 ∷ 115 ∷ 10 ∷ []
+heading = bytes "side yield quantity orders\n"
 
 -- a number, and the character behind it
 unfoldable pub figure : ℕ → ℕ → List ℕ

@@ -1,23 +1,12 @@
-// Depth: the k-th level of a side from the best, with its total open quantity and its number of orders.
+// The levels of a side of a market in which nothing is in work: the best, the next behind it, the k-th, and what stands on one.
 ghost use mathlib.Core.Path.{_≡_};
 ghost use Prim.Native.Nat.{_≤_};
 ghost use Rattle.matching.specs.Depth.{next, levelAt, total, orders, depth};
 ghost use Rattle.table.specs.Orders.{filled, bookOf};
 ghost use Rattle.table.specs.Facts.{Market};
-ghost use Rattle.market.specs.Depth.{isSide, depthAnswer};
-use audit::is_market;
 use matching::Depth;
 use table::book::filled;
-use table::heading::work;
 use table::record::load;
-
-// What Depth answers: a refusal, or the level that there is or that there is none.
-pub enum DepthAnswer {
-    NoMarket,
-    InWork,
-    BadSide,
-    Found(Depth),
-}
 
 // The total open quantity of a level, and its number of orders.
 pub struct OnLevel {
@@ -75,8 +64,8 @@ pub fn sums(t: &[u8], n: usize, side: u64, level: u64) -> OnLevel
     OnLevel { total, orders }
 }
 
-// The k-th level of a side of a market in which nothing is in work.
-fn level(t: &[u8], side: u64, k: u64) -> Depth
+// The k-th level of a side from the best, with its total open quantity and its number of orders, or that there is none.
+pub(crate) fn level(t: &[u8], side: u64, k: u64) -> Depth
     requires { ⌜ Market (now t) ⌝ }
     ensures { λ r. ⌜ r ≡ depth (bookOf (now (t .entry))) side k ⌝ }
 {
@@ -91,27 +80,4 @@ fn level(t: &[u8], side: u64, k: u64) -> Depth
         total: s.total,
         orders: s.orders,
     }
-}
-
-// Whether a side is 1, the buys, or 2, the sells.
-fn is_side(side: u64) -> bool
-    ensures { λ r. ⌜ r ≡ isSide side ⌝ }
-{
-    (side == 1) | (side == 2)
-}
-
-// The k-th level of a side from the best. Refused if the table is no market, an order is in work, or the side is none.
-pub fn depth(table: &[u8], side: u64, k: u64) -> DepthAnswer
-    ensures { λ r. ⌜ r ≡ depthAnswer (now (table .entry)) side k ⌝ }
-{
-    if !is_market(table) {
-        return DepthAnswer::NoMarket;
-    }
-    if 0 < work(table) {
-        return DepthAnswer::InWork;
-    }
-    if !is_side(side) {
-        return DepthAnswer::BadSide;
-    }
-    DepthAnswer::Found(level(table, side, k))
 }

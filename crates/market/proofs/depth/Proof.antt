@@ -1,8 +1,8 @@
--- `market::depth::depth` meets its contract: the three refusals in their order, then the level.
+-- `market::depth` meets its contract: the three refusals in their order, then the level.
 use borrow.Author.Needs.{needs}
 use Rattle.market.proofs.Answers.{checked, checked-long, depth-none, depth-busy, depth-bad, depth-found}
-use Rattle.market.proofs.depth.depth.Statement.{statement}
-use Rattle.market.proofs.depth.depth.Tie as tie
+use Rattle.market.proofs.depth.Statement.{statement}
+use Rattle.market.proofs.depth.Tie as tie
 
 is-market-requires : tie.Need-is-market-requires
 is-market-requires c κs = search needs

@@ -1,8 +1,8 @@
--- `market::depth::level` meets its contract: the level is looked for, and then what stands on it.
+-- `market::levels::level` meets its contract: the level is looked for, and then what stands on it.
 use borrow.Author.Needs.{needs}
-use Rattle.market.proofs.Levels.{depth-none, depth-level}
-use Rattle.market.proofs.depth.level.Statement.{statement}
-use Rattle.market.proofs.depth.level.Tie as tie
+use Rattle.market.proofs.LevelLaws.{depth-none, depth-level}
+use Rattle.market.proofs.levels.level.Statement.{statement}
+use Rattle.market.proofs.levels.level.Tie as tie
 
 filled-requires : tie.Need-filled-requires
 filled-requires c κs = search needs

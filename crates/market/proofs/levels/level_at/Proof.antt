@@ -1,13 +1,13 @@
--- `market::depth::level_at` meets its contract: after i turns x is level i; behind no level there is none.
+-- `market::levels::level_at` meets its contract: after i turns x is level i; behind no level there is none.
 use mathlib.Core.Path.{_≡_}
 use Prim.Native.Nat.{ℕ, _+_, _-_, _≤_, _<_}
 use native.Mathlib.Omega.{arith}
 use borrow.Author.Needs.{needs}
 use Rattle.matching.specs.Depth.{levelAt}
 use Rattle.table.specs.Orders.{bookOf}
-use Rattle.market.proofs.Levels.{level-first, level-next, level-none, level-end}
-use Rattle.market.proofs.depth.level_at.Statement.{statement}
-use Rattle.market.proofs.depth.level_at.Tie as tie
+use Rattle.market.proofs.LevelLaws.{level-first, level-next, level-none, level-end}
+use Rattle.market.proofs.levels.level_at.Statement.{statement}
+use Rattle.market.proofs.levels.level_at.Tie as tie
 
 abbrev Inv-loop : tie.InvT-loop
 Inv-loop t n side k x₀ i₀ x i = (i ≤ k) × (x ≡ levelAt (bookOf t) side i)

@@ -1,13 +1,13 @@
--- `market::depth::sums` meets its contract: after i records the sums are those of the first i.
+-- `market::levels::sums` meets its contract: after i records the sums are those of the first i.
 use mathlib.Core.Path.{_≡_}
 use Prim.Native.Nat.{ℕ, _+_, _-_, _≤_, _<_}
 use native.Mathlib.Omega.{arith}
 use borrow.Author.Needs.{needs}
 use Rattle.table.specs.Orders.{bookOf}
 use Rattle.table.proofs.Same.{filled-few}
-use Rattle.market.proofs.Levels.{Summed, loaded-sound, sums-none, sums-room, sums-yes, sums-no, sums-total, sums-orders}
-use Rattle.market.proofs.depth.sums.Statement.{statement}
-use Rattle.market.proofs.depth.sums.Tie as tie
+use Rattle.market.proofs.LevelLaws.{Summed, loaded-sound, sums-none, sums-room, sums-yes, sums-no, sums-total, sums-orders}
+use Rattle.market.proofs.levels.sums.Statement.{statement}
+use Rattle.market.proofs.levels.sums.Tie as tie
 
 abbrev Inv-loop : tie.InvT-loop
 Inv-loop t n side level total₀ orders₀ i₀ total orders i = (i ≤ n) × Summed t side level i total orders

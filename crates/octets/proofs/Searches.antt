@@ -1,13 +1,14 @@
--- General laws of the tests over a range of numbers: they depend on the test at those numbers alone, and the first number at
--- which a test holds is the one with none before it.
+-- General laws of the tests over a range of numbers: they depend on the test at those numbers alone; the first number at which a
+-- test holds is the one with none before it; a test of all numbers from 1 on holds at each of them.
 use mathlib.Core.Path.{_≡_, refl, _∙_}
 use mathlib.Core.Bool.{Bool, true, false}
-use Prim.Native.Nat.{ℕ, zero, suc, _+_, _≤_, _<_}
+use Prim.Native.Nat.{ℕ, zero, suc, _+_, _-_, _≤_, _<_}
 use native.Mathlib.Omega.{arith}
 use mathlib.Core.Logic.{⊎-elim}
 use Rattle.octets.proofs.Places.{below-or}
 use Rattle.octets.specs.Tests.{allUpTo, firstFrom}
 use Rattle.octets.proofs.Bools.{split, not-both}
+use Rattle.octets.proofs.Ranges.{all-at, all-from}
 
 pub all-ext : (f g : ℕ → Bool) (n : ℕ) → ((k : ℕ) → k < n → f k ≡ g k) → allUpTo f n ≡ allUpTo g n
 unfolding allUpTo
@@ -72,3 +73,21 @@ first-is f n k l before here =
     (λ (q : r ≤ k). omega arith)
     (below-or k r))
     (below-or r k)
+
+-- ---- all numbers from 1 to n
+
+pub upto-at : (f : ℕ → Bool) (n : ℕ) → allUpTo (λ k. f (suc k)) n ≡ true → (k : ℕ) → 1 ≤ k → k ≤ n → f k ≡ true
+upto-at f n h zero l m = absurd (omega arith)
+upto-at f n h (suc k) l m = all-at (λ j. f (suc j)) n h k m
+
+pub upto-from : (f : ℕ → Bool) (n : ℕ) → ((k : ℕ) → 1 ≤ k → k ≤ n → f k ≡ true) → allUpTo (λ k. f (suc k)) n ≡ true
+upto-from f n h = all-from (λ j. f (suc j)) n (λ k l. h (suc k) (omega arith) l)
+
+-- the same where the numbers are written k + 1
+pub record-at : (f : ℕ → Bool) (n : ℕ) → allUpTo (λ k. f (k + 1)) n ≡ true → (i : ℕ) → 1 ≤ i → i ≤ n → f i ≡ true
+record-at f n h i l m =
+    let e : i - 1 + 1 ≡ i = omega arith in
+    rw e at (all-at (λ k. f (k + 1)) n h (i - 1) (omega arith))
+
+pub record-from : (f : ℕ → Bool) (n : ℕ) → ((i : ℕ) → 1 ≤ i → i ≤ n → f i ≡ true) → allUpTo (λ k. f (k + 1)) n ≡ true
+record-from f n h = all-from (λ k. f (k + 1)) n (λ k l. h (k + 1) (omega arith) (omega arith))

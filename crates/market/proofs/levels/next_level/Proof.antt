@@ -1,4 +1,4 @@
--- `market::depth::next_level` meets its contract: after i records the candidate is the next level of the first i.
+-- `market::levels::next_level` meets its contract: after i records the candidate is the next level of the first i.
 use mathlib.Core.Path.{_≡_}
 use Prim.Native.Nat.{ℕ, _+_, _-_, _≤_, _<_}
 use native.Mathlib.Omega.{arith}
@@ -6,9 +6,9 @@ use borrow.Author.Needs.{needs}
 use Rattle.matching.specs.Depth.{next}
 use Rattle.table.specs.Orders.{bookOf}
 use Rattle.table.proofs.Same.{filled-few}
-use Rattle.market.proofs.Levels.{loaded-sound, next-none, next-one, next-end}
-use Rattle.market.proofs.depth.next_level.Statement.{statement}
-use Rattle.market.proofs.depth.next_level.Tie as tie
+use Rattle.market.proofs.LevelLaws.{loaded-sound, next-none, next-one, next-end}
+use Rattle.market.proofs.levels.next_level.Statement.{statement}
+use Rattle.market.proofs.levels.next_level.Tie as tie
 
 abbrev Inv-loop : tie.InvT-loop
 Inv-loop t n side x c₀ i₀ c i = (i ≤ n) × (c ≡ next (bookOf t) side x i)
