@@ -1,0 +1,9 @@
+-- The laws of `book`, for its proofs. Nothing here need be believed; Theorems says what holds of the program, and Order that buys are
+-- printed before sells.
+pub mod Lines
+pub mod Sheets
+pub mod Messages
+pub mod Readings
+pub mod Programs
+pub mod Theorems
+pub mod Order
