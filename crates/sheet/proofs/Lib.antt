@@ -1,9 +1,0 @@
--- The laws of `sheet`, for its proofs. Nothing here need be believed; Theorems says what holds of the program.
--- Lines: the lines of a side; Sheets: the sheet; Messages: a line as a message; Readings: the input read byte by byte;
--- Programs: the program as a whole.
-pub mod Lines
-pub mod Sheets
-pub mod Messages
-pub mod Readings
-pub mod Programs
-pub mod Theorems
