@@ -1,18 +1,17 @@
 -- What the code that checks one order comes to, in the words of Market and of matching.
-use mathlib.Core.Path.{_≡_, refl, sym, ap}
+use mathlib.Core.Path.{_≡_, sym}
 use mathlib.Core.Bool.{Bool, _&&_}
 use mathlib.Core.List.{List}
-use Prim.Native.Nat.{ℕ, suc, _+_, _*_, _-_, _<_}
+use Prim.Native.Nat.{ℕ, _+_, _*_, _-_, _<_}
 use native.Mathlib.Omega.{arith}
-use lib.Dec.{eqb, leb, ltb}
-use lib.ListN.{getD}
-use borrow.Author.Tests.{ltb-true, ltb-false, leb-true, leb-false, lt-ltb, le-ltb, eq-eqb, ne-eqb}
-use Rattle.octets.specs.Octets.{leAt, partAt, allZero, Bytes}
+use lib.Dec.{eqb, leb}
+use borrow.Author.Tests.{leb-true, leb-false, eq-eqb, ne-eqb}
+use Rattle.octets.specs.Octets.{partAt, allZero, Bytes}
 use Rattle.octets.specs.Tests.{allUpTo}
 use Rattle.octets.proofs.Bools.{split}
 use Rattle.octets.proofs.Places.{leAt-lt}
 use Rattle.matching.specs.declared.Order.{Order}
-use Rattle.matching.specs.Matching.{openOf, isOpen, isBuy}
+use Rattle.matching.specs.Matching.{openOf}
 use Rattle.table.specs.Places.{recordAt}
 use Rattle.table.specs.Heading.{nextOf, entries}
 use Rattle.table.specs.Orders.{orderAt}
@@ -41,53 +40,7 @@ narrow-load t i b e = rw e (narrow-order t i b)
 pub next-small : (t : List ℕ) {r : ℕ} → Bytes t → r ≡ nextOf t → r < 4294967296
 next-small t b e = rw e (leAt-lt 4 t 28 b)
 
--- something is open exactly if less is used than OrderQty
-pub open-used : (o : Order) → ltb (o .executed + o .decremented + o .canceled) (o .qty) ≡ isOpen o
-unfolding openOf
-open-used o =
-    let u : ℕ = o .executed + o .decremented + o .canceled in
-    split (ltb u (o .qty))
-    (λ e. rw e (sym (lt-ltb 0 (o .qty - u) (omega (arith, ltb-true)))))
-    (λ e. rw e (sym (le-ltb 0 (o .qty - u) (omega (arith, ltb-false)))))
-
--- the same of record i, by the numbers that were read
-pub open-read : (t : List ℕ) (i a b c q : ℕ) → a ≡ leAt 4 t (128 * i + 72) → b ≡ leAt 4 t (128 * i + 76) → c ≡ leAt 4 t (128 * i + 80)
-    → q ≡ leAt 4 t (128 * i + 52) → ltb (a + b + c) q ≡ isOpen (orderAt t i)
-unfolding orderAt
-open-read t i a b c q e f g h = rw (e, f, g, h) (open-used (orderAt t i))
-
-pub buy-read : (t : List ℕ) (i x : ℕ) → x ≡ getD t (128 * i + 44) 0 → eqb x 1 ≡ isBuy (orderAt t i)
-unfolding orderAt
-buy-read t i x e = rw e
-
--- the sum of record i, by the halves that were read
-leAt-first : (n : ℕ) (t : List ℕ) (p : ℕ) → leAt (suc n) t p ≡ getD t p 0 + 256 * leAt n t (p + 1)
-unfolding leAt
-leAt-first n t p = refl
-
-leAt-zero : (t : List ℕ) (p : ℕ) → leAt 0 t p ≡ 0
-unfolding leAt
-leAt-zero t p = refl
-
-leAt-halves : (t : List ℕ) (p q : ℕ) → q ≡ p + 4 → leAt 8 t p ≡ leAt 4 t p + 4294967296 * leAt 4 t q
-leAt-halves t p q e =
-    let f : p + 1 + 1 + 1 + 1 ≡ q = omega arith in
-    let g : leAt 4 t (p + 1 + 1 + 1 + 1) ≡ leAt 4 t q = ap (leAt 4 t) f in
-    let a : leAt 8 t p ≡ getD t p 0 + 256 * leAt 7 t (p + 1) = leAt-first 7 t p in
-    let b : leAt 7 t (p + 1) ≡ getD t (p + 1) 0 + 256 * leAt 6 t (p + 1 + 1) = leAt-first 6 t (p + 1) in
-    let c : leAt 6 t (p + 1 + 1) ≡ getD t (p + 1 + 1) 0 + 256 * leAt 5 t (p + 1 + 1 + 1) = leAt-first 5 t (p + 1 + 1) in
-    let d : leAt 5 t (p + 1 + 1 + 1) ≡ getD t (p + 1 + 1 + 1) 0 + 256 * leAt 4 t (p + 1 + 1 + 1 + 1) = leAt-first 4 t (p + 1 + 1 + 1) in
-    let h : leAt 4 t p ≡ getD t p 0 + 256 * leAt 3 t (p + 1) = leAt-first 3 t p in
-    let i : leAt 3 t (p + 1) ≡ getD t (p + 1) 0 + 256 * leAt 2 t (p + 1 + 1) = leAt-first 2 t (p + 1) in
-    let j : leAt 2 t (p + 1 + 1) ≡ getD t (p + 1 + 1) 0 + 256 * leAt 1 t (p + 1 + 1 + 1) = leAt-first 1 t (p + 1 + 1) in
-    let k : leAt 1 t (p + 1 + 1 + 1) ≡ getD t (p + 1 + 1 + 1) 0 + 256 * leAt 0 t (p + 1 + 1 + 1 + 1) = leAt-first 0 t (p + 1 + 1 + 1) in
-    let z : leAt 0 t (p + 1 + 1 + 1 + 1) ≡ 0 = leAt-zero t (p + 1 + 1 + 1 + 1) in
-    omega (arith, a, b, c, d, g, h, i, j, k, z)
-
-pub sum-read : (t : List ℕ) (i a b : ℕ) → a ≡ leAt 4 t (128 * i + 64) → b ≡ leAt 4 t (128 * i + 68) → a + 4294967296 * b ≡ orderAt t i .sum
-unfolding orderAt
-sum-read t i a b e f = rw (e, f) (sym (leAt-halves t (128 * i + 64) (128 * i + 68) (omega arith)))
-
+-- nothing is open exactly if no less is used than OrderQty
 pub shut-used : (o : Order) → leb (o .qty) (o .executed + o .decremented + o .canceled) ≡ eqb (openOf o) 0
 unfolding openOf
 shut-used o =

@@ -1,4 +1,6 @@
 -- The laws of `audit`. Nothing here need be believed.
+-- Checked: texts and heading; Amounts: one order; Marked: marks instead of comparing every two ClOrdIDs and places; Bounds: two
+-- levels instead of comparing every buy with every sell; Walked: the passes over the book.
 pub mod Checked
 pub mod Amounts
 pub mod Marked

@@ -3,7 +3,7 @@ ghost use mathlib.Core.Path.{_≡_};
 ghost use mathlib.Core.Bool.{cond};
 ghost use Prim.Native.Nat.{_+_, _≤_, _<_};
 ghost use lib.ListN.{length};
-ghost use Rattle.matching.specs.Matching.{countOf, isBuy, isOpen, opposed};
+ghost use Rattle.matching.specs.Matching.{countOf, opposed};
 ghost use Rattle.table.specs.Places.{tableBytes};
 ghost use Rattle.table.specs.Orders.{orderAt, filled, bookOf};
 ghost use Rattle.audit.specs.Widths.{Narrow};
@@ -12,7 +12,11 @@ ghost use Rattle.audit.specs.Checking.{lowWith, highWith};
 use crate::marks::has_places;
 use crate::sound::has_open;
 use matching::Order;
+use table::places;
+use table::record::buys_at;
+use table::record::level_at;
 use table::record::load;
+use table::record::open_at;
 
 // Whether an order is no open IOC.
 fn is_done(o: Order) -> bool
@@ -27,7 +31,7 @@ fn is_done_at(t: &[u8], i: usize) -> bool
     requires { ⌜ (length (now t) ≡ tableBytes) × (i < 256) ⌝ }
     ensures { λ r. ⌜ r ≡ isDone (orderAt (now (t .entry)) i) ⌝ }
 {
-    if t[128 * i + 45] != 3 {
+    if t[places::RECORD * i + places::TIF] != 3 {
         return true;
     }
     is_done(load(t, i))
@@ -46,35 +50,6 @@ fn no_ioc(t: &[u8], n: usize, w: usize) -> bool
         k += 1;
     }
     true
-}
-
-// Whether record i is open, by the numbers that say it.
-fn open_at(t: &[u8], i: usize) -> bool
-    requires { ⌜ (length (now t) ≡ tableBytes) × (i < 256) ⌝ }
-    ensures { λ r. ⌜ r ≡ isOpen (orderAt (now (t .entry)) i) ⌝ }
-{
-    let b = 128 * i;
-    let executed = octets::le_at(t, b + 72, 4);
-    let decremented = octets::le_at(t, b + 76, 4);
-    let canceled = octets::le_at(t, b + 80, 4);
-    let qty = octets::le_at(t, b + 52, 4);
-    executed + decremented + canceled < qty
-}
-
-// Whether record i is a buy.
-fn buys_at(t: &[u8], i: usize) -> bool
-    requires { ⌜ (length (now t) ≡ tableBytes) × (i < 256) ⌝ }
-    ensures { λ r. ⌜ r ≡ isBuy (orderAt (now (t .entry)) i) ⌝ }
-{
-    octets::wide(t[128 * i + 44]) == 1
-}
-
-// The level of record i.
-fn level_at(t: &[u8], i: usize) -> u64
-    requires { ⌜ (length (now t) ≡ tableBytes) × (i < 256) ⌝ }
-    ensures { λ r. ⌜ (r ≡ orderAt (now (t .entry)) i .level) × (r < 4294967296) ⌝ }
-{
-    octets::le_at(t, 128 * i + 48, 4)
 }
 
 // The lowest open buy level so far, with record i unless it is set apart.

@@ -15,6 +15,7 @@ use table::entries::mpid_at;
 use table::heading::next;
 use table::heading::stamp;
 use table::heading::work;
+use table::places;
 
 // Whether every byte is from low to high. There is no way out of the loop but its end, so that many bytes are taken a turn.
 pub fn all_within(s: &[u8], low: u8, high: u8) -> bool
@@ -77,7 +78,9 @@ fn has_names(t: &[u8]) -> bool
     requires { ⌜ length (now t) ≡ tableBytes ⌝ }
     ensures { λ r. ⌜ r ≡ hasNames (now (t .entry)) ⌝ }
 {
-    is_text(t, 0, 1, 8, 33, 126) & is_text(t, 9, 1, 8, 33, 126) & is_text(t, 18, 1, 9, 48, 57)
+    is_text(t, places::VENUE, 1, places::ID_ROOM, 33, 126)
+        & is_text(t, places::PORT, 1, places::ID_ROOM, 33, 126)
+        & is_text(t, places::CODE, 1, places::CODE_ROOM, 48, 57)
 }
 
 // Whether none of the entries before entry k has its MPID.
@@ -127,8 +130,8 @@ fn has_list(t: &[u8], n: usize) -> bool
 {
     (1 <= n)
         & are_entries(t, n)
-        & octets::all_zero(octets::part_at(t, 56 + 4 * n, 4 * (8 - n)))
-        & octets::all_zero(octets::part_at(t, 88 + n, 8 - n))
+        & octets::all_zero(octets::part_at(t, places::MPIDS + 4 * n, 4 * (places::MOST_MPIDS - n)))
+        & octets::all_zero(octets::part_at(t, places::MODES + n, places::MOST_MPIDS - n))
 }
 
 // Whether the settings keep the ranges of opening; n is the number of MPIDs.
@@ -155,12 +158,16 @@ pub fn has_work(t: &[u8], n: usize) -> bool
 {
     let w = work(t);
     if w == 0 {
-        return octets::all_zero(octets::part_at(t, 33, 22));
+        return octets::all_zero(octets::part_at(t, places::STAMP, places::STAMP_BYTES));
     }
-    let m = octets::wide(t[33]) as usize;
+    let m = octets::wide(t[places::STAMP]) as usize;
     (w <= n)
         & decimal::read::is_time(stamp(t))
-        & octets::all_zero(octets::part_at(t, 34 + m, room_left(21, m)))
+        & octets::all_zero(octets::part_at(
+            t,
+            places::STAMP_TEXT + m,
+            room_left(places::STAMP_ROOM, m),
+        ))
 }
 
 // Whether the bytes of the heading that nothing uses are zero.
@@ -168,5 +175,6 @@ pub fn has_spare(t: &[u8]) -> bool
     requires { ⌜ length (now t) ≡ tableBytes ⌝ }
     ensures { λ r. ⌜ r ≡ hasSpare (now (t .entry)) ⌝ }
 {
-    octets::all_zero(octets::part_at(t, 55, 1)) & octets::all_zero(octets::part_at(t, 96, 32))
+    octets::all_zero(octets::part_at(t, places::SPARE, 1))
+        & octets::all_zero(octets::part_at(t, places::HEADING_END, places::HEADING_SPARE))
 }

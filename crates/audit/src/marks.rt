@@ -4,10 +4,11 @@ ghost use mathlib.Core.Path.{_≡_};
 ghost use Prim.Native.Nat.{_+_, _≤_, _<_};
 ghost use lib.ListN.{length};
 ghost use Rattle.table.specs.Places.{tableBytes};
-ghost use Rattle.table.specs.Orders.{filled, bookOf, orderAt};
+ghost use Rattle.table.specs.Orders.{filled, bookOf};
 ghost use Rattle.table.specs.Market.{isFreshId, hasIds, isFreshPlace, hasPlaces};
 ghost use Rattle.audit.specs.Checking.{keyOf};
 use table::record::clordid;
+use table::record::place_at;
 
 // The key of a ClOrdID.
 fn key_of(s: &[u8]) -> usize
@@ -62,23 +63,15 @@ pub fn has_ids(t: &[u8], n: usize) -> bool
     true
 }
 
-// The place of record i.
-pub fn place(t: &[u8], i: usize) -> u64
-    requires { ⌜ (length (now t) ≡ tableBytes) × (i < 256) ⌝ }
-    ensures { λ r. ⌜ (r ≡ orderAt (now (t .entry)) i .place) × (r < 4294967296) ⌝ }
-{
-    octets::le_at(t, 128 * i + 56, 4)
-}
-
 // Whether the place of record j + 1 is that of no record before it; n records are filled.
 fn is_fresh_place(t: &[u8], n: usize, j: usize) -> bool
     requires { ⌜ (length (now t) ≡ tableBytes) × (n ≡ filled (now t)) × (n ≤ 255) × (j < n) ⌝ }
     ensures { λ r. ⌜ r ≡ isFreshPlace (bookOf (now (t .entry))) j ⌝ }
 {
-    let p = place(t, j + 1);
+    let p = place_at(t, j + 1);
     let mut i = 0;
     while i < j {
-        if place(t, i + 1) == p {
+        if place_at(t, i + 1) == p {
             return false;
         }
         i += 1;
@@ -94,7 +87,7 @@ pub fn has_places(t: &[u8], n: usize, next: u64) -> bool
     let mut mark = [0u8; 2048];
     let mut j = 0;
     while j < n {
-        let p = place(t, j + 1);
+        let p = place_at(t, j + 1);
         if next <= p {
             return false;
         }

@@ -9,7 +9,7 @@ ghost use Rattle.octets.specs.Tests.{allUpTo};
 ghost use Rattle.matching.specs.Matching.{isOpen};
 ghost use Rattle.table.specs.Places.{tableBytes};
 ghost use Rattle.table.specs.Heading.{entries};
-ghost use Rattle.table.specs.Orders.{filled, orderAt};
+ghost use Rattle.table.specs.Orders.{filled};
 ghost use Rattle.audit.specs.Widths.{Narrow};
 ghost use Rattle.table.specs.Market.{isText, isRecord, isRanged, isKnown, isWithin, isShut, isPriced, isOrder, hasOrders};
 use crate::checks::is_text;
@@ -17,8 +17,10 @@ use crate::checks::sum_of_four;
 use crate::checks::zeros_at;
 use matching::Order;
 use table::entries::is_listed;
+use table::places;
 use table::record::capacity;
 use table::record::classification;
+use table::record::load;
 
 // Whether an account or none stands at place p. Most orders have none, and then all its room is zeros.
 fn is_account(t: &[u8], p: usize) -> bool
@@ -28,7 +30,7 @@ fn is_account(t: &[u8], p: usize) -> bool
     if octets::wide(t[p]) == 0 {
         return zeros_at(t, p + 1, 4) & zeros_at(t, p + 5, 4) & zeros_at(t, p + 9, 2);
     }
-    is_text(t, p, 0, 10, 32, 126)
+    is_text(t, p, 0, places::ACCOUNT_ROOM, 32, 126)
 }
 
 // Whether the 44 bytes of a record that nothing uses, from place p on, are zero: the sum of their eleven numbers is.
@@ -48,14 +50,14 @@ fn is_record(t: &[u8], i: usize) -> bool
     requires { ⌜ (length (now t) ≡ tableBytes) × (i < 256) ⌝ }
     ensures { λ r. ⌜ r ≡ isRecord (now (t .entry)) i ⌝ }
 {
-    let b = 128 * i;
+    let b = places::RECORD * i;
     let capacity = capacity(t, i);
     let class = classification(t, i);
-    is_text(t, b, 1, 32, 32, 126)
-        & is_account(t, b + 33)
+    is_text(t, b, 1, places::CL_ORD_ID_ROOM, 32, 126)
+        & is_account(t, b + places::ACCOUNT)
         & ((capacity == 65) | (capacity == 80))
         & ((class == 1) | ((3 <= class) & (class <= 6)))
-        & is_unused(t, b + 84)
+        & is_unused(t, b + places::RECORD_END)
 }
 
 // Whether each number of an order is in its range.
@@ -122,42 +124,12 @@ fn is_priced(o: Order) -> bool
     (o.executed <= o.sum) & (o.sum <= o.executed * 1999999999)
 }
 
-// The sum of record i, by its two halves.
-fn sum_at(t: &[u8], i: usize) -> u64
-    requires { ⌜ (length (now t) ≡ tableBytes) × (i < 256) ⌝ }
-    ensures { λ r. ⌜ r ≡ orderAt (now (t .entry)) i .sum ⌝ }
-{
-    let low = octets::le_at(t, 128 * i + 64, 4);
-    let high = octets::le_at(t, 128 * i + 68, 4);
-    low + 4294967296 * high
-}
-
-// Record i as an order: what table's load gives, but read in place where it is tested.
-fn order_at(t: &[u8], i: usize) -> Order
-    requires { ⌜ (length (now t) ≡ tableBytes) × (i < 256) ⌝ }
-    ensures { λ r. ⌜ r ≡ orderAt (now (t .entry)) i ⌝ }
-{
-    let b = 128 * i;
-    Order {
-        side: octets::wide(t[b + 44]),
-        tif: octets::wide(t[b + 45]),
-        level: octets::le_at(t, b + 48, 4),
-        qty: octets::le_at(t, b + 52, 4),
-        executed: octets::le_at(t, b + 72, 4),
-        decremented: octets::le_at(t, b + 76, 4),
-        canceled: octets::le_at(t, b + 80, 4),
-        sum: sum_at(t, i),
-        place: octets::le_at(t, b + 56, 4),
-        mpid: octets::le_at(t, b + 60, 4),
-    }
-}
-
 // Whether record i is an order; n is the number of MPIDs.
 fn is_order(t: &[u8], n: usize, i: usize) -> bool
     requires { ⌜ (length (now t) ≡ tableBytes) × (n ≡ entries (now t)) × (n ≤ 8) × (i < 256) ⌝ }
     ensures { λ r. ⌜ r ≡ isOrder (now (t .entry)) i ⌝ }
 {
-    let o = order_at(t, i);
+    let o = load(t, i);
     is_record(t, i)
         & is_ranged(o)
         & is_known(t, n, o.mpid)

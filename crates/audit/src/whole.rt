@@ -12,12 +12,13 @@ use table::book::filled;
 use table::entries::entries;
 use table::heading::next;
 use table::heading::work;
+use table::places;
 
 // Whether these bytes are a market.
 pub fn is_market(t: &[u8]) -> bool
     ensures { λ r. ⌜ r ≡ isMarket (now (t .entry)) ⌝ }
 {
-    if t.len() != 32768 {
+    if t.len() != places::TABLE {
         return false;
     }
     let m = entries(t);
@@ -26,7 +27,7 @@ pub fn is_market(t: &[u8]) -> bool
         & has_next(t)
         & has_work(t, n)
         & has_spare(t)
-        & octets::rest_zero(t, 128 * (n + 1))
+        & octets::rest_zero(t, places::RECORD * (n + 1))
         & has_orders(t, m, n)
         & has_ids(t, n)
         & is_book(t, n, work(t), next(t))

@@ -5,6 +5,7 @@ use mathlib.Core.List.{List}
 use mathlib.Core.Bool.{Bool, cond, not, _&&_, _||_}
 use lib.ListN.{length, getD, take, drop}
 use lib.Dec.{ltb, leb, eqb}
+use Rattle.octets.specs.Characters.{byte}
 use Rattle.decimal.specs.declared.Said.{Said}
 use Rattle.decimal.specs.declared.Said.the-variants.{Value, Wrong}
 use Rattle.decimal.specs.Reading.{digitRun, number, numOf}
@@ -12,7 +13,7 @@ use Rattle.decimal.specs.Writing.{zeroOf}
 
 -- no needless zero: a zero stands in front only where it stands alone
 unfoldable pub bare : List ℕ → Bool
-bare s = eqb (length s) 1 || not (eqb (getD s 0 0) 48)
+bare s = eqb (length s) 1 || not (eqb (getD s 0 0) (byte "0"))
 
 -- 1 to n digits with no needless zero
 unfoldable pub bareOf : ℕ → List ℕ → Said
@@ -36,7 +37,7 @@ joined k Wrong y = Wrong
 -- the amount of a text with no minus, in its smallest unit: at most six whole digits, a point, k decimals
 unfoldable pub amountOf : ℕ → List ℕ → Said
 amountOf k s =
-    cond (eqb (getD s (digitRun s) 0) 46)
+    cond (eqb (getD s (digitRun s) 0) (byte "."))
     (joined k (bareOf 6 (take (digitRun s) s)) (exactlyOf k (drop (digitRun s + 1) s)))
     Wrong
 
@@ -51,4 +52,4 @@ aboveZero k Wrong = Wrong
 
 -- what stands for the number with k decimals that s is: fixedOf 3 gives a level, fixedOf 6 a mean
 unfoldable pub fixedOf : ℕ → List ℕ → Said
-fixedOf k s = cond (eqb (getD s 0 0) 45) (belowZero k (amountOf k (drop 1 s))) (aboveZero k (amountOf k s))
+fixedOf k s = cond (eqb (getD s 0 0) (byte "-")) (belowZero k (amountOf k (drop 1 s))) (aboveZero k (amountOf k s))

@@ -6,6 +6,7 @@ use mathlib.Core.List.{List, [], _∷_}
 use mathlib.Core.Bool.{Bool, true, false, cond, not, _&&_}
 use lib.ListN.{length, getD, take, drop}
 use lib.Dec.{ltb, leb, eqb}
+use Rattle.octets.specs.Characters.{byte}
 use Rattle.decimal.specs.declared.Said.{Said}
 use Rattle.decimal.specs.declared.Said.the-variants.{Value, Wrong}
 
@@ -13,11 +14,11 @@ use Rattle.decimal.specs.declared.Said.the-variants.{Value, Wrong}
 
 -- the byte is a digit, 0 to 9
 unfoldable pub isDigit : ℕ → Bool
-isDigit b = leb 48 b && leb b 57
+isDigit b = leb (byte "0") b && leb b (byte "9")
 
 -- the digit that a byte is, and 100 where it is none
 unfoldable pub digitOf : ℕ → ℕ
-digitOf b = cond (isDigit b) (b - 48) 100
+digitOf b = cond (isDigit b) (b - byte "0") 100
 
 -- how many bytes s starts with that pass the test p
 unfoldable pub runOf : (ℕ → Bool) → List ℕ → ℕ
@@ -33,7 +34,7 @@ digitRun s = runOf isDigit s
 -- the number that the digits s say, after digits that said n
 unfoldable pub numberAfter : ℕ → List ℕ → ℕ
 numberAfter n [] = n
-numberAfter n (b ∷ s) = numberAfter (n * 10 + (b - 48)) s
+numberAfter n (b ∷ s) = numberAfter (n * 10 + (b - byte "0")) s
 
 -- the number that the digits s say
 abbrev pub number : List ℕ → ℕ
@@ -56,12 +57,12 @@ mapSaid f Wrong = Wrong
 
 -- the digit at place i, where one that is not written counts as 0
 unfoldable pub digitAt : List ℕ → ℕ → ℕ
-digitAt s i = digitOf (getD s i 48)
+digitAt s i = digitOf (getD s i (byte "0"))
 
 -- s is a point and 1 to 3 digits
 unfoldable pub isFraction : List ℕ → Bool
 isFraction s =
-    eqb (getD s 0 0) 46 && leb 2 (length s) && leb (length s) 4
+    eqb (getD s 0 0) (byte ".") && leb 2 (length s) && leb (length s) 4
     && ltb (digitAt s 1) 10 && ltb (digitAt s 2) 10 && ltb (digitAt s 3) 10
 
 -- the thousandths behind the whole digits: none where nothing is written
@@ -84,7 +85,7 @@ even = 1000000000
 -- a yield as a level; a minus before zero changes nothing
 unfoldable pub levelOf : List ℕ → Said
 levelOf s =
-    cond (eqb (getD s 0 0) 45)
+    cond (eqb (getD s 0 0) (byte "-"))
     (mapSaid (λ t. even - t) (sizeOf (drop 1 s)))
     (mapSaid (λ t. even + t) (sizeOf s))
 
@@ -102,8 +103,8 @@ twoAt s i = digitOf (getD s i 0) * 10 + digitOf (getD s (i + 1) 0)
 unfoldable pub timeShaped : List ℕ → Bool
 timeShaped s =
     isTimeLength (length s)
-    && ltb (twoAt s 0) 100 && ltb (twoAt s 2) 100 && ltb (twoAt s 4) 100 && ltb (twoAt s 6) 100 && eqb (getD s 8 0) 45
-    && ltb (twoAt s 9) 100 && eqb (getD s 11 0) 58 && ltb (twoAt s 12) 100 && eqb (getD s 14 0) 58 && ltb (twoAt s 15) 100
+    && ltb (twoAt s 0) 100 && ltb (twoAt s 2) 100 && ltb (twoAt s 4) 100 && ltb (twoAt s 6) 100 && eqb (getD s 8 0) (byte "-")
+    && ltb (twoAt s 9) 100 && eqb (getD s 11 0) (byte ":") && ltb (twoAt s 12) 100 && eqb (getD s 14 0) (byte ":") && ltb (twoAt s 15) 100
 
 -- month 01 to 12, day 01 to 31, hour to 23, minute and second to 59
 unfoldable pub timeRanged : List ℕ → Bool

@@ -7,11 +7,12 @@ use mathlib.Core.Path.{_≡_}
 use mathlib.Core.Bool.{cond}
 use mathlib.Core.List.{List, [], _∷_, _++_}
 use lib.Dec.{ltb, eqb}
+use Rattle.octets.specs.Characters.{byte, bytes}
 
 -- n in at most so many digits, the most significant first, with no needless zero
 abbrev pub decimalIn : ℕ → ℕ → List ℕ
 decimalIn zero n = []
-decimalIn (suc k) n = cond (ltb n 10) ((48 + n) ∷ []) (decimalIn k (n / 10) ++ ((48 + n % 10) ∷ []))
+decimalIn (suc k) n = cond (ltb n 10) ((byte "0" + n) ∷ []) (decimalIn k (n / 10) ++ ((byte "0" + n % 10) ∷ []))
 
 -- the digits of a number below 2 ^ 64, which has at most twenty
 unfoldable pub decimal : ℕ → List ℕ
@@ -20,7 +21,7 @@ decimal n = decimalIn 20 n
 -- the last k digits of n, the most significant first, its zeros with them
 unfoldable pub places : ℕ → ℕ → List ℕ
 places zero n = []
-places (suc k) n = places k (n / 10) ++ ((48 + n % 10) ∷ [])
+places (suc k) n = places k (n / 10) ++ ((byte "0" + n % 10) ∷ [])
 
 -- the unit of a number with k decimals, k at most six
 pub record Scale (k unit : ℕ) : Type 0 where
@@ -30,7 +31,7 @@ pub record Scale (k unit : ℕ) : Type 0 where
 
 -- an amount with k decimals, given in its smallest unit: the whole part, a point, the decimals
 unfoldable pub plain : ℕ → ℕ → List ℕ
-plain k m = decimal (m / 10 ^ k) ++ (46 ∷ []) ++ places k m
+plain k m = decimal (m / 10 ^ k) ++ bytes "." ++ places k m
 
 -- what stands for zero where a number has k decimals: a number of at most six whole digits is above or below it by less
 abbrev pub zeroOf : ℕ → ℕ
@@ -38,7 +39,7 @@ zeroOf k = 10 ^ k * 1000000
 
 -- the number with k decimals that v stands for: fixed 3 is a yield from its level, fixed 6 is AvgPx from its mean
 unfoldable pub fixed : ℕ → ℕ → List ℕ
-fixed k v = cond (ltb v (zeroOf k)) ((45 ∷ []) ++ plain k (zeroOf k - v)) (plain k (v - zeroOf k))
+fixed k v = cond (ltb v (zeroOf k)) (bytes "-" ++ plain k (zeroOf k - v)) (plain k (v - zeroOf k))
 
 -- ---- AvgPx
 

@@ -6,6 +6,7 @@ use mathlib.Core.List.{List, [], _∷_}
 use mathlib.Core.Bool.{Bool, true, false, cond, not, _&&_, _||_}
 use lib.ListN.{length, getD, take, drop}
 use lib.Dec.{ltb, leb, eqb}
+use Rattle.octets.specs.Characters.{byte, soh}
 use Rattle.decimal.specs.Reading.{isDigit, runOf, digitRun}
 use Rattle.fix.specs.declared.fields.Tag.{Tag}
 use Rattle.fix.specs.declared.fields.Cursor.{Cursor}
@@ -18,7 +19,7 @@ use Rattle.fix.specs.declared.fields.Field.the-variants.{Good, Broken, E
 
 -- a character of a value
 unfoldable pub isText : ℕ → Bool
-isText b = leb 32 b && leb b 126
+isText b = leb 0x20 b && leb b 0x7e
 
 -- how many characters of a value s starts with
 abbrev pub textRun : List ℕ → ℕ
@@ -27,12 +28,12 @@ textRun s = runOf isText s
 -- s starts with 1 to 4 digits, the first not 0, and `=`
 unfoldable pub startsTag : List ℕ → Bool
 startsTag s =
-    ltb 0 (digitRun s) && leb (digitRun s) 4 && not (eqb (getD s 0 0) 48) && eqb (getD s (digitRun s) 0) 61
+    ltb 0 (digitRun s) && leb (digitRun s) 4 && not (eqb (getD s 0 0) (byte "0")) && eqb (getD s (digitRun s) 0) (byte "=")
 
 -- the number that the digits at the front of s say, after digits that said n
 unfoldable pub leading : ℕ → List ℕ → ℕ
 leading n [] = n
-leading n (b ∷ s) = cond (isDigit b) (leading (n * 10 + (b - 48)) s) n
+leading n (b ∷ s) = cond (isDigit b) (leading (n * 10 + (b - byte "0")) s) n
 
 -- the tag that s starts with and how many digits it has; 0 where it starts with none
 unfoldable pub tagOf : List ℕ → Tag
@@ -55,7 +56,7 @@ pub record Fld : Type 0 where
 unfoldable pub fieldOf : ℕ → List ℕ → Fld
 fieldOf at s =
     record {
-      tag = cond (eqb (getD s (valueFrom s + valueLen s) 0) 1) (tagOf s .number) 0;
+      tag = cond (eqb (getD s (valueFrom s + valueLen s) 0) soh) (tagOf s .number) 0;
       start = at + valueFrom s;
       len = valueLen s;
     }

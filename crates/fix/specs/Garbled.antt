@@ -5,6 +5,7 @@ use mathlib.Core.List.{List, [], _∷_}
 use mathlib.Core.Bool.{Bool, true, false, cond, not, _&&_}
 use lib.ListN.{length, take}
 use lib.Dec.{ltb, leb, eqb}
+use Rattle.octets.specs.Characters.{bytes}
 use Rattle.octets.specs.Octets.{sameBytes}
 use Rattle.decimal.specs.declared.Said.{Said}
 use Rattle.decimal.specs.declared.Said.the-variants.{Value, Wrong}
@@ -45,9 +46,9 @@ abbrev pub saysIt : ℕ → Said → Bool
 saysIt m (Value n) = eqb n m
 saysIt m Wrong = false
 
--- FIX.4.2
+-- what 8 says
 abbrev pub fix42 : List ℕ
-fix42 = 70 ∷ 73 ∷ 88 ∷ 46 ∷ 52 ∷ 46 ∷ 50 ∷ []
+fix42 = bytes "FIX.4.2"
 
 -- the values of 8, 35, 34, 49, 52 and 56 are what a header may have
 unfoldable pub headerRight : List ℕ → Bool

@@ -74,7 +74,7 @@ pub fn new_stands(t: &[u8], message: &[u8], o: NewOrder) -> Standing
     if holder_of(t, message, o.id) != 0 {
         return Standing::Fails(6);
     }
-    if 255 <= filled(t) {
+    if table::places::MOST_ORDERS <= filled(t) {
         return Standing::Fails(0);
     }
     Standing::Stands

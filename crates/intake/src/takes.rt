@@ -71,7 +71,7 @@ pub fn raise(t: &mut [u8])
     requires { ⌜ length (now t) ≡ tableBytes ⌝ }
     ensures { λ _. ⌜ now (t .exit) ≡ numbered (now (t .entry)) 1 ⌝ }
 {
-    let n = octets::le_at(t, 28, 4);
+    let n = octets::le_at(t, table::places::NEXT, 4);
     put_next(t, n + 1);
 }
 

@@ -21,8 +21,8 @@ use Rattle.table.specs.Orders.{bookOf}
 use Rattle.table.specs.Market.{isMarket}
 use Rattle.table.specs.Facts.{Market}
 use Rattle.table.proofs.Facts.{market-facts}
-use Rattle.market.specs.declared.depth.DepthAnswer.{DepthAnswer}
-use Rattle.market.specs.declared.depth.DepthAnswer.the-variants.{NoMarket, InWork, BadSide, Found}
+use Rattle.market.specs.declared.DepthAnswer.{DepthAnswer}
+use Rattle.market.specs.declared.DepthAnswer.the-variants.{NoMarket, InWork, BadSide, Found}
 use Rattle.market.specs.Depth.{isSide, depthAnswer, levelIs}
 use Rattle.kamurjesh.specs.Numbers.{levelIn, yieldOf}
 

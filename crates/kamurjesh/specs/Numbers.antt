@@ -4,8 +4,8 @@ use Prim.Native.Nat.{ℕ}
 use lib.IntN.{ℤ, pos, subℕ}
 use Rattle.matching.specs.declared.Depth.{Depth}
 use Rattle.matching.specs.declared.Depth.the-variants.{Level, NoLevel}
-use Rattle.market.specs.declared.depth.DepthAnswer.{DepthAnswer}
-use Rattle.market.specs.declared.depth.DepthAnswer.the-variants.{NoMarket, InWork, BadSide, Found}
+use Rattle.market.specs.declared.DepthAnswer.{DepthAnswer}
+use Rattle.market.specs.declared.DepthAnswer.the-variants.{NoMarket, InWork, BadSide, Found}
 use Rattle.report.specs.declared.Part.{Part}
 use Rattle.report.specs.declared.Part.the-variants.{At, Nowhere}
 
@@ -17,11 +17,6 @@ levelIn NoMarket = NoLevel
 levelIn InWork = NoLevel
 levelIn BadSide = NoLevel
 levelIn (Found d) = d
-
--- whether there is one
-abbrev pub hasLevel : Depth → ℕ
-hasLevel (Level level total orders) = 1
-hasLevel NoLevel = 0
 
 -- its yield in thousandths: a level is 1,000,000,000 and the yield
 abbrev pub yieldOf : Depth → ℤ

@@ -8,10 +8,10 @@ ghost use Rattle.calls.specs.Open.{openAnswer, openNumberOf};
 ghost use Rattle.calls.specs.Told.{areaAfter};
 ghost use Rattle.calls.specs.Submit.{submitted, submitNumber, submitLength};
 ghost use Rattle.calls.specs.Run.{ran, runNumber, runBytes, runReports, runSteps};
-ghost use Rattle.market.specs.Depth.{depthAnswer, depthNumber};
+ghost use Rattle.market.specs.Depth.{depthAnswer, depthNumber, hasLevel};
 ghost use Rattle.report.specs.Reports.{readOf, partOf};
 ghost use Rattle.calls.specs.Read.{readNumber, kindNumber};
-ghost use Rattle.kamurjesh.specs.Numbers.{levelIn, hasLevel, yieldOf, isThere, startOf, lenOf};
+ghost use Rattle.kamurjesh.specs.Numbers.{levelIn, yieldOf, isThere, startOf, lenOf};
 
 pub mod numbers;
 
@@ -33,7 +33,7 @@ use crate::numbers::submit_length;
 use crate::numbers::submit_number;
 use crate::numbers::total_of;
 use crate::numbers::yield_of;
-use market::depth::depth;
+use market::depth;
 use market::open;
 use market::read;
 use market::run;

@@ -19,7 +19,7 @@ use Rattle.octets.proofs.Bools.{split}
 use Rattle.table.specs.Opened.{isOpening, openNumber}
 use Rattle.calls.specs.declared.OpenAnswer.the-variants.{Opened, BadSetting}
 use Rattle.calls.specs.Open.{openAnswer}
-use Rattle.market.specs.declared.depth.DepthAnswer.the-variants.{NoMarket, InWork, BadSide, Found}
+use Rattle.market.specs.declared.DepthAnswer.the-variants.{NoMarket, InWork, BadSide, Found}
 use Rattle.market.specs.Depth.{isSide, depthAnswer}
 
 -- what the check of a market says

@@ -1,4 +1,5 @@
 -- The laws of `market`, for the proofs of this crate and of those above it. Nothing here need be believed.
-pub mod Levels
+-- LevelLaws: the next level, the k-th, and what stands on it; Answers: refusals in their order; Theorems: what people read.
+pub mod LevelLaws
 pub mod Answers
 pub mod Theorems

@@ -19,7 +19,7 @@ use Rattle.calls.specs.Submit.{submitted}
 use Rattle.calls.specs.Run.{ran}
 use Rattle.intake.proofs.Theorems.{submit-keeps}
 use Rattle.turns.proofs.Theorems.{run-keeps}
-use Rattle.market.specs.declared.depth.DepthAnswer.{DepthAnswer}
+use Rattle.market.specs.declared.DepthAnswer.{DepthAnswer}
 use Rattle.market.specs.Depth.{depthAnswer}
 
 -- ---- a market stays a market

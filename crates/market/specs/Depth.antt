@@ -10,8 +10,8 @@ use Rattle.matching.specs.Depth.{depth}
 use Rattle.table.specs.Heading.{workOf}
 use Rattle.table.specs.Orders.{bookOf}
 use Rattle.table.specs.Market.{isMarket}
-use Rattle.market.specs.declared.depth.DepthAnswer.{DepthAnswer}
-use Rattle.market.specs.declared.depth.DepthAnswer.the-variants.{NoMarket, InWork, BadSide, Found}
+use Rattle.market.specs.declared.DepthAnswer.{DepthAnswer}
+use Rattle.market.specs.declared.DepthAnswer.the-variants.{NoMarket, InWork, BadSide, Found}
 
 -- side 1 the buys, side 2 the sells, and no other
 abbrev pub isSide : ℕ → Bool
@@ -35,9 +35,9 @@ depthNumber (Found d) = 0
 
 -- its values: 1 if there is such a level, else 0; the level, its total open quantity and its number of orders, each 0 where
 -- there is none
-abbrev pub isThere : Depth → ℕ
-isThere (Level l t n) = 1
-isThere NoLevel = 0
+abbrev pub hasLevel : Depth → ℕ
+hasLevel (Level l t n) = 1
+hasLevel NoLevel = 0
 
 abbrev pub levelIs : Depth → ℕ
 levelIs (Level l t n) = l

@@ -1,12 +1,16 @@
 // The five calls of a market: open, submit, run, depth, read. They ask nothing of their caller: a table, a message, a report area
 // may be any bytes of any length. Each contract says what is answered and what every lent byte is afterwards, by the
 // definitions of the crate calls.
-pub mod depth;
+pub mod levels;
 
+use crate::levels::level;
+use audit::is_market;
 use calls::OpenAnswer;
 use calls::RunAnswer;
 use calls::SubmitAnswer;
+use matching::Depth;
 use report::Reading;
+use table::heading::work;
 ghost use mathlib.Core.Path.{_≡_};
 ghost use lib.ListN.{length};
 ghost use Rattle.table.specs.Opened.{opened};
@@ -15,6 +19,15 @@ ghost use Rattle.calls.specs.Told.{areaAfter};
 ghost use Rattle.calls.specs.Open.{openAnswer};
 ghost use Rattle.calls.specs.Run.{ran};
 ghost use Rattle.calls.specs.Submit.{submitted};
+ghost use Rattle.market.specs.Depth.{isSide, depthAnswer};
+
+// What Depth answers: a refusal, or the level that there is or that there is none.
+pub enum DepthAnswer {
+    NoMarket,
+    InWork,
+    BadSide,
+    Found(Depth),
+}
 
 // Opens a market: writes the whole table from the settings and the lists of MPIDs and modes, or changes nothing.
 pub fn open(
@@ -51,6 +64,29 @@ pub fn run(table: &mut [u8], area: &mut [u8], budget: u64) -> RunAnswer
         × (now (area .exit) ≡ areaAfter (now (area .entry)) (ran (now (table .entry)) (length (now (area .entry))) budget .reports)) ⌝ }
 {
     turns::run(table, area, budget)
+}
+
+// Whether a side is 1, the buys, or 2, the sells.
+fn is_side(side: u64) -> bool
+    ensures { λ r. ⌜ r ≡ isSide side ⌝ }
+{
+    (side == 1) | (side == 2)
+}
+
+// The k-th level of a side from the best. Refused if the table is no market, an order is in work, or the side is none.
+pub fn depth(table: &[u8], side: u64, k: u64) -> DepthAnswer
+    ensures { λ r. ⌜ r ≡ depthAnswer (now (table .entry)) side k ⌝ }
+{
+    if !is_market(table) {
+        return DepthAnswer::NoMarket;
+    }
+    if 0 < work(table) {
+        return DepthAnswer::InWork;
+    }
+    if !is_side(side) {
+        return DepthAnswer::BadSide;
+    }
+    DepthAnswer::Found(level(table, side, k))
 }
 
 // The kind and the fields of a report, or that the bytes are none.

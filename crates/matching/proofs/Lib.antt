@@ -1,4 +1,9 @@
 -- The laws of `matching`, for the proofs of this crate and of those above it. Nothing here need be believed.
+-- Values: returns of single functions; Books: orders by number, and sums over them; Events: what an event changes; Steps: the
+-- ways that a step can go; Conserved: what becomes of each quantity; Fair: bought is sold, and nobody trades with himself;
+-- Crossing: the book stays uncrossed; Ends: the work ends; Sounds: orders stay in range; Holding: a step keeps what a market
+-- asks; Requests: and so does what Submit does; Best: nothing is better than the best; Levels: the levels of a side; Modes: one
+-- mode is asked for; Cases: the rehearsed cases; Theorems: what people read.
 pub mod Values
 pub mod Books
 pub mod Events

@@ -15,7 +15,7 @@ use Rattle.matching.proofs.Cases.{case1, case2, case3, case4, case5, case6, cas
 use Rattle.table.specs.Heading.{workOf, modeOf}
 use Rattle.table.specs.Orders.{bookOf}
 use Rattle.table.specs.Market.{isMarket}
-use Rattle.market.specs.declared.depth.DepthAnswer.the-variants.{Found}
+use Rattle.market.specs.declared.DepthAnswer.the-variants.{Found}
 use Rattle.market.specs.Depth.{depthAnswer}
 use Rattle.promises.specs.Shown.{ShowsOn, AveragesOn}
 use Rattle.promises.proofs.Agreeing.{ran-matches}

@@ -20,7 +20,7 @@ use Rattle.table.specs.Orders.{filled, bookOf}
 use Rattle.table.specs.Market.{isMarket}
 use Rattle.table.proofs.Facts.{market-facts}
 use Rattle.table.proofs.Books.{length-book}
-use Rattle.market.specs.declared.depth.DepthAnswer.the-variants.{Found}
+use Rattle.market.specs.declared.DepthAnswer.the-variants.{Found}
 use Rattle.market.specs.Depth.{isSide, depthAnswer}
 use Rattle.promises.specs.Whole.{openIn, ordersIn, overDepth}
 

@@ -36,7 +36,7 @@ use Rattle.calls.specs.Checks.{newStands, cancelStands, replaceStands}
 use Rattle.calls.specs.Submit.{rejecting, faulted, newRejected, changeRejected, newTaken, replacementTaken, cancelTaken, entering, replacing, canceling, handled, submitted}
 use Rattle.calls.specs.Run.{worked, ran}
 use Rattle.intake.proofs.Keeping.{Comes, no-room, no-market, in-work, spent, heard, comes}
-use Rattle.market.specs.declared.depth.DepthAnswer.the-variants as depth-answer
+use Rattle.market.specs.declared.DepthAnswer.the-variants as depth-answer
 use Rattle.market.specs.Depth.{isSide, depthAnswer}
 use Rattle.promises.specs.History.{Call, tableAfter, reportsAfter}
 use Rattle.promises.specs.Tallies.{Account, blank, accountFrom, accountOf, bought, sold, selfTrades, unread}

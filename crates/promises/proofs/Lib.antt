@@ -1,5 +1,9 @@
--- What holds of every history. A reader begins with Theorems; Cases has the rehearsed books over any table, and Lived a history from
--- Open on that is computed. The others are the way there, and nothing in them need be believed.
+-- What holds of every history. A reader begins with Theorems; Cases has the rehearsed books over any table, and Lived a history
+-- from Open on that is computed. The others are the way there, and nothing in them need be believed. Tells: what a report does
+-- to an account; Exacts: events of a step; Leads: reports lead from table to table; Playing: events with their reports;
+-- Running: those of Run; Requested: the book after a request; Submitting: the report of Submit; Opening: an opened table;
+-- Histories: calls in turn; Telling: each report tells what it is of; Agreeing: steps against matching; Depths: levels add up;
+-- Spending: steps left; Kept: from the first table on.
 pub mod Tells
 pub mod Exacts
 pub mod Leads

@@ -2,10 +2,13 @@
 -- rehearsed case 3 from Open on, message by message. The definitions are run on all bytes: of the messages, of the table, and of the
 -- reports as they are read.
 use mathlib.Core.Path.{_≡_, refl}
-use mathlib.Core.Bool.{true}
+use mathlib.Core.Bool.{true, cond}
 use mathlib.Core.List.{List, [], _∷_}
 use Prim.Native.Nat.{ℕ}
+use Prim.Native.String.{String, [] as none, _∷_ as _then_}
+use lib.Dec.{eqb}
 use lib.ListN.{replicate}
+use Rattle.octets.specs.Characters.{byte, bytes, soh}
 use Rattle.octets.specs.Octets.{leAt, bytesOf, put, partAt, textAt, textBytes, sameBytes, allZero}
 use Rattle.octets.specs.Tests.{allUpTo, firstFrom}
 use Rattle.decimal.specs.Writing.{decimal, places, plain, fixed, shareOf, meanOf}
@@ -24,7 +27,7 @@ use Rattle.table.specs.Orders.{orderAt, filled, ordersFrom, bookOf, idIndex, re
 use Rattle.calls.specs.Checks.{holder, newStands}
 use Rattle.calls.specs.Submit.{newTaken, submitted}
 use Rattle.report.specs.Fields.{label, written, fieldBytes as writtenField}
-use Rattle.report.specs.Frame.{checkSum as checkSumOf, version, front, trailer, reportBytes}
+use Rattle.report.specs.Frame.{version, front, trailer, reportBytes}
 use Rattle.report.specs.Parse.{valueAt, fieldAt, hop, placeOf}
 use Rattle.report.specs.Reports.{bodyAt, trailerAt, readFramed, executionFor, kindFor, firstOf, kindOf as kindOfReport, oneReason, readOf}
 use Rattle.report.specs.Shapes.{oneIn, wordIn, recordIn, textIn, timeIn}
@@ -43,7 +46,7 @@ unfolding leAt bytesOf put partAt textAt textBytes sameBytes allZero allUpTo fir
 computes = 0
 
 tells : ℕ
-unfolding label written writtenField checkSumOf version front trailer reportBytes valueAt fieldAt hop placeOf bodyAt trailerAt readFramed executionFor kindFor firstOf kindOfReport oneReason readOf oneIn wordIn recordIn textIn timeIn acceptedSlots replacedSlots canceledSlots tradeSlots text orNumber digit avgPx replacedStatus tradeStatus figuresOf header acceptedFields replacedFields canceledFields tradeFields orStoredAt stampOn shownOn rowOf ticketOf says noted accountFrom tradedFor traded isSelfTrade selfTrades
+unfolding label written writtenField version front trailer reportBytes valueAt fieldAt hop placeOf bodyAt trailerAt readFramed executionFor kindFor firstOf kindOfReport oneReason readOf oneIn wordIn recordIn textIn timeIn acceptedSlots replacedSlots canceledSlots tradeSlots text orNumber digit avgPx replacedStatus tradeStatus figuresOf header acceptedFields replacedFields canceledFields tradeFields orStoredAt stampOn shownOn rowOf ticketOf says noted accountFrom tradedFor traded isSelfTrade selfTrades
 tells = 0
 
 -- A is MPID 10 and has mode 3
@@ -57,27 +60,32 @@ abbrev modes : List ℕ
 modes = 3 ∷ 1 ∷ 1 ∷ 1 ∷ 1 ∷ []
 
 abbrev pub opens : List ℕ
-opens = opened before (86 ∷ []) (80 ∷ []) (51 ∷ 53 ∷ 48 ∷ []) 1 mpids modes
+opens = opened before (bytes "V") (bytes "P") (bytes "350") 1 mpids modes
 
-pub opens-right : isOpening before (86 ∷ []) (80 ∷ []) (51 ∷ 53 ∷ 48 ∷ []) 1 mpids modes ≡ true
+pub opens-right : isOpening before (bytes "V") (bytes "P") (bytes "350") 1 mpids modes ≡ true
 unfolding computes
 opens-right = refl
 
+-- the bytes of a message, `|` for SOH
+abbrev pub message : String → List ℕ
+message none = []
+message (c then s) = cond (eqb (byte c) (byte "|")) soh (byte c) ∷ message s
+
 -- book R: sells of 100 at 0.101 (MPID 11), and at 0.100 of 200 (12), 200 (A) and 500 (13); then A buys 1,200 at 0.100
 abbrev pub sell1 : List ℕ
-sell1 = 56 ∷ 61 ∷ 70 ∷ 73 ∷ 88 ∷ 46 ∷ 52 ∷ 46 ∷ 50 ∷ 1 ∷ 57 ∷ 61 ∷ 49 ∷ 50 ∷ 57 ∷ 1 ∷ 51 ∷ 53 ∷ 61 ∷ 68 ∷ 1 ∷ 51 ∷ 52 ∷ 61 ∷ 49 ∷ 1 ∷ 52 ∷ 57 ∷ 61 ∷ 80 ∷ 1 ∷ 53 ∷ 50 ∷ 61 ∷ 50 ∷ 48 ∷ 50 ∷ 54 ∷ 48 ∷ 49 ∷ 48 ∷ 53 ∷ 45 ∷ 48 ∷ 57 ∷ 58 ∷ 48 ∷ 48 ∷ 58 ∷ 48 ∷ 48 ∷ 1 ∷ 53 ∷ 54 ∷ 61 ∷ 86 ∷ 1 ∷ 49 ∷ 49 ∷ 61 ∷ 97 ∷ 1 ∷ 50 ∷ 49 ∷ 61 ∷ 49 ∷ 1 ∷ 51 ∷ 56 ∷ 61 ∷ 49 ∷ 48 ∷ 48 ∷ 1 ∷ 52 ∷ 48 ∷ 61 ∷ 50 ∷ 1 ∷ 52 ∷ 52 ∷ 61 ∷ 48 ∷ 46 ∷ 49 ∷ 48 ∷ 49 ∷ 1 ∷ 52 ∷ 55 ∷ 61 ∷ 65 ∷ 1 ∷ 53 ∷ 52 ∷ 61 ∷ 50 ∷ 1 ∷ 53 ∷ 53 ∷ 61 ∷ 51 ∷ 53 ∷ 48 ∷ 1 ∷ 53 ∷ 57 ∷ 61 ∷ 48 ∷ 1 ∷ 54 ∷ 48 ∷ 61 ∷ 50 ∷ 48 ∷ 50 ∷ 54 ∷ 48 ∷ 49 ∷ 48 ∷ 53 ∷ 45 ∷ 48 ∷ 57 ∷ 58 ∷ 48 ∷ 48 ∷ 58 ∷ 48 ∷ 48 ∷ 1 ∷ 56 ∷ 48 ∷ 54 ∷ 48 ∷ 61 ∷ 49 ∷ 1 ∷ 49 ∷ 48 ∷ 57 ∷ 61 ∷ 49 ∷ 49 ∷ 1 ∷ 49 ∷ 48 ∷ 61 ∷ 49 ∷ 56 ∷ 50 ∷ 1 ∷ []
+sell1 = message "8=FIX.4.2|9=129|35=D|34=1|49=P|52=20260105-09:00:00|56=V|11=a|21=1|38=100|40=2|44=0.101|47=A|54=2|55=350|59=0|60=20260105-09:00:00|8060=1|109=11|10=182|"
 
 abbrev pub sell2 : List ℕ
-sell2 = 56 ∷ 61 ∷ 70 ∷ 73 ∷ 88 ∷ 46 ∷ 52 ∷ 46 ∷ 50 ∷ 1 ∷ 57 ∷ 61 ∷ 49 ∷ 50 ∷ 57 ∷ 1 ∷ 51 ∷ 53 ∷ 61 ∷ 68 ∷ 1 ∷ 51 ∷ 52 ∷ 61 ∷ 50 ∷ 1 ∷ 52 ∷ 57 ∷ 61 ∷ 80 ∷ 1 ∷ 53 ∷ 50 ∷ 61 ∷ 50 ∷ 48 ∷ 50 ∷ 54 ∷ 48 ∷ 49 ∷ 48 ∷ 53 ∷ 45 ∷ 48 ∷ 57 ∷ 58 ∷ 48 ∷ 48 ∷ 58 ∷ 48 ∷ 48 ∷ 1 ∷ 53 ∷ 54 ∷ 61 ∷ 86 ∷ 1 ∷ 49 ∷ 49 ∷ 61 ∷ 98 ∷ 1 ∷ 50 ∷ 49 ∷ 61 ∷ 49 ∷ 1 ∷ 51 ∷ 56 ∷ 61 ∷ 50 ∷ 48 ∷ 48 ∷ 1 ∷ 52 ∷ 48 ∷ 61 ∷ 50 ∷ 1 ∷ 52 ∷ 52 ∷ 61 ∷ 48 ∷ 46 ∷ 49 ∷ 48 ∷ 48 ∷ 1 ∷ 52 ∷ 55 ∷ 61 ∷ 65 ∷ 1 ∷ 53 ∷ 52 ∷ 61 ∷ 50 ∷ 1 ∷ 53 ∷ 53 ∷ 61 ∷ 51 ∷ 53 ∷ 48 ∷ 1 ∷ 53 ∷ 57 ∷ 61 ∷ 48 ∷ 1 ∷ 54 ∷ 48 ∷ 61 ∷ 50 ∷ 48 ∷ 50 ∷ 54 ∷ 48 ∷ 49 ∷ 48 ∷ 53 ∷ 45 ∷ 48 ∷ 57 ∷ 58 ∷ 48 ∷ 48 ∷ 58 ∷ 48 ∷ 48 ∷ 1 ∷ 56 ∷ 48 ∷ 54 ∷ 48 ∷ 61 ∷ 49 ∷ 1 ∷ 49 ∷ 48 ∷ 57 ∷ 61 ∷ 49 ∷ 50 ∷ 1 ∷ 49 ∷ 48 ∷ 61 ∷ 49 ∷ 56 ∷ 53 ∷ 1 ∷ []
+sell2 = message "8=FIX.4.2|9=129|35=D|34=2|49=P|52=20260105-09:00:00|56=V|11=b|21=1|38=200|40=2|44=0.100|47=A|54=2|55=350|59=0|60=20260105-09:00:00|8060=1|109=12|10=185|"
 
 abbrev pub sell3 : List ℕ
-sell3 = 56 ∷ 61 ∷ 70 ∷ 73 ∷ 88 ∷ 46 ∷ 52 ∷ 46 ∷ 50 ∷ 1 ∷ 57 ∷ 61 ∷ 49 ∷ 50 ∷ 57 ∷ 1 ∷ 51 ∷ 53 ∷ 61 ∷ 68 ∷ 1 ∷ 51 ∷ 52 ∷ 61 ∷ 51 ∷ 1 ∷ 52 ∷ 57 ∷ 61 ∷ 80 ∷ 1 ∷ 53 ∷ 50 ∷ 61 ∷ 50 ∷ 48 ∷ 50 ∷ 54 ∷ 48 ∷ 49 ∷ 48 ∷ 53 ∷ 45 ∷ 48 ∷ 57 ∷ 58 ∷ 48 ∷ 48 ∷ 58 ∷ 48 ∷ 48 ∷ 1 ∷ 53 ∷ 54 ∷ 61 ∷ 86 ∷ 1 ∷ 49 ∷ 49 ∷ 61 ∷ 99 ∷ 1 ∷ 50 ∷ 49 ∷ 61 ∷ 49 ∷ 1 ∷ 51 ∷ 56 ∷ 61 ∷ 50 ∷ 48 ∷ 48 ∷ 1 ∷ 52 ∷ 48 ∷ 61 ∷ 50 ∷ 1 ∷ 52 ∷ 52 ∷ 61 ∷ 48 ∷ 46 ∷ 49 ∷ 48 ∷ 48 ∷ 1 ∷ 52 ∷ 55 ∷ 61 ∷ 65 ∷ 1 ∷ 53 ∷ 52 ∷ 61 ∷ 50 ∷ 1 ∷ 53 ∷ 53 ∷ 61 ∷ 51 ∷ 53 ∷ 48 ∷ 1 ∷ 53 ∷ 57 ∷ 61 ∷ 48 ∷ 1 ∷ 54 ∷ 48 ∷ 61 ∷ 50 ∷ 48 ∷ 50 ∷ 54 ∷ 48 ∷ 49 ∷ 48 ∷ 53 ∷ 45 ∷ 48 ∷ 57 ∷ 58 ∷ 48 ∷ 48 ∷ 58 ∷ 48 ∷ 48 ∷ 1 ∷ 56 ∷ 48 ∷ 54 ∷ 48 ∷ 61 ∷ 49 ∷ 1 ∷ 49 ∷ 48 ∷ 57 ∷ 61 ∷ 49 ∷ 48 ∷ 1 ∷ 49 ∷ 48 ∷ 61 ∷ 49 ∷ 56 ∷ 53 ∷ 1 ∷ []
+sell3 = message "8=FIX.4.2|9=129|35=D|34=3|49=P|52=20260105-09:00:00|56=V|11=c|21=1|38=200|40=2|44=0.100|47=A|54=2|55=350|59=0|60=20260105-09:00:00|8060=1|109=10|10=185|"
 
 abbrev pub sell4 : List ℕ
-sell4 = 56 ∷ 61 ∷ 70 ∷ 73 ∷ 88 ∷ 46 ∷ 52 ∷ 46 ∷ 50 ∷ 1 ∷ 57 ∷ 61 ∷ 49 ∷ 50 ∷ 57 ∷ 1 ∷ 51 ∷ 53 ∷ 61 ∷ 68 ∷ 1 ∷ 51 ∷ 52 ∷ 61 ∷ 52 ∷ 1 ∷ 52 ∷ 57 ∷ 61 ∷ 80 ∷ 1 ∷ 53 ∷ 50 ∷ 61 ∷ 50 ∷ 48 ∷ 50 ∷ 54 ∷ 48 ∷ 49 ∷ 48 ∷ 53 ∷ 45 ∷ 48 ∷ 57 ∷ 58 ∷ 48 ∷ 48 ∷ 58 ∷ 48 ∷ 48 ∷ 1 ∷ 53 ∷ 54 ∷ 61 ∷ 86 ∷ 1 ∷ 49 ∷ 49 ∷ 61 ∷ 100 ∷ 1 ∷ 50 ∷ 49 ∷ 61 ∷ 49 ∷ 1 ∷ 51 ∷ 56 ∷ 61 ∷ 53 ∷ 48 ∷ 48 ∷ 1 ∷ 52 ∷ 48 ∷ 61 ∷ 50 ∷ 1 ∷ 52 ∷ 52 ∷ 61 ∷ 48 ∷ 46 ∷ 49 ∷ 48 ∷ 48 ∷ 1 ∷ 52 ∷ 55 ∷ 61 ∷ 65 ∷ 1 ∷ 53 ∷ 52 ∷ 61 ∷ 50 ∷ 1 ∷ 53 ∷ 53 ∷ 61 ∷ 51 ∷ 53 ∷ 48 ∷ 1 ∷ 53 ∷ 57 ∷ 61 ∷ 48 ∷ 1 ∷ 54 ∷ 48 ∷ 61 ∷ 50 ∷ 48 ∷ 50 ∷ 54 ∷ 48 ∷ 49 ∷ 48 ∷ 53 ∷ 45 ∷ 48 ∷ 57 ∷ 58 ∷ 48 ∷ 48 ∷ 58 ∷ 48 ∷ 48 ∷ 1 ∷ 56 ∷ 48 ∷ 54 ∷ 48 ∷ 61 ∷ 49 ∷ 1 ∷ 49 ∷ 48 ∷ 57 ∷ 61 ∷ 49 ∷ 51 ∷ 1 ∷ 49 ∷ 48 ∷ 61 ∷ 49 ∷ 57 ∷ 51 ∷ 1 ∷ []
+sell4 = message "8=FIX.4.2|9=129|35=D|34=4|49=P|52=20260105-09:00:00|56=V|11=d|21=1|38=500|40=2|44=0.100|47=A|54=2|55=350|59=0|60=20260105-09:00:00|8060=1|109=13|10=193|"
 
 abbrev pub buy5 : List ℕ
-buy5 = 56 ∷ 61 ∷ 70 ∷ 73 ∷ 88 ∷ 46 ∷ 52 ∷ 46 ∷ 50 ∷ 1 ∷ 57 ∷ 61 ∷ 49 ∷ 51 ∷ 48 ∷ 1 ∷ 51 ∷ 53 ∷ 61 ∷ 68 ∷ 1 ∷ 51 ∷ 52 ∷ 61 ∷ 53 ∷ 1 ∷ 52 ∷ 57 ∷ 61 ∷ 80 ∷ 1 ∷ 53 ∷ 50 ∷ 61 ∷ 50 ∷ 48 ∷ 50 ∷ 54 ∷ 48 ∷ 49 ∷ 48 ∷ 53 ∷ 45 ∷ 48 ∷ 57 ∷ 58 ∷ 48 ∷ 48 ∷ 58 ∷ 48 ∷ 48 ∷ 1 ∷ 53 ∷ 54 ∷ 61 ∷ 86 ∷ 1 ∷ 49 ∷ 49 ∷ 61 ∷ 101 ∷ 1 ∷ 50 ∷ 49 ∷ 61 ∷ 49 ∷ 1 ∷ 51 ∷ 56 ∷ 61 ∷ 49 ∷ 50 ∷ 48 ∷ 48 ∷ 1 ∷ 52 ∷ 48 ∷ 61 ∷ 50 ∷ 1 ∷ 52 ∷ 52 ∷ 61 ∷ 48 ∷ 46 ∷ 49 ∷ 48 ∷ 48 ∷ 1 ∷ 52 ∷ 55 ∷ 61 ∷ 65 ∷ 1 ∷ 53 ∷ 52 ∷ 61 ∷ 49 ∷ 1 ∷ 53 ∷ 53 ∷ 61 ∷ 51 ∷ 53 ∷ 48 ∷ 1 ∷ 53 ∷ 57 ∷ 61 ∷ 48 ∷ 1 ∷ 54 ∷ 48 ∷ 61 ∷ 50 ∷ 48 ∷ 50 ∷ 54 ∷ 48 ∷ 49 ∷ 48 ∷ 53 ∷ 45 ∷ 48 ∷ 57 ∷ 58 ∷ 48 ∷ 48 ∷ 58 ∷ 48 ∷ 48 ∷ 1 ∷ 56 ∷ 48 ∷ 54 ∷ 48 ∷ 61 ∷ 49 ∷ 1 ∷ 49 ∷ 48 ∷ 57 ∷ 61 ∷ 49 ∷ 48 ∷ 1 ∷ 49 ∷ 48 ∷ 61 ∷ 50 ∷ 50 ∷ 57 ∷ 1 ∷ []
+buy5 = message "8=FIX.4.2|9=130|35=D|34=5|49=P|52=20260105-09:00:00|56=V|11=e|21=1|38=1200|40=2|44=0.100|47=A|54=1|55=350|59=0|60=20260105-09:00:00|8060=1|109=10|10=229|"
 
 -- each message is followed to its end, one step a call
 abbrev pub lived : List Call

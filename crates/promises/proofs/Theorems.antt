@@ -19,7 +19,7 @@ use Rattle.calls.specs.declared.SubmitAnswer.the-variants as submit-answer
 use Rattle.calls.specs.declared.RunAnswer.the-variants as run-answer
 use Rattle.calls.specs.Submit.{submitted}
 use Rattle.calls.specs.Run.{ran, runSteps}
-use Rattle.market.specs.declared.depth.DepthAnswer.the-variants as depth-answer
+use Rattle.market.specs.declared.DepthAnswer.the-variants as depth-answer
 use Rattle.market.specs.Depth.{depthAnswer}
 use Rattle.intake.proofs.Theorems.{submit-keeps}
 use Rattle.promises.specs.History.{Call, tableAfter, reportsAfter, stepsAfter, noSubmit}

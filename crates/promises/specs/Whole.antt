@@ -5,8 +5,8 @@ use Prim.Native.Nat.{ℕ, zero, suc, _+_}
 use Rattle.matching.specs.declared.Depth.{Depth}
 use Rattle.matching.specs.Matching.{openOf, isOpen, sumOver, countOf}
 use Rattle.table.specs.Orders.{filled, bookOf}
-use Rattle.market.specs.declared.depth.DepthAnswer.{DepthAnswer}
-use Rattle.market.specs.declared.depth.DepthAnswer.the-variants.{NoMarket, InWork, BadSide, Found}
+use Rattle.market.specs.declared.DepthAnswer.{DepthAnswer}
+use Rattle.market.specs.declared.DepthAnswer.the-variants.{NoMarket, InWork, BadSide, Found}
 use Rattle.market.specs.Depth.{depthAnswer}
 
 -- what is open of all orders, and how many orders have something open

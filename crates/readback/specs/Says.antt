@@ -5,6 +5,7 @@ use mathlib.Core.Path.{_≡_}
 use mathlib.Core.Bool.{cond}
 use mathlib.Core.List.{List, [], _∷_}
 use lib.Dec.{eqb}
+use Rattle.octets.specs.Characters.{byte}
 use Rattle.decimal.specs.Reading.{isDigit}
 use Rattle.matching.specs.Matching.{openOf}
 use Rattle.report.specs.declared.Value.{Value}
@@ -19,7 +20,7 @@ use Rattle.rows.specs.declared.Fill.{Fill}
 abbrev pub numberOf : Value → ℕ
 numberOf Absent = 0
 numberOf (Number n) = n
-numberOf (Char c) = cond (isDigit c) (c - 48) 0
+numberOf (Char c) = cond (isDigit c) (c - byte "0") 0
 numberOf (Word w x y z) = 0
 numberOf (Sent from len) = 0
 numberOf (Stored from len) = 0

@@ -103,10 +103,3 @@ module _ {area : List ℕ} {at : ℕ} (sent stored : List ℕ) (row : List Field
 pub version-bytes : 56 ∷ 61 ∷ 70 ∷ 73 ∷ 88 ∷ 46 ∷ 52 ∷ 46 ∷ 50 ∷ 1 ∷ [] ≡ written 8 version
 unfolding written label version decimal
 version-bytes = refl
-
--- ---- a function at equal arguments
-pub same-two : {A B C : Type 0} (g : A → B → C) {a a′ : A} {b b′ : B} → a ≡ a′ → b ≡ b′ → g a b ≡ g a′ b′
-same-two g {b = b} p q = ap (λ x. g x b) p ∙ ap (g _) q
-
-pub same-three : {A B C D : Type 0} (g : A → B → C → D) {a a′ : A} {b b′ : B} {c c′ : C} → a ≡ a′ → b ≡ b′ → c ≡ c′ → g a b c ≡ g a′ b′ c′
-same-three g {c = c} p q r = same-two (λ x y. g x y c) p q ∙ ap (g _ _) r

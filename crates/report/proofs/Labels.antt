@@ -1,7 +1,7 @@
 -- Whether a label stands at a place: from its last byte to the first; and that it stands where it was written.
 use Prim.Native.Nat.{ℕ, zero, suc, _+_, _-_, _/_, _%_, _^_, _≤_, _<_, zero-le}
 use mathlib.Core.Path.{_≡_, refl, sym, ap, _∙_}
-use mathlib.Core.Bool.{Bool, true, false, cond, _&&_, and-false, false≢true}
+use mathlib.Core.Bool.{Bool, true, false, cond, _&&_, and-true, and-false, false≢true}
 use mathlib.Core.List.{List, [], _∷_, _++_}
 use native.Mathlib.Omega.{arith}
 use native.Mathlib.Nat.{not-suc-le-zero}
@@ -39,10 +39,6 @@ starts-last [] d [] h = absurd (not-suc-le-zero h)
 starts-last [] d (b ∷ s) h = split (eqb b d) (λ e. rw e) (λ e. rw e)
 starts-last (a ∷ p) d [] h = absurd (not-suc-le-zero h)
 starts-last (a ∷ p) d (b ∷ s) h = split (eqb b a) (λ e. rw e (starts-last p d s (omega arith))) (λ e. rw e)
-
-and-true : (a : Bool) → (a && true) ≡ a
-and-true true = refl
-and-true false = refl
 
 -- what is still to be compared decides: i digits of m
 pub record Matching (s : List ℕ) (at tag k i m : ℕ) : Type 0 where

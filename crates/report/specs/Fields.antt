@@ -3,6 +3,8 @@
 use mathlib.Core.Bool.{Bool, true, false, cond}
 use mathlib.Core.List.{List, [], _∷_, _++_}
 use Prim.Native.Nat.{ℕ}
+use Prim.Native.String.{String}
+use Rattle.octets.specs.Characters.{bytes, byteAt, soh}
 use Rattle.octets.specs.Octets.{partAt}
 use Rattle.decimal.specs.Writing.{decimal, fixed}
 use Rattle.report.specs.declared.Value.{Value}
@@ -12,6 +14,10 @@ use Rattle.report.specs.declared.Field.{Field}
 -- a field with this tag and this value
 abbrev pub field : ℕ → Value → Field
 field t v = record { tag = t; value = v }
+
+-- a word of four characters
+abbrev pub word : String → Value
+word s = Word (byteAt s 0) (byteAt s 1) (byteAt s 2) (byteAt s 3)
 
 -- the value is not there
 abbrev pub isAbsent : Value → Bool
@@ -37,11 +43,11 @@ valueBytes sent stored (Mean mean) = fixed 6 mean
 
 -- a tag and `=`
 unfoldable pub label : ℕ → List ℕ
-label tag = decimal tag ++ (61 ∷ [])
+label tag = decimal tag ++ bytes "="
 
 -- a tag with a value, as they are written
 unfoldable pub written : ℕ → List ℕ → List ℕ
-written tag value = label tag ++ value ++ (1 ∷ [])
+written tag value = label tag ++ value ++ (soh ∷ [])
 
 -- a field; nothing where it is absent
 unfoldable pub fieldBytes : List ℕ → List ℕ → Field → List ℕ

@@ -5,6 +5,7 @@ use mathlib.Core.Bool.{Bool, true, false, cond, _&&_}
 use mathlib.Core.List.{List, [], _∷_}
 use lib.Dec.{ltb, eqb}
 use lib.ListN.{length, take, drop, replicate}
+use Rattle.octets.specs.Characters.{soh}
 use Rattle.report.specs.declared.Value.{Value}
 use Rattle.report.specs.declared.Value.the-variants.{Absent}
 use Rattle.report.specs.declared.Field.{Field}
@@ -27,7 +28,7 @@ starts (a ∷ p) (b ∷ s) = cond (eqb b a) (starts p s) false
 -- how many bytes stand before the first SOH
 abbrev pub lenTo : List ℕ → ℕ
 lenTo [] = 0
-lenTo (b ∷ s) = cond (eqb b 1) 0 (suc (lenTo s))
+lenTo (b ∷ s) = cond (eqb b soh) 0 (suc (lenTo s))
 
 -- a value that was picked, with the place behind it
 abbrev pub gotOf : Pick → ℕ → Got
@@ -79,9 +80,9 @@ rowOf bad = record { ok = false; next = 0; fields = noFields }
 -- how many bytes up to and with the next SOH
 unfoldable pub hop : List ℕ → ℕ
 hop [] = 0
-hop (b ∷ s) = cond (eqb b 1) 1 (suc (hop s))
+hop (b ∷ s) = cond (eqb b soh) 1 (suc (hop s))
 
 -- how many bytes stand before the first field that begins with the label; all where there is none. Fresh is: a field begins here
 unfoldable pub placeOf : List ℕ → Bool → List ℕ → ℕ
 placeOf lab fresh [] = 0
-placeOf lab fresh (b ∷ s) = cond (fresh && starts lab (b ∷ s)) 0 (suc (placeOf lab (eqb b 1) s))
+placeOf lab fresh (b ∷ s) = cond (fresh && starts lab (b ∷ s)) 0 (suc (placeOf lab (eqb b soh) s))

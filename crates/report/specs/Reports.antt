@@ -7,6 +7,7 @@ use mathlib.Core.List.{List, [], _∷_, _++_}
 use lib.Dec.{ltb, leb, eqb}
 use lib.ListN.{length, take, drop, getD}
 use Rattle.octets.specs.Octets.{sameBytes}
+use Rattle.octets.specs.Characters.{byte}
 use Rattle.report.specs.declared.Value.{Value}
 use Rattle.report.specs.declared.Value.the-variants.{Absent, Number, Char, Word, Sent, Stored, Level, Mean}
 use Rattle.report.specs.declared.Field.{Field}
@@ -71,16 +72,16 @@ readFramed s slots = inFrame s slots (bodyAt s)
 -- the execution report that 150 says
 unfoldable pub executionFor : ℕ → Kind
 executionFor b =
-    cond (eqb b 48) Accepted
-    (cond (eqb b 53) Replaced
-    (cond (eqb b 52) Canceled
-    (cond (eqb b 49) Trade
-    (cond (eqb b 50) Trade
-    (cond (eqb b 56) Rejected Refused)))))
+    cond (eqb b (byte "0")) Accepted
+    (cond (eqb b (byte "5")) Replaced
+    (cond (eqb b (byte "4")) Canceled
+    (cond (eqb b (byte "1")) Trade
+    (cond (eqb b (byte "2")) Trade
+    (cond (eqb b (byte "8")) Rejected Refused)))))
 
 -- the kind that 35 and 150 say
 unfoldable pub kindFor : ℕ → ℕ → Kind
-kindFor a b = cond (eqb a 51) SessionReject (cond (eqb a 57) CancelReject (cond (eqb a 56) (executionFor b) Refused))
+kindFor a b = cond (eqb a (byte "3")) SessionReject (cond (eqb a (byte "9")) CancelReject (cond (eqb a (byte "8")) (executionFor b) Refused))
 
 -- the first character of a tag's value, and 0 where there is none
 unfoldable pub firstOf : List ℕ → ℕ → ℕ

@@ -6,6 +6,7 @@ use mathlib.Core.List.{List, [], _∷_}
 use lib.Dec.{ltb, leb, eqb}
 use lib.ListN.{length, getD}
 use Rattle.octets.specs.Octets.{sameBytes}
+use Rattle.octets.specs.Characters.{bytes}
 use Rattle.decimal.specs.declared.Said.{Said}
 use Rattle.decimal.specs.declared.Said.the-variants.{Value as Says, Wrong as Says-not}
 use Rattle.decimal.specs.Reading.{numOf, isTime}
@@ -16,6 +17,7 @@ use Rattle.report.specs.declared.Shape.{Shape}
 use Rattle.report.specs.declared.Shape.the-variants as shape
 use Rattle.report.specs.declared.Pick.{Pick}
 use Rattle.report.specs.declared.Pick.the-variants.{Is, No}
+use Rattle.report.specs.Fields.{word}
 
 -- one of five characters
 unfoldable pub oneIn : ℕ → ℕ → ℕ → ℕ → ℕ → List ℕ → Pick
@@ -41,12 +43,12 @@ wordIn w x y z v = cond (sameBytes v (w ∷ x ∷ y ∷ z ∷ [])) (Is (Word w x
 
 -- an order's record, 1 to 255, or NONE
 unfoldable pub recordIn : List ℕ → Pick
-recordIn v = cond (sameBytes v (78 ∷ 79 ∷ 78 ∷ 69 ∷ [])) (Is (Word 78 79 78 69)) (numberIn (within 1 255 (bareOf 9 v)))
+recordIn v = cond (sameBytes v (bytes "NONE")) (Is (word "NONE")) (numberIn (within 1 255 (bareOf 9 v)))
 
 -- every byte lies from low to 7E hex
 abbrev pub allFrom : ℕ → List ℕ → Bool
 allFrom low [] = true
-allFrom low (b ∷ v) = cond (ltb b low) false (cond (ltb 126 b) false (allFrom low v))
+allFrom low (b ∷ v) = cond (ltb b low) false (cond (ltb 0x7e b) false (allFrom low v))
 
 -- 1 to most characters from low on
 unfoldable pub textIn : ℕ → ℕ → ℕ → List ℕ → Pick

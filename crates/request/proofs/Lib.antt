@@ -1,4 +1,7 @@
 -- The laws of `request`. Nothing here need be believed.
+-- Keys: a `match` on a tag against a list of tags; Judging: what a value of each shape says; Gathering: the walk over a body;
+-- Answers: from what was gathered to the answer; Told: what is known of a request that passed; Requests: the ranges of its
+-- numbers; Saying: the characters and places of its texts; Refusals: what a session Reject says.
 pub mod Keys
 pub mod Judging
 pub mod Gathering

@@ -6,6 +6,7 @@ use mathlib.Core.List.{List, [], _∷_}
 use mathlib.Core.Bool.{Bool, true, false, cond, not, _&&_, _||_}
 use lib.ListN.{length, getD}
 use lib.Dec.{ltb, leb, eqb}
+use Rattle.octets.specs.Characters.{byte, bytes}
 use Rattle.octets.specs.Octets.{partAt, sameBytes}
 use Rattle.decimal.specs.declared.Said.{Said}
 use Rattle.decimal.specs.declared.Said.the-variants.{Value, Wrong}
@@ -22,7 +23,7 @@ use Rattle.request.specs.declared.Verdict.{Verdict}
 -- the type that the value of 35 names
 unfoldable pub kindOf : List ℕ → Kind
 kindOf v =
-    cond (sameBytes v (68 ∷ [])) NewOrder (cond (sameBytes v (71 ∷ [])) Replacement (cond (sameBytes v (70 ∷ [])) Cancel Unknown))
+    cond (sameBytes v (bytes "D")) NewOrder (cond (sameBytes v (bytes "G")) Replacement (cond (sameBytes v (bytes "F")) Cancel Unknown))
 
 -- the tags that a message of the type needs, from the smallest up
 abbrev pub needed : Kind → List ℕ
@@ -73,16 +74,16 @@ shapeOf t =
     (cond (oneOf t (109 ∷ [])) (Amount 6)
     (cond (oneOf t (44 ∷ [])) Yield
     (cond (oneOf t (60 ∷ [])) Time
-    (cond (oneOf t (21 ∷ [])) (Among (49 ∷ []))
-    (cond (oneOf t (40 ∷ [])) (Among (50 ∷ []))
-    (cond (oneOf t (47 ∷ [])) (Among (65 ∷ 80 ∷ []))
-    (cond (oneOf t (54 ∷ [])) (Among (49 ∷ 50 ∷ []))
-    (cond (oneOf t (59 ∷ [])) (Among (48 ∷ 51 ∷ []))
-    (cond (oneOf t (8060 ∷ [])) (Among (49 ∷ 51 ∷ 52 ∷ 53 ∷ 54 ∷ [])) Unlisted))))))))))))
+    (cond (oneOf t (21 ∷ [])) (Among (bytes "1"))
+    (cond (oneOf t (40 ∷ [])) (Among (bytes "2"))
+    (cond (oneOf t (47 ∷ [])) (Among (bytes "AP"))
+    (cond (oneOf t (54 ∷ [])) (Among (bytes "12"))
+    (cond (oneOf t (59 ∷ [])) (Among (bytes "03"))
+    (cond (oneOf t (8060 ∷ [])) (Among (bytes "13456")) Unlisted))))))))))))
 
 -- the number that one character says: a digit itself, another its code
 unfoldable pub charSays : ℕ → ℕ
-charSays c = cond (isDigit c) (c - 48) c
+charSays c = cond (isDigit c) (c - byte "0") c
 
 -- digits, of whatever value: the place where they stand
 abbrev pub digitsAt : ℕ → Said → Judged

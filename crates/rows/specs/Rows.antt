@@ -1,13 +1,14 @@
 -- The seven kinds of report, each as its row of fields (document 01, "The reports"; source document 000, 7.2 and 7.5.1 to
 -- 7.5.4, without 110 and 797): the header's fields from 35 on, then the body's with their tags ascending; 8, 9 and 10 are the
 -- frame's. 34 and 17 are the report's number, 52 and 60 the causing message's 52; all of an order is taken after the event,
--- and its 38 is the quantity accepted, also after a decrement. Characters stand by their numbers: 48 to 57 are the digits 0 to 9.
--- Assumes nothing.
+-- and its 38 is the quantity accepted, also after a decrement. Assumes nothing.
 use mathlib.Core.Bool.{Bool, true, false, cond}
 use mathlib.Core.List.{List, [], _∷_, _++_}
 use Prim.Native.Nat.{ℕ, _+_, _-_, _%_}
+use Prim.Native.Char.{Char as Letter}
 use lib.Dec.{eqb, ltb}
 use lib.ListN.{length, replicate}
+use Rattle.octets.specs.Characters.{byte}
 use Rattle.decimal.specs.Writing.{meanOf}
 use Rattle.matching.specs.declared.Order.{Order}
 use Rattle.matching.specs.Matching.{openOf}
@@ -15,6 +16,7 @@ use Rattle.report.specs.declared.Place.{Place}
 use Rattle.report.specs.declared.Value.{Value}
 use Rattle.report.specs.declared.Value.the-variants.{Absent, Number, Char, Word, Sent, Stored, Level, Mean}
 use Rattle.report.specs.declared.Field.{Field}
+use Rattle.report.specs.Fields.{word}
 use Rattle.rows.specs.declared.Stamp.{Stamp}
 use Rattle.rows.specs.declared.Shown.{Shown}
 use Rattle.rows.specs.declared.Figures.{Figures}
@@ -39,16 +41,20 @@ text p = cond (p .sent) (Sent (p .start) (p .length)) (Stored (p .start) (p .len
 unfoldable pub orNumber : ℕ → Value
 orNumber n = cond (eqb n 0) Absent (Number n)
 
+-- one character
+abbrev pub char : Letter → Value
+char c = Char (byte c)
+
 -- a number of one digit as a character
 unfoldable pub digit : ℕ → Value
-digit n = Char (48 + n % 10)
+digit n = Char (byte "0" + n % 10)
 
 -- `DJGB` and `NONE`
 abbrev pub djgb : Value
-djgb = Word 68 74 71 66
+djgb = word "DJGB"
 
 abbrev pub nobody : Value
-nobody = Word 78 79 78 69
+nobody = word "NONE"
 
 -- 37 where there may be no order, which then is number 0
 unfoldable pub orNobody : ℕ → Value
@@ -127,17 +133,17 @@ header type s =
 -- Accepted
 unfoldable pub acceptedFields : Stamp → Shown → Figures → List Field
 acceptedFields s o g =
-    header 56 s
+    header (byte "8") s
     ++ (1 is o .account
     ∷ 6 is Mean (g .mean)
     ∷ 11 is o .id
     ∷ 14 is Number (o .order .executed)
     ∷ 17 is Number (s .number)
-    ∷ 20 is Char 48
+    ∷ 20 is char "0"
     ∷ 37 is Number (o .orderid)
     ∷ 38 is Number (orderQty (o .order))
-    ∷ 39 is Char 48
-    ∷ 40 is Char 50
+    ∷ 39 is char "0"
+    ∷ 40 is char "2"
     ∷ 44 is Level (o .order .level)
     ∷ 47 is Char (o .capacity)
     ∷ 54 is g .side
@@ -145,7 +151,7 @@ acceptedFields s o g =
     ∷ 59 is g .tif
     ∷ 60 is s .time
     ∷ 109 is g .client
-    ∷ 150 is Char 48
+    ∷ 150 is char "0"
     ∷ 151 is Number (g .left)
     ∷ 423 is Number 9
     ∷ 8060 is g .class
@@ -157,17 +163,17 @@ acceptedRow s o = acceptedFields s o (figuresOf o)
 -- Replaced, as requested or by a decrement
 unfoldable pub replacedFields : Stamp → Shown → Figures → Ground → List Field
 replacedFields s o g w =
-    header 56 s
+    header (byte "8") s
     ++ (1 is o .account
     ∷ 6 is Mean (g .mean)
     ∷ 11 is o .id
     ∷ 14 is Number (o .order .executed)
     ∷ 17 is Number (s .number)
-    ∷ 20 is Char 48
+    ∷ 20 is char "0"
     ∷ 37 is Number (o .orderid)
     ∷ 38 is Number (orderQty (o .order))
     ∷ 39 is g .replaced
-    ∷ 40 is Char 50
+    ∷ 40 is char "2"
     ∷ 41 is w .orig
     ∷ 44 is Level (o .order .level)
     ∷ 47 is Char (o .capacity)
@@ -176,7 +182,7 @@ replacedFields s o g w =
     ∷ 59 is g .tif
     ∷ 60 is s .time
     ∷ 109 is g .client
-    ∷ 150 is Char 53
+    ∷ 150 is char "5"
     ∷ 151 is Number (g .left)
     ∷ 378 is w .reason
     ∷ 423 is Number 9
@@ -189,17 +195,17 @@ replacedRow s o w = replacedFields s o (figuresOf o) w
 -- Canceled, as requested, by prevention, or an IOC's rest
 unfoldable pub canceledFields : Stamp → Shown → Figures → Ground → List Field
 canceledFields s o g w =
-    header 56 s
+    header (byte "8") s
     ++ (1 is o .account
     ∷ 6 is Mean (g .mean)
     ∷ 11 is o .id
     ∷ 14 is Number (o .order .executed)
     ∷ 17 is Number (s .number)
-    ∷ 20 is Char 48
+    ∷ 20 is char "0"
     ∷ 37 is Number (o .orderid)
     ∷ 38 is Number (orderQty (o .order))
-    ∷ 39 is Char 52
-    ∷ 40 is Char 50
+    ∷ 39 is char "4"
+    ∷ 40 is char "2"
     ∷ 41 is w .orig
     ∷ 44 is Level (o .order .level)
     ∷ 47 is Char (o .capacity)
@@ -208,7 +214,7 @@ canceledFields s o g w =
     ∷ 59 is g .tif
     ∷ 60 is s .time
     ∷ 109 is g .client
-    ∷ 150 is Char 52
+    ∷ 150 is char "4"
     ∷ 151 is Number (g .left)
     ∷ 378 is w .reason
     ∷ 423 is Number 9
@@ -221,19 +227,19 @@ canceledRow s o w = canceledFields s o (figuresOf o) w
 -- A Trade
 unfoldable pub tradeFields : Stamp → Shown → Figures → Fill → List Field
 tradeFields s o g f =
-    header 56 s
+    header (byte "8") s
     ++ (1 is o .account
     ∷ 6 is Mean (g .mean)
     ∷ 11 is o .id
     ∷ 14 is Number (o .order .executed)
     ∷ 17 is Number (s .number)
-    ∷ 20 is Char 48
+    ∷ 20 is char "0"
     ∷ 31 is Level (f .level)
     ∷ 32 is Number (f .quantity)
     ∷ 37 is Number (o .orderid)
     ∷ 38 is Number (orderQty (o .order))
     ∷ 39 is g .traded
-    ∷ 40 is Char 50
+    ∷ 40 is char "2"
     ∷ 44 is Level (o .order .level)
     ∷ 47 is Char (o .capacity)
     ∷ 54 is g .side
@@ -257,26 +263,26 @@ tradeRow s o f = tradeFields s o (figuresOf o) f
 -- Rejected
 unfoldable pub rejectedRow : Stamp → Refused → List Field
 rejectedRow s q =
-    header 56 s
+    header (byte "8") s
     ++ (6 is Mean (meanOf 0 0)
     ∷ 11 is text (q .id)
     ∷ 14 is Number 0
     ∷ 17 is Number (s .number)
-    ∷ 20 is Char 48
+    ∷ 20 is char "0"
     ∷ 37 is nobody
     ∷ 38 is Number (q .quantity)
-    ∷ 39 is Char 56
+    ∷ 39 is char "8"
     ∷ 54 is digit (q .side)
     ∷ 55 is text (q .code)
     ∷ 103 is Number (q .reason)
-    ∷ 150 is Char 56
+    ∷ 150 is char "8"
     ∷ 151 is Number 0
     ∷ [])
 
 -- A Cancel reject
 unfoldable pub cancelRejectRow : Stamp → Unchanged → List Field
 cancelRejectRow s u =
-    header 57 s
+    header (byte "9") s
     ++ (11 is text (u .id)
     ∷ 37 is orNobody (u .orderid)
     ∷ 39 is digit (u .status)
@@ -288,7 +294,7 @@ cancelRejectRow s u =
 -- A Session Reject
 unfoldable pub sessionRejectRow : Stamp → Faulty → List Field
 sessionRejectRow s f =
-    header 51 s
+    header (byte "3") s
     ++ (45 is Number (f .sequence)
     ∷ 371 is Number (f .tag)
     ∷ 372 is text (f .kind)

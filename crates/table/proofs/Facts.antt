@@ -13,6 +13,7 @@ use Rattle.octets.specs.Octets.{sameBytes}
 use Rattle.octets.specs.Tests.{allUpTo}
 use Rattle.octets.proofs.Bools.{split, both-i, both-l, both-r, or-l, or-r}
 use Rattle.octets.proofs.Ranges.{all-at, all-from}
+use Rattle.octets.proofs.Searches.{upto-at, upto-from, record-at, record-from}
 use Rattle.matching.specs.declared.Order.{Order}
 use Rattle.matching.specs.Matching.{Book, none, at, openOf, isBuy, isOpen, crosses, opposedTo}
 use Rattle.matching.specs.Held.{Sound, In, Held}
@@ -112,14 +113,6 @@ order-clear o r h =
 
 -- ---- the book
 
--- a test of all numbers from 1 to n
-pub upto-at : (f : ℕ → Bool) (n : ℕ) → allUpTo (λ k. f (suc k)) n ≡ true → (k : ℕ) → 1 ≤ k → k ≤ n → f k ≡ true
-upto-at f n h zero l m = absurd (omega arith)
-upto-at f n h (suc k) l m = all-at (λ j. f (suc j)) n h k m
-
-pub upto-from : (f : ℕ → Bool) (n : ℕ) → ((k : ℕ) → 1 ≤ k → k ≤ n → f k ≡ true) → allUpTo (λ k. f (suc k)) n ≡ true
-upto-from f n h = all-from (λ j. f (suc j)) n (λ k l. h (suc k) (omega arith) l)
-
 module _ (b : Book) (w next : ℕ) where
   work-or : (k : ℕ) (x : Bool) → (eqb k w || x) ≡ true → (k ≡ w → ⊥) → x ≡ true
   work-or k x h n = or-r (eqb k w) x h (ne-eqb k w n)
@@ -215,15 +208,6 @@ ioc-in b (suc k) e = (
 )
 
 -- ---- the table
-
--- a test of all records from 1 to n
-pub record-at : (f : ℕ → Bool) (n : ℕ) → allUpTo (λ k. f (k + 1)) n ≡ true → (i : ℕ) → 1 ≤ i → i ≤ n → f i ≡ true
-record-at f n h i l m =
-    let e : i - 1 + 1 ≡ i = omega arith in
-    rw e at (all-at (λ k. f (k + 1)) n h (i - 1) (omega arith))
-
-pub record-from : (f : ℕ → Bool) (n : ℕ) → ((i : ℕ) → 1 ≤ i → i ≤ n → f i ≡ true) → allUpTo (λ k. f (k + 1)) n ≡ true
-record-from f n h = all-from (λ k. f (k + 1)) n (λ k l. h (k + 1) (omega arith) (omega arith))
 
 module _ (t : List ℕ) where
   id-facts : hasIds t ≡ true → (j k : ℕ) → 1 ≤ j → j < k → k ≤ filled t → sameBytes (clOrdIdAt t j) (clOrdIdAt t k) ≡ false

@@ -18,7 +18,7 @@ use Rattle.table.specs.Heading.{nextOf, workOf, isListed}
 use Rattle.table.specs.Orders.{clOrdIdAt, orderAt, isFree, filled, bookOf}
 use Rattle.table.specs.Market.{isText, hasSettings, hasWork, hasSpare, restZero, isRecord}
 use Rattle.table.specs.Facts.{Market}
-use Rattle.table.proofs.Searches.{first-before, first-is, first-holds}
+use Rattle.octets.proofs.Searches.{first-before, first-is, first-holds}
 use Rattle.table.proofs.Same.{Same, same-in, same-then, put-below, put-above, order-same, record-parts, rest-same, id-same, settings-same, spare-same, listed-same, filled-few}
 
 pub record Framed (t u : List ℕ) : Type 0 where

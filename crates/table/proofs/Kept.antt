@@ -29,7 +29,7 @@ use Rattle.table.specs.Orders.{orderAt, filled, bookOf, termBytes, putId
 use Rattle.table.specs.Market.{every, isPrintable, isEntry, hasList, hasSettings, hasWork, isCapacity, isClass}
 use Rattle.table.specs.Facts.{Market, Named}
 use Rattle.table.specs.Changes.{played, stepEvents, numbered, stepped, entered, renewed, taken}
-use Rattle.table.proofs.Searches.{first-holds}
+use Rattle.octets.proofs.Searches.{first-holds}
 use Rattle.table.proofs.Same.{Same, same-in, same-then, put-below, put-above, next-same, work-same}
 use Rattle.table.proofs.Stores.{Terms, Sized, next-got, work-got}
 use Rattle.table.proofs.Books.{length-book, at-book}

@@ -1,5 +1,11 @@
 -- The laws of `table`, for the proofs of this crate and of those above it. Nothing here need be believed.
-pub mod Searches
+-- Loaded: an order as the loader reads it; Same: what is read depends on the bytes it is read from; Stores: what stands
+-- after a store; Writes: parts of a record make the record; Books: the book of a table; Lookups: searches over the
+-- records; Facts: the test of a market as facts; Listed: the MPIDs; Frames: all but number, work and amounts; Applied:
+-- stores against events; Texts: texts put; Events: applying an event; Working: the order in work; Naming: a record takes
+-- another ClOrdID; Entering: a record is added; Settings: settings tested and written; Kept: a market stays a market;
+-- Opens: opening makes one; Promises: what a market says of its texts; Theorems: what people read.
+pub mod Loaded
 pub mod Same
 pub mod Stores
 pub mod Writes

@@ -12,7 +12,7 @@ use lib.ListN.{length}
 use borrow.Author.Tests.{le-ltb, lt-ltb, ltb-false, ltb-true, ne-eqb}
 use Rattle.octets.specs.Octets.{sameBytes}
 use Rattle.octets.proofs.Parts.{same-is}
-use Rattle.table.proofs.Searches.{first-before, first-holds}
+use Rattle.octets.proofs.Searches.{first-before, first-holds}
 use Rattle.octets.specs.Tests.{firstFrom}
 use Rattle.octets.proofs.Bools.{split}
 use Rattle.octets.proofs.Ranges.{Sought, sought-here, sought-end}

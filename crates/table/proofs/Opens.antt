@@ -25,7 +25,7 @@ use Rattle.table.specs.Orders.{filled, ordersFrom, bookOf}
 use Rattle.table.specs.Market.{isGraphic, hasNames, isEntry, hasList, hasSettings, hasSpare, restZero, isMarket}
 use Rattle.table.specs.Facts.{Market}
 use Rattle.table.specs.Opened.{isNew, areGiven, areNames, areSettings, namedTable, freshTable, isOpening, opened}
-use Rattle.table.proofs.Searches.{all-ext, first-is}
+use Rattle.octets.proofs.Searches.{all-ext, first-is}
 use Rattle.table.proofs.Same.{Same, same-in, same-then, put-below, le-same, is-text-same, next-same}
 use Rattle.table.proofs.Stores.{next-got}
 use Rattle.table.proofs.Texts.{is-text-put}

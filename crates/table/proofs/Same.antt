@@ -19,7 +19,7 @@ use Rattle.table.specs.Places.{recordAt}
 use Rattle.table.specs.Heading.{nextOf, workOf, mpidAt, modeAt, entries, entryOf, isListed, modeOf}
 use Rattle.table.specs.Orders.{clOrdIdAt, orderAt, isFree, filled, ordersFrom, bookOf}
 use Rattle.table.specs.Market.{isGraphic, isPrintable, isPadded, isText, hasNames, isEntry, hasList, hasSettings, hasSpare, isRecord, isKnown}
-use Rattle.table.proofs.Searches.{all-ext, first-ext, first-high}
+use Rattle.octets.proofs.Searches.{all-ext, first-ext, first-high}
 
 -- two tables are of one length and agree on the bytes from p up to e
 pub record Same (t u : List ℕ) (p e : ℕ) : Type 0 where

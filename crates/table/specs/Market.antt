@@ -8,6 +8,7 @@ use Prim.Native.Nat.{ℕ, suc, _+_, _*_, _-_}
 use lib.Dec.{eqb, leb, ltb}
 use lib.ListN.{length, getD, drop}
 use Rattle.octets.specs.Octets.{partAt, textAt, sameBytes, allZero}
+use Rattle.octets.specs.Characters.{byte}
 use Rattle.octets.specs.Tests.{allUpTo}
 use Rattle.decimal.specs.Reading.{isDigit, isTime}
 use Rattle.matching.specs.declared.Order.{Order}
@@ -29,10 +30,10 @@ isBetween low high x = leb low x && leb x high
 
 -- a character of a venue or port id, 21 to 7E hex, and one of a ClOrdID or an account, 20 to 7E hex
 abbrev pub isGraphic : ℕ → Bool
-isGraphic x = isBetween 33 126 x
+isGraphic x = isBetween 0x21 0x7e x
 
 abbrev pub isPrintable : ℕ → Bool
-isPrintable x = isBetween 32 126 x
+isPrintable x = isBetween 0x20 0x7e x
 
 -- zeros stand behind the text at place p, up to its room for n characters
 unfoldable pub isPadded : ℕ → List ℕ → ℕ → Bool
@@ -91,7 +92,7 @@ restZero t = allZero (drop (recordAt (filled t + 1)) t)
 
 -- a capacity, A or P, and a classification, 1, 3, 4, 5 or 6
 unfoldable pub isCapacity : ℕ → Bool
-isCapacity c = eqb c 65 || eqb c 80
+isCapacity c = eqb c (byte "A") || eqb c (byte "P")
 
 unfoldable pub isClass : ℕ → Bool
 isClass c = eqb c 1 || (leb 3 c && leb c 6)

@@ -6,6 +6,7 @@ ghost use Rattle.matching.specs.Matching.{best, choose, countOf, opposed};
 ghost use Rattle.table.specs.Places.{tableBytes};
 ghost use Rattle.table.specs.Orders.{filled, bookOf, recordWith};
 ghost use Rattle.table.specs.Facts.{Market};
+use crate::places;
 use crate::record::load;
 use matching::Order;
 
@@ -15,8 +16,8 @@ pub fn filled(t: &[u8]) -> usize
     ensures { λ r. ⌜ (r ≡ filled (now (t .entry))) × (r ≤ 255) ⌝ }
 {
     let mut k = 0;
-    while k < 255 {
-        if t[128 * (k + 1)] == 0 {
+    while k < places::MOST_ORDERS {
+        if t[places::RECORD * (k + 1)] == 0 {
             return k;
         }
         k += 1;
@@ -31,7 +32,7 @@ pub fn find_id(t: &[u8], n: usize, m: &[u8]) -> usize
 {
     let mut k = 0;
     while k < n {
-        if octets::text_is(t, 128 * (k + 1), m) {
+        if octets::text_is(t, places::RECORD * (k + 1), m) {
             return k + 1;
         }
         k += 1;

@@ -4,13 +4,14 @@ ghost use Prim.Native.Nat.{_≤_, _<_};
 ghost use lib.ListN.{length};
 ghost use Rattle.table.specs.Places.{tableBytes};
 ghost use Rattle.table.specs.Heading.{mpidAt, modeAt, entries, entryOf, isListed, modeOf};
+use crate::places;
 
 // The MPID of entry k.
 pub fn mpid_at(t: &[u8], k: usize) -> u64
     requires { ⌜ (length (now t) ≡ tableBytes) × (k < 8) ⌝ }
     ensures { λ r. ⌜ (r ≡ mpidAt (now (t .entry)) k) × (r < 4294967296) ⌝ }
 {
-    octets::le_at(t, 56 + 4 * k, 4)
+    octets::le_at(t, places::MPIDS + 4 * k, 4)
 }
 
 // The mode of entry k.
@@ -18,7 +19,7 @@ pub fn mode_at(t: &[u8], k: usize) -> u64
     requires { ⌜ (length (now t) ≡ tableBytes) × (k < 8) ⌝ }
     ensures { λ r. ⌜ (r ≡ modeAt (now (t .entry)) k) × (r < 256) ⌝ }
 {
-    octets::wide(t[88 + k])
+    octets::wide(t[places::MODES + k])
 }
 
 // The number of entries.
@@ -27,7 +28,7 @@ pub fn entries(t: &[u8]) -> usize
     ensures { λ r. ⌜ (r ≡ entries (now (t .entry))) × (r ≤ 8) ⌝ }
 {
     let mut k = 0;
-    while k < 8 {
+    while k < places::MOST_MPIDS {
         if mpid_at(t, k) == 0 {
             return k;
         }

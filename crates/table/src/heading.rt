@@ -4,33 +4,34 @@ ghost use Prim.Native.Nat.{_≤_, _<_};
 ghost use lib.ListN.{length};
 ghost use Rattle.table.specs.Places.{tableBytes};
 ghost use Rattle.table.specs.Heading.{venueOf, portOf, codeOf, nextOf, workOf, stampOf, putNext, putWork, endWork};
+use crate::places;
 
 // The venue id.
 pub fn venue(t: &[u8]) -> &[u8]
     ensures { λ r. ⌜ now r ≡ venueOf (now (t .entry)) ⌝ }
 {
-    octets::text_at(t, 0)
+    octets::text_at(t, places::VENUE)
 }
 
 // The port id.
 pub fn port(t: &[u8]) -> &[u8]
     ensures { λ r. ⌜ now r ≡ portOf (now (t .entry)) ⌝ }
 {
-    octets::text_at(t, 9)
+    octets::text_at(t, places::PORT)
 }
 
 // The bond code.
 pub fn code(t: &[u8]) -> &[u8]
     ensures { λ r. ⌜ now r ≡ codeOf (now (t .entry)) ⌝ }
 {
-    octets::text_at(t, 18)
+    octets::text_at(t, places::CODE)
 }
 
 // The 52 of the message whose order is in work.
 pub fn stamp(t: &[u8]) -> &[u8]
     ensures { λ r. ⌜ now r ≡ stampOf (now (t .entry)) ⌝ }
 {
-    octets::text_at(t, 33)
+    octets::text_at(t, places::STAMP)
 }
 
 // The next report number.
@@ -38,7 +39,7 @@ pub fn next(t: &[u8]) -> u64
     requires { ⌜ length (now t) ≡ tableBytes ⌝ }
     ensures { λ r. ⌜ r ≡ nextOf (now (t .entry)) ⌝ }
 {
-    octets::le_at(t, 28, 4)
+    octets::le_at(t, places::NEXT, 4)
 }
 
 // The number of the order in work, 0 for none.
@@ -46,7 +47,7 @@ pub fn work(t: &[u8]) -> usize
     requires { ⌜ length (now t) ≡ tableBytes ⌝ }
     ensures { λ r. ⌜ (r ≡ workOf (now (t .entry))) × (r < 256) ⌝ }
 {
-    octets::wide(t[32]) as usize
+    octets::wide(t[places::WORK]) as usize
 }
 
 // Sets the next report number.
@@ -54,7 +55,7 @@ pub fn put_next(t: &mut [u8], n: u64)
     requires { ⌜ length (now t) ≡ tableBytes ⌝ }
     ensures { λ _. ⌜ now (t .exit) ≡ putNext (now (t .entry)) n ⌝ }
 {
-    octets::put_le(t, 28, 4, n);
+    octets::put_le(t, places::NEXT, 4, n);
 }
 
 // Puts order w in work, with the 52 of its message.
@@ -62,8 +63,8 @@ pub fn put_work(t: &mut [u8], w: u8, stamp: &[u8])
     requires { ⌜ (length (now t) ≡ tableBytes) × (length (now stamp) ≤ 21) ⌝ }
     ensures { λ _. ⌜ now (t .exit) ≡ putWork (now (t .entry)) w (now (stamp .entry)) ⌝ }
 {
-    t[32] = w;
-    octets::put_text(t, 33, 21, stamp);
+    t[places::WORK] = w;
+    octets::put_text(t, places::STAMP, places::STAMP_ROOM, stamp);
 }
 
 // Ends the work: nothing is in work, and the 52 is zeros.
@@ -71,5 +72,5 @@ pub fn end_work(t: &mut [u8])
     requires { ⌜ length (now t) ≡ tableBytes ⌝ }
     ensures { λ _. ⌜ now (t .exit) ≡ endWork (now (t .entry)) ⌝ }
 {
-    octets::put_zeros(t, 32, 23);
+    octets::put_zeros(t, places::WORK, places::WORK_BYTES);
 }

@@ -4,4 +4,5 @@ pub mod entries;
 pub mod event;
 pub mod heading;
 pub mod opening;
+pub mod places;
 pub mod record;

@@ -8,6 +8,7 @@ ghost use Rattle.table.specs.Heading.{putMpids, putModes};
 ghost use Rattle.table.specs.Market.{every, isBetween};
 ghost use Rattle.table.specs.Opened.{isName, isNew, isGiven, areGiven, areNames, areSettings, namedTable, freshTable, opened, openNumber};
 use crate::heading::put_next;
+use crate::places;
 
 // Whether every byte is from low to high.
 pub fn all_between(s: &[u8], low: u8, high: u8) -> bool
@@ -35,7 +36,9 @@ fn is_name(s: &[u8], room: usize, low: u8, high: u8) -> bool
 fn are_names(venue: &[u8], port: &[u8], code: &[u8]) -> bool
     ensures { λ r. ⌜ r ≡ areNames (now (venue .entry)) (now (port .entry)) (now (code .entry)) ⌝ }
 {
-    is_name(venue, 8, 33, 126) & is_name(port, 8, 33, 126) & is_name(code, 9, 48, 57)
+    is_name(venue, places::ID_ROOM, 33, 126)
+        & is_name(port, places::ID_ROOM, 33, 126)
+        & is_name(code, places::CODE_ROOM, 48, 57)
 }
 
 // Whether no MPID before entry k is that of entry k.
@@ -69,7 +72,7 @@ fn are_given(mpids: &[u64], modes: &[u64]) -> bool
     ensures { λ r. ⌜ r ≡ areGiven (now (mpids .entry)) (now (modes .entry)) ⌝ }
 {
     let n = mpids.len();
-    if !((1 <= n) & (n <= 8) & (modes.len() == n)) {
+    if !((1 <= n) & (n <= places::MOST_MPIDS) & (modes.len() == n)) {
         return false;
     }
     let mut k = 0;
@@ -89,7 +92,7 @@ fn put_mpids(t: &mut [u8], mpids: &[u64])
 {
     let mut k = 0;
     while k < mpids.len() {
-        octets::put_le(t, 56 + 4 * k, 4, mpids[k]);
+        octets::put_le(t, places::MPIDS + 4 * k, 4, mpids[k]);
         k += 1;
     }
 }
@@ -101,7 +104,7 @@ fn put_modes(t: &mut [u8], modes: &[u64])
 {
     let mut k = 0;
     while k < modes.len() {
-        t[88 + k] = modes[k] as u8;
+        t[places::MODES + k] = modes[k] as u8;
         k += 1;
     }
 }
@@ -126,9 +129,9 @@ fn write_names(t: &mut [u8], venue: &[u8], port: &[u8], code: &[u8])
     ensures { λ _. ⌜ now (t .exit) ≡ namedTable (now (venue .entry)) (now (port .entry)) (now (code .entry)) ⌝ }
 {
     octets::clear(t);
-    octets::put_text(t, 0, 8, venue);
-    octets::put_text(t, 9, 8, port);
-    octets::put_text(t, 18, 9, code);
+    octets::put_text(t, places::VENUE, places::ID_ROOM, venue);
+    octets::put_text(t, places::PORT, places::ID_ROOM, port);
+    octets::put_text(t, places::CODE, places::CODE_ROOM, code);
 }
 
 // Writes the whole table.
@@ -162,7 +165,7 @@ pub fn open_table(
 ) -> u64
     ensures { λ r. ⌜ (r ≡ openNumber (now (t .entry)) (now (venue .entry)) (now (port .entry)) (now (code .entry)) first (now (mpids .entry)) (now (modes .entry))) × (now (t .exit) ≡ opened (now (t .entry)) (now (venue .entry)) (now (port .entry)) (now (code .entry)) first (now (mpids .entry)) (now (modes .entry))) ⌝ }
 {
-    if t.len() != 32768 {
+    if t.len() != places::TABLE {
         return 9;
     }
     if !are_settings(venue, port, code, first, mpids, modes) {

@@ -3,9 +3,11 @@ ghost use mathlib.Core.Path.{_≡_};
 ghost use Prim.Native.Nat.{_+_, _*_, _≤_, _<_};
 ghost use mathlib.Core.List.{[], _∷_};
 ghost use lib.ListN.{length};
-ghost use Rattle.octets.specs.Octets.{put};
+ghost use Rattle.octets.specs.Octets.{leAt, put};
+ghost use Rattle.matching.specs.Matching.{isOpen, isBuy};
 ghost use Rattle.table.specs.Places.{tableBytes};
 ghost use Rattle.table.specs.Orders.{clOrdIdAt, accountAt, capacityAt, classificationAt, orderAt, termBytes, amountBytes, fieldBytes, putId, putTerms, putAmounts, accepted};
+use crate::places;
 use matching::Order;
 
 // The ClOrdID of record i.
@@ -13,7 +15,7 @@ pub fn clordid(t: &[u8], i: usize) -> &[u8]
     requires { ⌜ i < 256 ⌝ }
     ensures { λ r. ⌜ now r ≡ clOrdIdAt (now (t .entry)) i ⌝ }
 {
-    octets::text_at(t, 128 * i)
+    octets::text_at(t, places::RECORD * i)
 }
 
 // The account of record i, empty for none.
@@ -21,7 +23,7 @@ pub fn account(t: &[u8], i: usize) -> &[u8]
     requires { ⌜ i < 256 ⌝ }
     ensures { λ r. ⌜ now r ≡ accountAt (now (t .entry)) i ⌝ }
 {
-    octets::text_at(t, 128 * i + 33)
+    octets::text_at(t, places::RECORD * i + places::ACCOUNT)
 }
 
 // The capacity of record i, a character.
@@ -29,7 +31,7 @@ pub fn capacity(t: &[u8], i: usize) -> u64
     requires { ⌜ (length (now t) ≡ tableBytes) × (i < 256) ⌝ }
     ensures { λ r. ⌜ (r ≡ capacityAt (now (t .entry)) i) × (r < 256) ⌝ }
 {
-    octets::wide(t[128 * i + 46])
+    octets::wide(t[places::RECORD * i + places::CAPACITY])
 }
 
 // The classification of record i, a number.
@@ -37,27 +39,87 @@ pub fn classification(t: &[u8], i: usize) -> u64
     requires { ⌜ (length (now t) ≡ tableBytes) × (i < 256) ⌝ }
     ensures { λ r. ⌜ (r ≡ classificationAt (now (t .entry)) i) × (r < 256) ⌝ }
 {
-    octets::wide(t[128 * i + 47])
+    octets::wide(t[places::RECORD * i + places::CLASS])
 }
 
-// Record i as an order.
+// The number whose four bytes start at place p. The four are added up with no loop between them, so that the compiler reads them as one.
+pub fn four_at(t: &[u8], p: usize) -> u64
+    requires { ⌜ p + 4 ≤ length (now t) ⌝ }
+    ensures { λ r. ⌜ (r ≡ leAt 4 (now (t .entry)) p) × (r < 4294967296) ⌝ }
+{
+    let a = octets::wide(t[p]);
+    let b = octets::wide(t[p + 1]);
+    let c = octets::wide(t[p + 2]);
+    let d = octets::wide(t[p + 3]);
+    a + 256 * b + 65536 * c + 16777216 * d
+}
+
+// The sum of record i, by its two halves.
+fn sum_at(t: &[u8], i: usize) -> u64
+    requires { ⌜ (length (now t) ≡ tableBytes) × (i < 256) ⌝ }
+    ensures { λ r. ⌜ r ≡ orderAt (now (t .entry)) i .sum ⌝ }
+{
+    let b = places::RECORD * i;
+    let low = four_at(t, b + places::SUM);
+    let high = four_at(t, b + places::SUM_HIGH);
+    low + 4294967296 * high
+}
+
+// Record i as an order. It is small enough that the compiler takes it apart where it is used, and reads only what is looked at.
 pub fn load(t: &[u8], i: usize) -> Order
     requires { ⌜ (length (now t) ≡ tableBytes) × (i < 256) ⌝ }
     ensures { λ r. ⌜ r ≡ orderAt (now (t .entry)) i ⌝ }
 {
-    let b = 128 * i;
+    let b = places::RECORD * i;
     Order {
-        side: octets::wide(t[b + 44]),
-        tif: octets::wide(t[b + 45]),
-        level: octets::le_at(t, b + 48, 4),
-        qty: octets::le_at(t, b + 52, 4),
-        executed: octets::le_at(t, b + 72, 4),
-        decremented: octets::le_at(t, b + 76, 4),
-        canceled: octets::le_at(t, b + 80, 4),
-        sum: octets::le_at(t, b + 64, 8),
-        place: octets::le_at(t, b + 56, 4),
-        mpid: octets::le_at(t, b + 60, 4),
+        side: octets::wide(t[b + places::SIDE]),
+        tif: octets::wide(t[b + places::TIF]),
+        level: four_at(t, b + places::LEVEL),
+        qty: four_at(t, b + places::QTY),
+        executed: four_at(t, b + places::EXECUTED),
+        decremented: four_at(t, b + places::DECREMENTED),
+        canceled: four_at(t, b + places::CANCELED),
+        sum: sum_at(t, i),
+        place: four_at(t, b + places::PLACE),
+        mpid: four_at(t, b + places::MPID),
     }
+}
+
+// Whether record i is open, by the numbers that say it.
+pub fn open_at(t: &[u8], i: usize) -> bool
+    requires { ⌜ (length (now t) ≡ tableBytes) × (i < 256) ⌝ }
+    ensures { λ r. ⌜ r ≡ isOpen (orderAt (now (t .entry)) i) ⌝ }
+{
+    let b = places::RECORD * i;
+    let executed = four_at(t, b + places::EXECUTED);
+    let decremented = four_at(t, b + places::DECREMENTED);
+    let canceled = four_at(t, b + places::CANCELED);
+    let qty = four_at(t, b + places::QTY);
+    executed + decremented + canceled < qty
+}
+
+// Whether record i is a buy.
+pub fn buys_at(t: &[u8], i: usize) -> bool
+    requires { ⌜ (length (now t) ≡ tableBytes) × (i < 256) ⌝ }
+    ensures { λ r. ⌜ r ≡ isBuy (orderAt (now (t .entry)) i) ⌝ }
+{
+    octets::wide(t[places::RECORD * i + places::SIDE]) == 1
+}
+
+// The level of record i.
+pub fn level_at(t: &[u8], i: usize) -> u64
+    requires { ⌜ (length (now t) ≡ tableBytes) × (i < 256) ⌝ }
+    ensures { λ r. ⌜ (r ≡ orderAt (now (t .entry)) i .level) × (r < 4294967296) ⌝ }
+{
+    four_at(t, places::RECORD * i + places::LEVEL)
+}
+
+// The place of record i.
+pub fn place_at(t: &[u8], i: usize) -> u64
+    requires { ⌜ (length (now t) ≡ tableBytes) × (i < 256) ⌝ }
+    ensures { λ r. ⌜ (r ≡ orderAt (now (t .entry)) i .place) × (r < 4294967296) ⌝ }
+{
+    four_at(t, places::RECORD * i + places::PLACE)
 }
 
 // Writes the terms of an order from place p on.
@@ -108,7 +170,7 @@ pub fn put_id(t: &mut [u8], i: usize, clordid: &[u8])
     requires { ⌜ (length (now t) ≡ tableBytes) × (i < 256) × (length (now clordid) ≤ 32) ⌝ }
     ensures { λ _. ⌜ now (t .exit) ≡ putId (now (t .entry)) i (now (clordid .entry)) ⌝ }
 {
-    octets::put_text(t, 128 * i, 32, clordid);
+    octets::put_text(t, places::RECORD * i, places::CL_ORD_ID_ROOM, clordid);
 }
 
 // Sets the terms of record i: level, OrderQty, place.
@@ -116,7 +178,7 @@ pub fn put_terms(t: &mut [u8], i: usize, o: Order)
     requires { ⌜ (length (now t) ≡ tableBytes) × (i < 256) ⌝ }
     ensures { λ _. ⌜ now (t .exit) ≡ putTerms (now (t .entry)) i o ⌝ }
 {
-    write_terms(t, 128 * i + 48, o);
+    write_terms(t, places::RECORD * i + places::LEVEL, o);
 }
 
 // Sets the amounts of record i: sum, executed, decremented, canceled.
@@ -124,7 +186,7 @@ pub fn put_amounts(t: &mut [u8], i: usize, o: Order)
     requires { ⌜ (length (now t) ≡ tableBytes) × (i < 256) ⌝ }
     ensures { λ _. ⌜ now (t .exit) ≡ putAmounts (now (t .entry)) i o ⌝ }
 {
-    write_amounts(t, 128 * i + 64, o);
+    write_amounts(t, places::RECORD * i + places::SUM, o);
 }
 
 // Writes a new order as record i.
@@ -140,7 +202,12 @@ pub fn accept(
     requires { ⌜ (length (now t) ≡ tableBytes) × (i < 256) × (length (now clordid) ≤ 32) × (length (now account) ≤ 10) × (o .side < 256) × (o .tif < 256) ⌝ }
     ensures { λ _. ⌜ now (t .exit) ≡ accepted (now (t .entry)) i (now (clordid .entry)) (now (account .entry)) capacity class o ⌝ }
 {
-    octets::put_text(t, 128 * i, 32, clordid);
-    octets::put_text(t, 128 * i + 33, 10, account);
-    write_fields(t, 128 * i + 44, capacity, class, o);
+    octets::put_text(t, places::RECORD * i, places::CL_ORD_ID_ROOM, clordid);
+    octets::put_text(
+        t,
+        places::RECORD * i + places::ACCOUNT,
+        places::ACCOUNT_ROOM,
+        account,
+    );
+    write_fields(t, places::RECORD * i + places::SIDE, capacity, class, o);
 }

@@ -19,6 +19,7 @@ use rows::Fill;
 use rows::Ground;
 use rows::Shown;
 use rows::Stamp;
+use table::places;
 
 // The message that causes a report: where its 52 stands, and its 41 (empty for none).
 pub struct Cause {
@@ -52,8 +53,8 @@ pub fn stamp_on(t: &[u8], n: u64, time: Place) -> Stamp
     ensures { λ r. ⌜ r ≡ stampOn (now (t .entry)) n time ⌝ }
 {
     let when = rows::text(time);
-    let venue = stored_at(t, 0);
-    let port = stored_at(t, 9);
+    let venue = stored_at(t, places::VENUE);
+    let port = stored_at(t, places::PORT);
     Stamp {
         number: n,
         time: when,
@@ -67,12 +68,12 @@ pub fn shown_on(t: &[u8], i: usize) -> Shown
     requires { ⌜ (length (now t) ≡ tableBytes) × (i < 256) ⌝ }
     ensures { λ r. ⌜ r ≡ shownOn (now (t .entry)) i ⌝ }
 {
-    let capacity = t[128 * i + 46];
+    let capacity = t[places::RECORD * i + places::CAPACITY];
     let order = table::record::load(t, i);
     let class = table::record::classification(t, i);
-    let code = stored_at(t, 18);
-    let id = stored_at(t, 128 * i);
-    let account = or_stored_at(t, 128 * i + 33);
+    let code = stored_at(t, places::CODE);
+    let id = stored_at(t, places::RECORD * i);
+    let account = or_stored_at(t, places::RECORD * i + places::ACCOUNT);
     Shown {
         orderid: i as u64,
         order,

@@ -9,6 +9,7 @@ ghost use Rattle.turns.specs.Turns.{Telling, Tellings, Reported};
 use matching::Event;
 use report::Place;
 use table::event::apply;
+use table::places;
 use ticket::Cause;
 use ticket::order_of;
 use ticket::tell::tell;
@@ -24,10 +25,10 @@ fn kept_cause(t: &[u8]) -> Cause
     requires { ⌜ length (now t) ≡ tableBytes ⌝ }
     ensures { λ r. ⌜ r ≡ keptCause (now (t .entry)) ⌝ }
 {
-    let length = octets::wide(t[33]) as usize;
+    let length = octets::wide(t[places::STAMP]) as usize;
     let time = Place {
         sent: false,
-        start: 34,
+        start: places::STAMP_TEXT,
         length,
     };
     let orig = Place {

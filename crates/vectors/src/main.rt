@@ -17,7 +17,7 @@ use kamurjesh::kamurjesh_run;
 use kamurjesh::kamurjesh_submit;
 use kamurjesh::numbers::depth_number;
 use kamurjesh::numbers::level_in;
-use market::depth::depth;
+use market::depth;
 use matching::Depth;
 use octets::part_at;
 

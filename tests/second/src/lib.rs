@@ -1,6 +1,6 @@
-//! The rehearsal bond market, written a second time from its paper (document 01) and the page that settles the
-//! paper's open places (READINGS). It is meant for comparison with the proved market: both are given the same
-//! commands, and their answers must be the same bytes. It shares no code with that market.
+//! The rehearsal bond market, written a second time from its paper (document 01); where the paper is open, as
+//! docs/DECISIONS.md says. It is meant for comparison with the proved market: both are given the same commands, and
+//! their answers must be the same bytes. It shares no code with that market.
 //!
 //! Read in this order: `shape` (digits, yields, times), `message` (what is garbled), `session` (what a good message
 //! asks, or why it gets a Session Reject), `order`, `matching` (one step), `report` (what is written), `market`

@@ -1,4 +1,4 @@
-//! Read: the bytes of one report, taken apart strictly ("The reports" of 01, section E of READINGS).
+//! Read: the bytes of one report, taken apart strictly ("The reports" of 01).
 //!
 //! Nothing here asks the writer. A kind is a row of slots: the tags in the order in which they stand, which of them
 //! may be absent, and the shape and range of each value. But for 9 and 10, no field is compared with another.

@@ -10,7 +10,7 @@ pub const GENERATED: u64 = 1_250;
 pub fn commands() -> String {
     let headings = [
         "# The rehearsal bond market: commands for comparison. The format is told in README.md beside this file.",
-        "# Part 1: the rehearsed cases and the points of READINGS",
+        "# Part 1: the rehearsed cases, and points that are easy to read another way",
         "# Part 2: published messages, each with its source and the outcome that 01 gives it",
         "# Part 3: generated commands",
     ];

@@ -273,7 +273,7 @@ fn commands(seed: u64, count: u64) -> Vec<Command> {
 }
 
 #[test]
-fn q1_q2_q3_demand_3_holds_after_every_call_of_generated_histories() {
+fn demand_3_holds_after_every_call_of_generated_histories() {
     for (seed, count) in HISTORIES {
         let mut history = History { desk: Desk::new(), book: Book::default(), steps_left: 0 };
         for command in commands(seed, count) {

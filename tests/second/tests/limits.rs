@@ -19,7 +19,7 @@ fn play(market: &mut Market, draft: &Draft) -> u64 {
 }
 
 #[test]
-fn o13_dead_orders_count_as_in_the_table() {
+fn dead_orders_count_as_in_the_table() {
     let mut market = market_from(1);
     for record in 1..=255 {
         assert_eq!(play(&mut market, &new_order(&format!("a{record}"))), 0);
@@ -32,7 +32,7 @@ fn o13_dead_orders_count_as_in_the_table() {
 }
 
 #[test]
-fn r12_the_last_submit_has_numbers_for_all_that_it_meets() {
+fn the_last_submit_has_numbers_for_all_that_it_meets() {
     let mut market = market_from(999_998_976 - 254);
     for record in 1..=254 {
         assert_eq!(play(&mut market, &order(&format!("s{record}"), "2", "1", "0.1")), 0);
@@ -73,7 +73,7 @@ fn refusals_have_the_papers_numbers() {
 }
 
 #[test]
-fn e15_the_longest_reports_are_394_bytes() {
+fn the_longest_reports_are_394_bytes() {
     let id = "x".repeat(32);
     let head = "35=8|34=999999999|49=12345678|50=DJGB|52=20261116-09:00:00|56=12345678|1=0123456789|6=-999999.999999|";
     let tail = "47=A|54=1|55=123456789|59=0|60=20261116-09:00:00|109=999999|";

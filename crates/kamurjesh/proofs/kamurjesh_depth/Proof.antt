@@ -1,8 +1,8 @@
 -- `kamurjesh_depth` meets its contract: it is Depth, its answer as the paper's number and values. Every level found is in range.
 use mathlib.Core.Path.{_∙_, ap}
 use Rattle.matching.specs.Depth.{totalOf, ordersOf}
-use Rattle.market.specs.Depth.{depthNumber}
-use Rattle.kamurjesh.specs.Numbers.{levelIn, hasLevel, yieldOf}
+use Rattle.market.specs.Depth.{depthNumber, hasLevel}
+use Rattle.kamurjesh.specs.Numbers.{levelIn, yieldOf}
 use Rattle.kamurjesh.proofs.Yields.{handed, found-low}
 use borrow.Author.Needs.{needs}
 use Rattle.kamurjesh.proofs.kamurjesh_depth.Statement.{statement}

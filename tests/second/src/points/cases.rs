@@ -213,10 +213,10 @@ pub fn case_12_limits_of_quantity_area_and_table(script: &mut Script) {
     script.run_refused(1023, 9, 1);
     script.run_in(1024, 9, 1, &[]);
     fill_to_254(script);
-    script.say("Case 12: the 255th order is taken; in mode 2 it meets 254 orders of its own, 255 steps (R2: m + 1)");
+    script.say("Case 12: the 255th order is taken; in mode 2 it meets 254 orders of its own, so 255 steps");
     script.taken(&order_of("10", "buy", "1", "7", "0").with("59", "3"), &["37=255", "34=255"]);
     sweep(script);
-    script.say("Case 12: the 256th order is 103=0; O13: dead orders count; O3: a known id is 6 even now");
+    script.say("Case 12: the 256th order is 103=0: dead orders count, and a known id is 6 even now");
     script.rejected(&new_order("late"), 0);
     script.rejected(&new_order("buy"), 6);
     script.rejected(&new_order("1"), 6);

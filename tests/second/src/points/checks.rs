@@ -1,10 +1,10 @@
-//! Section O of READINGS: why a D, F or G that can be read is not taken.
+//! Checks of a D, F or G that can be read: why it is not taken, and what a replacement keeps.
 
 use crate::compose::{cancel, new_order, order, order_of, replace};
 use crate::script::Script;
 
-pub fn o1_mpids_are_compared_as_numbers(script: &mut Script) {
-    script.say("O1: MPIDs are compared as numbers, and 109 on reports has no needless zero");
+pub fn mpids_are_compared_as_numbers(script: &mut Script) {
+    script.say("Order checks: MPIDs are compared as numbers, and 109 on reports has no needless zero");
     script.open(1);
     script.taken(&order_of("000010", "a", "2", "5", "0.1"), &["109=10"]);
     script.run(1, &[]);
@@ -15,22 +15,22 @@ pub fn o1_mpids_are_compared_as_numbers(script: &mut Script) {
     script.run(2, &[&["37=2", "378=100"]]);
 }
 
-pub fn o2_codes_are_compared_as_text(script: &mut Script) {
-    script.say("O2: codes are compared as text: 0350 is not 350, in F and G too");
+pub fn codes_are_compared_as_text(script: &mut Script) {
+    script.say("Order checks: codes are compared as text: 0350 is not 350, in F and G too");
     script.open(1);
     script.rests(&new_order("a"));
     script.rejected(&new_order("b").with("55", "0350"), 1);
     script.cancel_reject(&cancel("a", "b", "1").with("55", "0350"), 1, &["37=1", "39=0", "434=1"]);
     script.cancel_reject(&replace("a", "b", "1", "5", "1").with("55", "0350"), 1, &["37=1", "39=0", "434=2"]);
-    script.say("O2: a market with code 0350 takes that and not 350");
+    script.say("Order checks: a market with code 0350 takes that and not 350");
     script.open_with(["V", "P", "0350"], 1, &[(10, 1)], 0);
     script.rejected(&new_order("a"), 1);
     script.taken(&new_order("a").with("55", "0350"), &["55=0350"]);
     script.run(1, &[]);
 }
 
-pub fn o3_reasons_103_in_their_order(script: &mut Script) {
-    script.say("O3: 103 in the order 1, 99, 6, 0 (a full table stands in case 12)");
+pub fn reasons_103_in_their_order(script: &mut Script) {
+    script.say("Order checks: 103 in the order 1, 99, 6, 0 (a full table stands in case 12)");
     script.open(1);
     script.rests(&new_order("a"));
     script.rejected(&order_of("15", "a", "1", "5", "0.1").with("55", "351"), 1);
@@ -38,8 +38,8 @@ pub fn o3_reasons_103_in_their_order(script: &mut Script) {
     script.rejected(&order_of("10", "a", "1", "5", "0.1"), 6);
 }
 
-pub fn o4_an_id_given_up_is_free_again(script: &mut Script) {
-    script.say("O4: an order has one ClOrdID; the one before it is free again and names nobody");
+pub fn an_id_given_up_is_free_again(script: &mut Script) {
+    script.say("Order checks: an order has one ClOrdID; the one before it is free again and names nobody");
     script.open(1);
     script.rests(&order("a", "1", "10", "0.5"));
     script.rests(&replace("a", "b", "1", "10", "0.5"));
@@ -47,7 +47,7 @@ pub fn o4_an_id_given_up_is_free_again(script: &mut Script) {
     script.taken(&order("a", "1", "20", "0.6"), &["37=2"]);
     script.run(1, &[]);
     script.rejected(&new_order("b"), 6);
-    script.say("O4: after F the order keeps the id that F gave it, for good");
+    script.say("Order checks: after F the order keeps the id that F gave it, for good");
     script.taken(&cancel("b", "c", "1"), &["37=1", "11=c", "41=b"]);
     script.rejected(&new_order("c"), 6);
     script.taken(&order("b", "1", "30", "0.7"), &["37=3"]);
@@ -55,8 +55,8 @@ pub fn o4_an_id_given_up_is_free_again(script: &mut Script) {
     script.cancel_reject(&cancel("c", "d", "1"), 0, &["37=1", "39=4"]);
 }
 
-pub fn o5_new_id_equal_to_the_old_one(script: &mut Script) {
-    script.say("O5: 11 equal to 41 is known, after the check that something is open");
+pub fn new_id_equal_to_the_old_one(script: &mut Script) {
+    script.say("Order checks: 11 equal to 41 is known, after the check that something is open");
     script.open(1);
     script.rests(&order("a", "1", "10", "0.5"));
     script.cancel_reject(&cancel("a", "a", "1"), 2, &["37=1", "39=0", "11=a", "41=a", "434=1"]);
@@ -65,8 +65,8 @@ pub fn o5_new_id_equal_to_the_old_one(script: &mut Script) {
     script.cancel_reject(&cancel("b", "b", "1"), 0, &["37=1", "39=4"]);
 }
 
-pub fn o6_reasons_102_in_their_order(script: &mut Script) {
-    script.say("O6: unknown 41 (1), side (2), nothing open (0), 11 known (2), G's quantity (2)");
+pub fn reasons_102_in_their_order(script: &mut Script) {
+    script.say("Order checks: unknown 41 (1), side (2), nothing open (0), 11 known (2), G's quantity (2)");
     script.open(1);
     script.rests(&order("a", "1", "10", "0.5"));
     script.rests(&order("z", "1", "10", "0.6"));
@@ -85,8 +85,8 @@ pub fn o6_reasons_102_in_their_order(script: &mut Script) {
     script.run(1, &[]);
 }
 
-pub fn o7_another_code_still_names_the_order(script: &mut Script) {
-    script.say("O7: the code differs but an order has 41: 102=1, 37 and 39 are that order's");
+pub fn another_code_still_names_the_order(script: &mut Script) {
+    script.say("Order checks: the code differs but an order has 41: 102=1, 37 and 39 are that order's");
     script.open(1);
     script.rests(&order("a", "1", "10", "0.5"));
     script.taken(&order("s", "2", "4", "0.5"), &[]);
@@ -97,36 +97,36 @@ pub fn o7_another_code_still_names_the_order(script: &mut Script) {
     script.cancel_reject(&cancel("x", "b", "2").with("55", "1"), 1, &["37=NONE", "39=8"]);
 }
 
-pub fn o8_status_of_a_cancel_reject(script: &mut Script) {
+pub fn status_of_a_cancel_reject(script: &mut Script) {
     script.say(
-        "O8: 39 of a Cancel reject: 0 open and untouched, 5 never, 1 partly executed, 2 filled, 4 canceled, 8 nobody",
+        "Order checks: 39 of a Cancel reject: 0 open and untouched, 5 never, 1 partly executed, 2 filled, 4 canceled, 8 nobody",
     );
     script.open(3);
     script.rests(&order_of("10", "a", "2", "200", "0.5"));
     script.cancel_reject(&cancel("a", "a", "2"), 2, &["37=1", "39=0"]);
     script.rests(&replace("a", "a1", "2", "200", "0.5"));
     script.cancel_reject(&cancel("a1", "a1", "2"), 2, &["37=1", "39=0"]);
-    script.say("O8: decremented and not executed is 0");
+    script.say("Order checks: decremented and not executed is 0");
     script.taken(&order_of("10", "b", "1", "50", "0.5"), &["37=2"]);
     script.run(2, &[&["37=2", "39=4"], &["37=1", "150=5", "151=150"]]);
     script.cancel_reject(&cancel("a1", "a1", "2"), 2, &["37=1", "39=0"]);
     script.cancel_reject(&cancel("b", "x", "1"), 0, &["37=2", "39=4"]);
-    script.say("O8: partly executed is 1");
+    script.say("Order checks: partly executed is 1");
     script.taken(&order("c", "1", "100", "0.5"), &["37=3"]);
     script.run(2, &[&["37=1", "151=50"], &["37=3", "39=2"]]);
     script.cancel_reject(&cancel("a1", "a1", "2"), 2, &["37=1", "39=1"]);
-    script.say("O8: nothing open without a cancel is 2, also after a decrement");
+    script.say("Order checks: nothing open without a cancel is 2, also after a decrement");
     script.taken(&order("d", "1", "60", "0.5"), &["37=4"]);
     script.run(2, &[&["37=1", "39=2", "14=150", "38=200"], &["37=4", "39=1", "151=10"]]);
     script.cancel_reject(&cancel("a1", "x", "2"), 0, &["37=1", "39=2"]);
-    script.say("O8: canceled after a partial fill is 4");
+    script.say("Order checks: canceled after a partial fill is 4");
     script.taken(&cancel("d", "e", "1"), &["37=4", "14=50", "151=0"]);
     script.cancel_reject(&cancel("e", "x", "1"), 0, &["37=4", "39=4"]);
     script.cancel_reject(&cancel("nobody", "x", "1"), 1, &["37=NONE", "39=8"]);
 }
 
-pub fn o9_quantity_of_rejected_is_written_as_a_number(script: &mut Script) {
-    script.say("O9: 38 of Rejected is the message's, written as a number; 55 keeps its zeros");
+pub fn quantity_of_rejected_is_written_as_a_number(script: &mut Script) {
+    script.say("Order checks: 38 of Rejected is the message's, written as a number; 55 keeps its zeros");
     script.open(1);
     script.submit(
         &order("a", "2", "00042", "0.1").with("55", "000007"),
@@ -135,8 +135,8 @@ pub fn o9_quantity_of_rejected_is_written_as_a_number(script: &mut Script) {
     );
 }
 
-pub fn o10_replace_keeps_everything_else(script: &mut Script) {
-    script.say("O10: G changes ClOrdID, yield, OrderQty and place; account, MPID, 47, 59, 8060 stay");
+pub fn replace_keeps_everything_else(script: &mut Script) {
+    script.say("Order checks: G changes ClOrdID, yield, OrderQty and place; account, MPID, 47, 59, 8060 stay");
     script.open(1);
     script.rests(&order_of("12", "a", "2", "100", "0.5").adding("1", "acct").with("47", "P").with("8060", "4"));
     script.taken(
@@ -150,8 +150,8 @@ pub fn o10_replace_keeps_everything_else(script: &mut Script) {
     script.level(2, 0, 400, 150, 1);
 }
 
-pub fn o11_an_ioc_has_nothing_open_afterwards(script: &mut Script) {
-    script.say("O11: F or G on an IOC finds nothing open");
+pub fn an_ioc_has_nothing_open_afterwards(script: &mut Script) {
+    script.say("Order checks: F or G on an IOC finds nothing open");
     script.open(1);
     script.taken(&order("a", "1", "10", "0.5").with("59", "3"), &["59=3"]);
     script.refused(&cancel("a", "b", "1"), 3);
@@ -160,8 +160,8 @@ pub fn o11_an_ioc_has_nothing_open_afterwards(script: &mut Script) {
     script.cancel_reject(&replace("a", "b", "1", "20", "0.5"), 0, &["37=1", "39=4"]);
 }
 
-pub fn o12_a_replace_that_changes_nothing_takes_a_new_place(script: &mut Script) {
-    script.say("O12: a G that changes nothing but the id is taken, gets a new place and is in work");
+pub fn a_replace_that_changes_nothing_takes_a_new_place(script: &mut Script) {
+    script.say("Order checks: a G that changes nothing but the id is taken, gets a new place and is in work");
     script.open(1);
     script.rests(&order("a", "2", "10", "0.5"));
     script.rests(&order("b", "2", "10", "0.5"));
@@ -172,15 +172,15 @@ pub fn o12_a_replace_that_changes_nothing_takes_a_new_place(script: &mut Script)
     script.run(2, &[&["37=2", "851=1"], &["37=3", "851=2"]]);
 }
 
-pub fn o14_replace_quantity_against_executed_and_decremented(script: &mut Script) {
-    script.say("O14: with nothing executed or decremented any 38 from 1 is good");
+pub fn replace_quantity_against_executed_and_decremented(script: &mut Script) {
+    script.say("Order checks: with nothing executed or decremented any 38 from 1 is good");
     script.open(3);
     script.rests(&order_of("10", "a", "2", "100", "0.5"));
     script.taken(&replace("a", "a1", "2", "1", "0.5"), &["38=1", "151=1"]);
     script.run(1, &[]);
     script.taken(&replace("a1", "a2", "2", "999999999", "0.5"), &["38=999999999", "151=999999999"]);
     script.run(1, &[]);
-    script.say("O14: 30 executed and 20 decremented: 50 is not above, 51 leaves 1 open");
+    script.say("Order checks: 30 executed and 20 decremented: 50 is not above, 51 leaves 1 open");
     script.taken(&order("b", "1", "30", "0.5"), &[]);
     script.run(2, &[&["37=1", "14=30"], &["37=2"]]);
     script.taken(&order_of("10", "c", "1", "20", "0.5"), &[]);
@@ -192,8 +192,8 @@ pub fn o14_replace_quantity_against_executed_and_decremented(script: &mut Script
     script.level(2, 0, 500, 1, 1);
 }
 
-pub fn o15_rejected_and_cancel_reject_have_their_tags_alone(script: &mut Script) {
-    script.say("O15: Rejected and Cancel reject have exactly the tags listed");
+pub fn rejected_and_cancel_reject_have_their_tags_alone(script: &mut Script) {
+    script.say("Order checks: Rejected and Cancel reject have exactly the tags listed");
     script.open(1);
     script.submit(
         &order_of("15", "a", "1", "5", "0.1").adding("1", "acct"),

@@ -1,10 +1,10 @@
-//! Sections D and I of READINGS: Depth and Open.
+//! Depth and Open: levels, settings, and the numbers that calls give back.
 
 use crate::compose::{cancel, new_order, order, order_of};
 use crate::script::Script;
 
-pub fn d1_levels_past_the_last(script: &mut Script) {
-    script.say("D1: k past the last level is no such level, for any k");
+pub fn levels_past_the_last(script: &mut Script) {
+    script.say("Depth: k past the last level is no such level, for any k");
     script.open(1);
     script.no_level(1, 0);
     script.rests(&order("a", "1", "5", "0.1"));
@@ -15,8 +15,8 @@ pub fn d1_levels_past_the_last(script: &mut Script) {
     script.no_level(2, 0);
 }
 
-pub fn d2_in_work_comes_before_a_wrong_side(script: &mut Script) {
-    script.say("D2: a wrong side while an order is in work is 3");
+pub fn in_work_comes_before_a_wrong_side(script: &mut Script) {
+    script.say("Depth: a wrong side while an order is in work is 3");
     script.open(1);
     script.taken(&new_order("a"), &[]);
     script.depth_refused(3, 0, 3);
@@ -28,8 +28,8 @@ pub fn d2_in_work_comes_before_a_wrong_side(script: &mut Script) {
     script.depth_refused(257, 0, 10);
 }
 
-pub fn d3_only_open_orders_make_a_level(script: &mut Script) {
-    script.say("D3: dead orders make no level and are not counted");
+pub fn only_open_orders_make_a_level(script: &mut Script) {
+    script.say("Depth: dead orders make no level and are not counted");
     script.open(1);
     script.rests(&order("a", "2", "5", "0.3"));
     script.rests(&order("b", "2", "5", "0.2"));
@@ -43,40 +43,40 @@ pub fn d3_only_open_orders_make_a_level(script: &mut Script) {
     script.no_level(2, 1);
 }
 
-pub fn i1_first_number_up_to_its_limit(script: &mut Script) {
-    script.say("I1: first number 999,999,999 is good although each Submit is refused");
+pub fn first_number_up_to_its_limit(script: &mut Script) {
+    script.say("Open: first number 999,999,999 is good although each Submit is refused");
     script.open_from(999_999_999, 1);
     script.refused(&new_order("a"), 4);
     script.run_in(1024, 9, 0, &[]);
     script.no_level(1, 0);
-    script.say("I1: 999,998,976 is the last number that Submit takes");
+    script.say("Open: 999,998,976 is the last number that Submit takes");
     script.open_from(999_998_976, 1);
     script.session_reject(&new_order("a").with("54", "3"), 5, 54);
     script.refused(&new_order("a"), 4);
-    script.say("I1: 0 and 1,000,000,000 are no first numbers");
+    script.say("Open: 0 and 1,000,000,000 are no first numbers");
     for first in [0, 1_000_000_000, 4_294_967_297, u64::MAX] {
         script.open_with(["V", "P", "350"], first, &[(10, 1)], 9);
     }
 }
 
-pub fn i2_settings_that_look_odd_and_are_good(script: &mut Script) {
-    script.say("I2: venue and port may be equal, and the code all zeros");
+pub fn settings_that_look_odd_and_are_good(script: &mut Script) {
+    script.say("Open: venue and port may be equal, and the code all zeros");
     script.open_with(["X", "X", "000000000"], 1, &[(10, 1)], 0);
     let draft = new_order("a").with("49", "X").with("56", "X").with("55", "000000000");
     script.taken(&draft, &["49=X", "56=X", "55=000000000"]);
     script.run(1, &[]);
-    script.say("I2: MPIDs must differ whatever their modes");
+    script.say("Open: MPIDs must differ whatever their modes");
     script.open_with(["V", "P", "350"], 1, &[(10, 1), (10, 2)], 9);
     script.open_with(["V", "P", "350"], 1, &[(10, 1), (11, 1), (10, 1)], 9);
-    script.say("I2: every character from 21 to 7E hex may stand in a venue or port");
+    script.say("Open: every character from 21 to 7E hex may stand in a venue or port");
     script.open_with(["!~|;\\=#\"", "~", "1"], 1, &[(1, 3), (999_999, 1)], 0);
     let draft = new_order("a").with("49", "~").with("56", "!~|;\\=#\"").with("55", "1");
     script.taken(&draft, &["49=!~|;\\=#\"", "56=~", "55=1"]);
     script.run(1, &[]);
 }
 
-pub fn i3_open_starts_anew(script: &mut Script) {
-    script.say("I3: Open looks at nothing that was there before, in work or not");
+pub fn open_starts_anew(script: &mut Script) {
+    script.say("Open: what was there before is not looked at, in work or not");
     script.open(1);
     script.rests(&order("a", "1", "5", "0.1"));
     script.taken(&order("b", "1", "5", "0.1"), &[]);
@@ -86,8 +86,8 @@ pub fn i3_open_starts_anew(script: &mut Script) {
     script.run(1, &[]);
 }
 
-pub fn i5_numbers_given_back(script: &mut Script) {
-    script.say("I5: an accepted Submit gives 0 and its length, refusals 1 to 5 give length 0, 6 to 8 their report's");
+pub fn numbers_given_back(script: &mut Script) {
+    script.say("Submit: taken gives 0 and its length, refusals 1 to 5 give length 0, 6 to 8 their report's");
     script.open(1);
     script.submit_in(1024, &new_order("a"), 0, &["35=8"]);
     script.refused(&new_order("b"), 3);
@@ -100,8 +100,8 @@ pub fn i5_numbers_given_back(script: &mut Script) {
     script.run(1, &[]);
 }
 
-pub fn i6_spent_numbers_stop_submit_only(script: &mut Script) {
-    script.say("I6: refusal 4 does not stop Run, nor Depth");
+pub fn spent_numbers_stop_submit_only(script: &mut Script) {
+    script.say("Submit: refusal 4 does not stop Run, nor Depth");
     script.open_from(999_998_975, 2);
     script.rests(&order_of("10", "s", "2", "5", "0.1"));
     script.taken(&order_of("11", "b", "1", "9", "0.1"), &["34=999998976"]);

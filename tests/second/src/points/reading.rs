@@ -1,4 +1,5 @@
-//! Section E of READINGS: Read. The reports are put together here field by field; none comes from the writer.
+//! Read: which bytes are a report, kind by kind and field by field. The reports are put together here field by field;
+//! none comes from the writer.
 
 use crate::compose::{Draft, TIME};
 use crate::script::Script;
@@ -105,16 +106,16 @@ fn none_read(script: &mut Script, report: &Draft, tag: &str, values: &[&str]) {
     }
 }
 
-pub fn e1_fields_with_one_written_value(script: &mut Script) {
-    script.say("E1: 6 and 14 of Accepted, 151 of Canceled and 6 of Rejected are free within their ranges");
+pub fn read_fields_with_one_written_value(script: &mut Script) {
+    script.say("Read: 6 and 14 of Accepted, 151 of Canceled and 6 of Rejected are free within their ranges");
     all_read(script, &accepted(), ACCEPTED, "6", &["-1.500000", "999999.999999"]);
     all_read(script, &accepted(), ACCEPTED, "14", &["5", "999999999"]);
     all_read(script, &canceled_by_request(), CANCELED, "151", &["5"]);
     all_read(script, &rejected(), REJECTED, "6", &["0.000001"]);
-    script.say("E1: 14 and 151 of Rejected are 0 and nothing else");
+    script.say("Read: 14 and 151 of Rejected are 0 and nothing else");
     none_read(script, &rejected(), "14", &["1", "00", ""]);
     none_read(script, &rejected(), "151", &["1", "100", "00"]);
-    script.say("E1: 20=0, 40=2, 423=9, 382=1, 50=DJGB are single values");
+    script.say("Read: 20=0, 40=2, 423=9, 382=1, 50=DJGB are single values");
     none_read(script, &accepted(), "20", &["1", "00"]);
     none_read(script, &accepted(), "40", &["1", "2 "]);
     none_read(script, &accepted(), "423", &["1", "09"]);
@@ -123,23 +124,23 @@ pub fn e1_fields_with_one_written_value(script: &mut Script) {
     none_read(script, &rejected(), "20", &["1"]);
 }
 
-pub fn e2_three_forms_of_canceled(script: &mut Script) {
-    script.say("E2: Canceled has 41 alone, 378=100 alone or 378=99 alone");
+pub fn read_three_forms_of_canceled(script: &mut Script) {
+    script.say("Read: Canceled has 41 alone, 378=100 alone or 378=99 alone");
     script.read_as(&canceled_by_request(), CANCELED);
     script.read_as(&canceled_unrequested("100"), CANCELED);
     script.read_as(&canceled_unrequested("99"), CANCELED);
-    script.say("E2: neither or both are refused");
+    script.say("Read: neither or both are refused");
     script.not_read(&canceled());
     script.not_read(&canceled_by_request().inserting("423", "378", "100"));
     script.not_read(&canceled_by_request().inserting("423", "378", "99"));
 }
 
-pub fn e3_no_field_is_compared_with_another(script: &mut Script) {
-    script.say("E3: 39 and 150 of a Trade are each 1 or 2");
+pub fn read_compares_no_field_with_another(script: &mut Script) {
+    script.say("Read: 39 and 150 of a Trade are each 1 or 2");
     script.read_as(&trade().with("39", "2"), TRADE);
     script.read_as(&trade().with("150", "2"), TRADE);
     script.read_as(&trade().with("39", "2").with("150", "2"), TRADE);
-    script.say("E3: 34 and 17, 41 and 11, 38 and 151, 880, 52 and 60, 37 and 39 may say different things");
+    script.say("Read: 34 and 17, 41 and 11, 38 and 151, 880, 52 and 60, 37 and 39 may say different things");
     script.read_as(&accepted().with("34", "1").with("17", "999999999"), ACCEPTED);
     script.read_as(&decremented().with("41", "other"), REPLACED);
     script.read_as(&decremented(), REPLACED);
@@ -150,8 +151,8 @@ pub fn e3_no_field_is_compared_with_another(script: &mut Script) {
     script.read_as(&cancel_reject().with("37", "3"), CANCEL_REJECT);
 }
 
-pub fn e4_ranges_of_report_numbers(script: &mut Script) {
-    script.say("E4: 34, 17, 880 and 45 are 1 to 999,999,999");
+pub fn read_ranges_of_report_numbers(script: &mut Script) {
+    script.say("Read: 34, 17, 880 and 45 are 1 to 999,999,999");
     let bad: &[&str] = &["0", "1000000000", "01", "", "-1", "+1", " 1", "1.0", "x"];
     for (report, kind, tag) in [
         (accepted(), ACCEPTED, "34"),
@@ -166,39 +167,39 @@ pub fn e4_ranges_of_report_numbers(script: &mut Script) {
     }
 }
 
-pub fn e5_371_has_the_shape_of_a_tag(script: &mut Script) {
-    script.say("E5: 371 is 1 to 9999");
+pub fn read_371_has_the_shape_of_a_tag(script: &mut Script) {
+    script.say("Read: 371 is 1 to 9999");
     all_read(script, &session_reject(), SESSION_REJECT, "371", &["1", "9999", "797"]);
     none_read(script, &session_reject(), "371", &["0", "10000", "054", "", "x"]);
 }
 
-pub fn e6_372_is_one_or_two_characters(script: &mut Script) {
-    script.say("E6: 372 is 1 or 2 characters, 20 to 7E hex");
+pub fn read_372_is_one_or_two_characters(script: &mut Script) {
+    script.say("Read: 372 is 1 or 2 characters, 20 to 7E hex");
     all_read(script, &session_reject(), SESSION_REJECT, "372", &["A", " ", "~~", "==", "AB", "\\", ";|"]);
     none_read(script, &session_reject(), "372", &["", "ABC", "A\x7f", "\x1f"]);
 }
 
-pub fn e7_sets_of_values(script: &mut Script) {
-    script.say("E7: 373 in {1, 2, 3, 4, 5, 6, 9, 11}");
+pub fn read_sets_of_values(script: &mut Script) {
+    script.say("Read: 373 in {1, 2, 3, 4, 5, 6, 9, 11}");
     all_read(script, &session_reject(), SESSION_REJECT, "373", &["1", "2", "3", "4", "5", "6", "9", "11"]);
     none_read(script, &session_reject(), "373", &["0", "7", "8", "10", "12", "05", ""]);
-    script.say("E7: 103 in {0, 1, 6, 99}");
+    script.say("Read: 103 in {0, 1, 6, 99}");
     all_read(script, &rejected(), REJECTED, "103", &["0", "1", "6", "99"]);
     none_read(script, &rejected(), "103", &["2", "5", "9", "100", "06", ""]);
-    script.say("E7: 102 in {0, 1, 2}, 434 in {1, 2}, 39 of Cancel reject in {0, 1, 2, 4, 8}");
+    script.say("Read: 102 in {0, 1, 2}, 434 in {1, 2}, 39 of Cancel reject in {0, 1, 2, 4, 8}");
     all_read(script, &cancel_reject(), CANCEL_REJECT, "102", &["0", "1", "2"]);
     none_read(script, &cancel_reject(), "102", &["3", "99", "00"]);
     all_read(script, &cancel_reject(), CANCEL_REJECT, "434", &["1", "2"]);
     none_read(script, &cancel_reject(), "434", &["0", "3", "11"]);
     all_read(script, &cancel_reject(), CANCEL_REJECT, "39", &["0", "1", "2", "4", "8"]);
     none_read(script, &cancel_reject(), "39", &["3", "5", "6", "9", "A"]);
-    script.say("E7: 378 in {99, 100} on Canceled, 100 on Replaced; 851 in {1, 2}");
+    script.say("Read: 378 in {99, 100} on Canceled, 100 on Replaced; 851 in {1, 2}");
     none_read(script, &canceled_unrequested("100"), "378", &["2", "98", "101", "0100", ""]);
     script.read_as(&decremented(), REPLACED);
     none_read(script, &decremented(), "378", &["99", "2"]);
     all_read(script, &trade(), TRADE, "851", &["1", "2"]);
     none_read(script, &trade(), "851", &["0", "3", ""]);
-    script.say("E7: 47, 54, 59 and 8060 as in messages");
+    script.say("Read: 47, 54, 59 and 8060 as in messages");
     all_read(script, &trade(), TRADE, "47", &["A", "P"]);
     none_read(script, &trade(), "47", &["a", "I", "AA", ""]);
     none_read(script, &trade(), "54", &["0", "3", "12"]);
@@ -208,16 +209,16 @@ pub fn e7_sets_of_values(script: &mut Script) {
     none_read(script, &trade(), "8060", &["0", "2", "7", ""]);
 }
 
-pub fn e8_ranges_of_mpids(script: &mut Script) {
-    script.say("E8: 109 is 1 to 999,999, 375 is 0 to 999,999");
+pub fn read_ranges_of_mpids(script: &mut Script) {
+    script.say("Read: 109 is 1 to 999,999, 375 is 0 to 999,999");
     all_read(script, &trade(), TRADE, "109", &["1", "999999"]);
     none_read(script, &trade(), "109", &["0", "1000000", "010", "", "x"]);
     all_read(script, &trade(), TRADE, "375", &["0", "1", "999999"]);
     none_read(script, &trade(), "375", &["1000000", "00", "011", "", "NONE"]);
 }
 
-pub fn e9_quantities_of_zero(script: &mut Script) {
-    script.say("E9: quantities are 0 to 999,999,999, without needless zeros");
+pub fn read_quantities_of_zero(script: &mut Script) {
+    script.say("Read: quantities are 0 to 999,999,999, without needless zeros");
     for tag in ["14", "32", "38", "151"] {
         all_read(script, &trade(), TRADE, tag, &["0", "999999999"]);
         none_read(script, &trade(), tag, &["1000000000", "00", "007", "", "-1", "1.5"]);
@@ -225,8 +226,8 @@ pub fn e9_quantities_of_zero(script: &mut Script) {
     all_read(script, &rejected(), REJECTED, "38", &["0", "999999999"]);
 }
 
-pub fn e10_order_ids(script: &mut Script) {
-    script.say("E10: 37 is 1 to 255; NONE alone on Rejected, either on Cancel reject, never elsewhere");
+pub fn read_order_ids(script: &mut Script) {
+    script.say("Read: 37 is 1 to 255; NONE alone on Rejected, either on Cancel reject, never elsewhere");
     all_read(script, &trade(), TRADE, "37", &["1", "255"]);
     none_read(script, &trade(), "37", &["0", "256", "01", "NONE", "", "1000000000000000000000"]);
     none_read(script, &accepted(), "37", &["NONE"]);
@@ -237,8 +238,8 @@ pub fn e10_order_ids(script: &mut Script) {
     none_read(script, &cancel_reject(), "37", &["0", "256", "none"]);
 }
 
-pub fn e11_39_on_replaced(script: &mut Script) {
-    script.say("E11: 39 on Replaced is 1 or 5; 150 and 39 of the others are single");
+pub fn read_39_on_replaced(script: &mut Script) {
+    script.say("Read: 39 on Replaced is 1 or 5; 150 and 39 of the others are single");
     all_read(script, &replaced(), REPLACED, "39", &["1", "5"]);
     none_read(script, &replaced(), "39", &["0", "2", "4"]);
     none_read(script, &accepted(), "39", &["1", "5", "8"]);
@@ -248,8 +249,8 @@ pub fn e11_39_on_replaced(script: &mut Script) {
     none_read(script, &rejected(), "39", &["0", "4"]);
 }
 
-pub fn e12_yields_and_averages(script: &mut Script) {
-    script.say("E12: yields at most 999999.999 in size, three decimals, no needless zero, no -0.000");
+pub fn read_yields_and_averages(script: &mut Script) {
+    script.say("Read: yields at most 999999.999 in size, three decimals, no needless zero, no -0.000");
     let good: &[&str] = &["0.000", "-0.001", "999999.999", "-999999.999", "10.000"];
     let bad: &[&str] = &[
         "-0.000", "00.100", "0.1", "0.10", "0.1000", ".100", "1000000.000", "-1000000.000", "1", "1.", "+0.100",
@@ -259,7 +260,7 @@ pub fn e12_yields_and_averages(script: &mut Script) {
     none_read(script, &accepted(), "44", bad);
     all_read(script, &trade(), TRADE, "31", good);
     none_read(script, &trade(), "31", &["-0.000", "0.1", "1000000.000", "00.100", ""]);
-    script.say("E12: 6 is at most 999999.999999 in size, six decimals");
+    script.say("Read: 6 is at most 999999.999999 in size, six decimals");
     all_read(script, &trade(), TRADE, "6", &["0.000000", "-0.000001", "999999.999999", "-999999.999999"]);
     none_read(
         script,
@@ -270,25 +271,25 @@ pub fn e12_yields_and_averages(script: &mut Script) {
     none_read(script, &rejected(), "6", &["0", "0.000", "-0.000000"]);
 }
 
-pub fn e13_restatement_reasons_stand_alone(script: &mut Script) {
-    script.say("E13: 378=99 on a Day order, 100 on an IOC, 851 with anything: taken");
+pub fn read_restatement_reasons_stand_alone(script: &mut Script) {
+    script.say("Read: 378=99 on a Day order, 100 on an IOC, 851 with anything: taken");
     script.read_as(&canceled_unrequested("99").with("59", "0"), CANCELED);
     script.read_as(&canceled_unrequested("99").with("59", "3"), CANCELED);
     script.read_as(&canceled_unrequested("100").with("59", "3"), CANCELED);
     script.read_as(&trade().with("851", "1").with("59", "3"), TRADE);
 }
 
-pub fn e14_texts_and_times(script: &mut Script) {
-    script.say("E14: 49 and 56 are 1 to 8 characters, 21 to 7E hex");
+pub fn read_texts_and_times(script: &mut Script) {
+    script.say("Read: 49 and 56 are 1 to 8 characters, 21 to 7E hex");
     for tag in ["49", "56"] {
         all_read(script, &accepted(), ACCEPTED, tag, &["x", "12345678", "!~=|;\\#"]);
         none_read(script, &accepted(), tag, &["", "123456789", "a b", " ", "a\x7f"]);
     }
-    script.say("E14: 55 is 1 to 9 digits, zeros kept");
+    script.say("Read: 55 is 1 to 9 digits, zeros kept");
     all_read(script, &accepted(), ACCEPTED, "55", &["0", "000000000", "123456789"]);
     none_read(script, &accepted(), "55", &["", "1234567890", "35a", "-35"]);
     all_read(script, &rejected(), REJECTED, "55", &["007"]);
-    script.say("E14: 1 up to 10 characters, 11 and 41 up to 32, 20 to 7E hex");
+    script.say("Read: 1 up to 10 characters, 11 and 41 up to 32, 20 to 7E hex");
     all_read(script, &accepted(), ACCEPTED, "1", &[" ", "0123456789", "a=b"]);
     none_read(script, &accepted(), "1", &["", "0123456789a", "a\x1fb"]);
     let longest = "0123456789abcdef0123456789ABCDEF";
@@ -298,7 +299,7 @@ pub fn e14_texts_and_times(script: &mut Script) {
     none_read(script, &replaced(), "41", &["", "0123456789abcdef0123456789ABCDEFx"]);
     all_read(script, &cancel_reject(), CANCEL_REJECT, "41", &["~", longest]);
     none_read(script, &cancel_reject(), "11", &["", "0123456789abcdef0123456789ABCDEFx"]);
-    script.say("E14: 52 and 60 are times");
+    script.say("Read: 52 and 60 are times");
     for tag in ["52", "60"] {
         all_read(script, &accepted(), ACCEPTED, tag, &["00000101-00:00:00", "99991231-23:59:59", "20260231-09:00:00"]);
         none_read(
@@ -310,8 +311,8 @@ pub fn e14_texts_and_times(script: &mut Script) {
     }
 }
 
-pub fn e15_one_report_and_nothing_after_it(script: &mut Script) {
-    script.say("E15: bytes before or after the report, or missing, are refused; so are two reports, and none");
+pub fn read_one_report_and_nothing_after_it(script: &mut Script) {
+    script.say("Read: bytes before or after the report, or missing, are refused; so are two reports, and none");
     let bytes = cancel_reject().bytes();
     script.bytes_not_read(b"");
     script.bytes_not_read(b"\x01");
@@ -321,7 +322,7 @@ pub fn e15_one_report_and_nothing_after_it(script: &mut Script) {
         script.bytes_not_read(&[&bytes, extra].concat());
     }
     script.bytes_not_read(&[&b"\x01"[..], &bytes].concat());
-    script.say("E15: the longest Replaced: every field as long as it can be");
+    script.say("Read: the longest Replaced: every field as long as it can be");
     let longest = "x".repeat(32);
     let draft = decremented()
         .inserting("6", "1", "0123456789")
@@ -340,7 +341,7 @@ pub fn e15_one_report_and_nothing_after_it(script: &mut Script) {
         .with("37", "255")
         .inserting("150", "109", "999999");
     script.read_as(&draft, REPLACED);
-    script.say("E15: the longest Trade");
+    script.say("Read: the longest Trade");
     let draft = trade()
         .with("1", "0123456789")
         .with("34", "999999999")
@@ -363,15 +364,15 @@ pub fn e15_one_report_and_nothing_after_it(script: &mut Script) {
     script.read_as(&draft, TRADE);
 }
 
-pub fn e16_seven_kinds(script: &mut Script) {
-    script.say("E16: seven kinds; both Replaced are one kind, and the three Canceled are one");
+pub fn read_seven_kinds(script: &mut Script) {
+    script.say("Read: seven kinds; both Replaced are one kind, and the three Canceled are one");
     for (report, kind) in one_of_each() {
         script.read_as(&report, kind);
     }
     script.read_as(&decremented(), REPLACED);
     script.read_as(&canceled_unrequested("100"), CANCELED);
     script.read_as(&canceled_unrequested("99"), CANCELED);
-    script.say("E16: another 35 is no report");
+    script.say("Read: another 35 is no report");
     for (report, _) in one_of_each() {
         none_read(script, &report, "35", &["D", ""]);
     }
@@ -380,8 +381,8 @@ pub fn e16_seven_kinds(script: &mut Script) {
     none_read(script, &session_reject(), "35", &["8", "9"]);
 }
 
-pub fn e17_body_length_is_canonical_and_true(script: &mut Script) {
-    script.say("E17: 8, 9 and 10 as written: 9 canonical and true, 10 three digits and true");
+pub fn read_body_length_is_canonical_and_true(script: &mut Script) {
+    script.say("Read: 8, 9 and 10 as written: 9 canonical and true, 10 three digits and true");
     for (report, _) in one_of_each() {
         let length = report.body_length();
         script.not_read(&report.clone().with_length(&format!("0{length}")));
@@ -401,8 +402,8 @@ pub fn e17_body_length_is_canonical_and_true(script: &mut Script) {
     }
 }
 
-pub fn e18_account_and_mpid_on_the_execution_kinds_only(script: &mut Script) {
-    script.say("E18: 1 and 109 are optional on the four execution kinds");
+pub fn read_account_and_mpid_on_the_execution_kinds_only(script: &mut Script) {
+    script.say("Read: 1 and 109 are optional on the four execution kinds");
     for (report, kind) in [
         (accepted(), ACCEPTED),
         (replaced().inserting("6", "1", "x").inserting("150", "109", "10"), REPLACED),
@@ -414,7 +415,7 @@ pub fn e18_account_and_mpid_on_the_execution_kinds_only(script: &mut Script) {
         script.read_as(&report.clone().without("109"), kind);
         script.read_as(&report.clone().without("1").without("109"), kind);
     }
-    script.say("E18: and refused on the other three");
+    script.say("Read: and refused on the other three");
     script.not_read(&rejected().inserting("6", "1", "x"));
     script.not_read(&rejected().inserting("150", "109", "10"));
     script.not_read(&cancel_reject().inserting("11", "1", "x"));

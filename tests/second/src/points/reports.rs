@@ -1,4 +1,4 @@
-//! Section P of READINGS: what the reports say.
+//! What the reports say.
 
 use crate::compose::{cancel, new_order, order, order_of, replace, Draft, TIME};
 use crate::script::Script;
@@ -54,16 +54,16 @@ pub fn whole_bytes_of_each_kind(script: &mut Script) {
     );
 }
 
-pub fn p1_375_stands_before_382(script: &mut Script) {
-    script.say("P1: body tags ascend, so 375 stands before 382");
+pub fn tag_375_stands_before_382(script: &mut Script) {
+    script.say("Reports: body tags ascend, so 375 stands before 382");
     script.open(1);
     script.rests(&order_of("10", "s", "2", "5", "0.1"));
     script.taken(&order_of("11", "b", "1", "5", "0.1"), &[]);
     script.run(2, &[&["375=11|382=1|423=9|851=1|880=3|8060=1"], &["375=10|382=1|423=9|851=2|880=3|8060=1"]]);
 }
 
-pub fn p2_378_is_absent_on_a_requested_replaced(script: &mut Script) {
-    script.say("P2: no 378 on a requested Replaced nor on a requested Canceled");
+pub fn tag_378_is_absent_on_a_requested_replaced(script: &mut Script) {
+    script.say("Reports: no 378 on a requested Replaced nor on a requested Canceled");
     script.open(1);
     script.rests(&order("a", "1", "5", "0.1"));
     script.taken(&replace("a", "b", "1", "6", "0.1"), &["150=5", "41=a", "no 378"]);
@@ -71,9 +71,9 @@ pub fn p2_378_is_absent_on_a_requested_replaced(script: &mut Script) {
     script.taken(&cancel("b", "c", "1"), &["150=4", "41=b", "no 378"]);
 }
 
-pub fn p3_41_on_requested_cancels_and_replaced(script: &mut Script) {
+pub fn tag_41_on_requested_cancels_and_replaced(script: &mut Script) {
     script.say(
-        "P3: 41 is the ClOrdID before; on a decrement it equals 11; absent on prevention cancels and an IOC's rest",
+        "Reports: 41 is the ClOrdID before; on a decrement it equals 11; absent on prevention cancels and an IOC's rest",
     );
     script.open(3);
     script.rests(&order_of("10", "a", "2", "9", "0.1"));
@@ -87,8 +87,9 @@ pub fn p3_41_on_requested_cancels_and_replaced(script: &mut Script) {
     script.taken(&cancel("c", "d", "2"), &["11=d", "41=c"]);
 }
 
-pub fn p4_39_is_2_when_nothing_is_open(script: &mut Script) {
-    script.say("P4: 39 is 2 on a Trade that leaves nothing open, also where a decrement means that 14 is below 38");
+pub fn tag_39_is_2_when_nothing_is_open(script: &mut Script) {
+    script
+        .say("Reports: 39 is 2 on a Trade that leaves nothing open, also where a decrement means that 14 is below 38");
     script.open(3);
     script.rests(&order_of("10", "s", "2", "200", "0.1"));
     script.taken(&order_of("10", "b", "1", "50", "0.1"), &[]);
@@ -100,8 +101,8 @@ pub fn p4_39_is_2_when_nothing_is_open(script: &mut Script) {
     );
 }
 
-pub fn p5_39_on_replaced_is_1_or_5(script: &mut Script) {
-    script.say("P5: 39 on Replaced is 5, or 1 once anything has executed; 150 is 5");
+pub fn tag_39_on_replaced_is_1_or_5(script: &mut Script) {
+    script.say("Reports: 39 on Replaced is 5, or 1 once anything has executed; 150 is 5");
     script.open(1);
     script.rests(&order("a", "2", "10", "0.1"));
     script.taken(&replace("a", "b", "2", "10", "0.1"), &["39=5", "150=5"]);
@@ -112,8 +113,8 @@ pub fn p5_39_on_replaced_is_1_or_5(script: &mut Script) {
     script.run(1, &[]);
 }
 
-pub fn p6_account_and_mpid_only_where_the_order_has_them(script: &mut Script) {
-    script.say("P6: 1 and 109 stand on all four execution kinds of an order that has them, and on no other's");
+pub fn account_and_mpid_only_where_the_order_has_them(script: &mut Script) {
+    script.say("Reports: 1 and 109 stand on all four execution kinds of an order that has them, and on no other's");
     script.open(1);
     script.taken(&order_of("10", "a", "2", "9", "0.1").adding("1", "x y"), &["1=x y", "109=10"]);
     script.run(1, &[]);
@@ -127,8 +128,8 @@ pub fn p6_account_and_mpid_only_where_the_order_has_them(script: &mut Script) {
     script.submit(&order_of("10", "a2", "2", "9", "0.1").adding("1", "x y"), 7, &["no 1", "no 109", "103=6"]);
 }
 
-pub fn p7_11_and_44_always_stand_on_replaced(script: &mut Script) {
-    script.say("P7: 11 and 44 stand on Replaced, requested or by a decrement");
+pub fn tags_11_and_44_always_stand_on_replaced(script: &mut Script) {
+    script.say("Reports: 11 and 44 stand on Replaced, requested or by a decrement");
     script.open(3);
     script.rests(&order_of("10", "a", "2", "9", "-0.5"));
     script.taken(&replace("a", "b", "2", "9", "-0.25"), &["150=5", "11=b", "44=-0.250"]);
@@ -137,14 +138,14 @@ pub fn p7_11_and_44_always_stand_on_replaced(script: &mut Script) {
     script.run(2, &[&["11=c", "44=-1.000", "39=4"], &["150=5", "11=b", "44=-0.250", "151=5"]]);
 }
 
-pub fn p8_average_is_cut_toward_zero(script: &mut Script) {
-    script.say("P8: AvgPx is cut toward zero after dividing the whole sum: -0.002 over 3 is -0.000666");
+pub fn average_is_cut_toward_zero(script: &mut Script) {
+    script.say("Reports: AvgPx is cut toward zero after dividing the whole sum: -0.002 over 3 is -0.000666");
     script.open(1);
     script.rests(&order("s1", "2", "1", "0"));
     script.rests(&order("s2", "2", "2", "-0.001"));
     script.taken(&order("b", "1", "3", "-0.001"), &["6=0.000000", "44=-0.001"]);
     script.run(3, &[&["37=1"], &["37=3", "6=0.000000"], &["37=2", "6=-0.001000"], &["37=3", "6=-0.000666"]]);
-    script.say("P8: -0.001 over 1,000 is -0.000001; over 1,001 it is cut to 0.000000, without a minus");
+    script.say("Reports: -0.001 over 1,000 is -0.000001; over 1,001 it is cut to 0.000000, without a minus");
     script.open(1);
     script.rests(&order("s1", "2", "999", "0"));
     script.rests(&order("s2", "2", "1", "-0.001"));
@@ -155,7 +156,7 @@ pub fn p8_average_is_cut_toward_zero(script: &mut Script) {
     script.rests(&order("s2", "2", "1", "-0.001"));
     script.taken(&order("b", "1", "1001", "-0.001"), &[]);
     script.run(3, &[&["37=1"], &["37=3"], &["37=2"], &["37=3", "6=0.000000"]]);
-    script.say("P8: the largest sums: 999,999,998 at 999999.999 and 1 at 999999.998");
+    script.say("Reports: the largest sums: 999,999,998 at 999999.999 and 1 at 999999.998");
     script.open(1);
     script.rests(&order("s1", "2", "999999998", "999999.999"));
     script.rests(&order("s2", "2", "1", "999999.998"));
@@ -184,8 +185,8 @@ pub fn p8_average_is_cut_toward_zero(script: &mut Script) {
     );
 }
 
-pub fn p9_replace_keeps_average_and_executed(script: &mut Script) {
-    script.say("P9: G does not touch 6 or 14: they cover all executions");
+pub fn replace_keeps_average_and_executed(script: &mut Script) {
+    script.say("Reports: G does not touch 6 or 14: they cover all executions");
     script.open(1);
     script.rests(&order("s1", "2", "1", "0.3"));
     script.taken(&order("b", "1", "3", "0.2"), &[]);
@@ -196,16 +197,16 @@ pub fn p9_replace_keeps_average_and_executed(script: &mut Script) {
     script.run(2, &[&["37=2", "14=3", "6=0.166666", "31=0.100", "39=2"], &["37=3"]]);
 }
 
-pub fn p10_own_yield_and_resting_yield(script: &mut Script) {
-    script.say("P10: 44 on a Trade is the order's own yield, 31 the resting one's");
+pub fn own_yield_and_resting_yield(script: &mut Script) {
+    script.say("Reports: 44 on a Trade is the order's own yield, 31 the resting one's");
     script.open(1);
     script.rests(&order("b", "1", "5", "0.1"));
     script.taken(&order("s", "2", "5", "0.25"), &[]);
     script.run(2, &[&["37=1", "44=0.100", "31=0.100"], &["37=2", "44=0.250", "31=0.100", "6=0.100000"]]);
 }
 
-pub fn p11_transact_time_is_the_sending_time(script: &mut Script) {
-    script.say("P11: 60 of a report is the message's 52, not its 60");
+pub fn transact_time_is_the_sending_time(script: &mut Script) {
+    script.say("Reports: 60 of a report is the message's 52, not its 60");
     script.open(1);
     let at = "60=20261116-10:11:12";
     script.taken(
@@ -219,8 +220,8 @@ pub fn p11_transact_time_is_the_sending_time(script: &mut Script) {
     );
 }
 
-pub fn p12_p16_numbers_go_up_by_one(script: &mut Script) {
-    script.say("P12, P16: every report takes one number, refusals 6 to 8 too, 1 to 5 none; 34 and 17 are the same");
+pub fn numbers_go_up_by_one(script: &mut Script) {
+    script.say("Reports: every report takes one number, refusals 6 to 8 too, 1 to 5 none; 34 and 17 are the same");
     script.open_from(98, 1);
     script.taken(&order("a", "2", "5", "0.1"), &["34=98", "17=98", "37=1"]);
     script.refused(&new_order("b"), 3);
@@ -232,7 +233,7 @@ pub fn p12_p16_numbers_go_up_by_one(script: &mut Script) {
     script.taken(&order("b", "1", "3", "0.1"), &["34=102", "17=102", "37=2"]);
     script.run(2, &[&["34=103", "17=103", "880=103"], &["34=104", "17=104", "880=103"]]);
     script.taken(&cancel("a", "a1", "2"), &["34=105", "17=105"]);
-    script.say("P12: 37 has up to three digits (case 12); numbers have up to nine");
+    script.say("Reports: 37 has up to three digits (case 12); numbers have up to nine");
     script.open_from(99_999_999, 1);
     script.taken(&new_order("a"), &["34=99999999", "17=99999999"]);
     script.run(1, &[]);
@@ -240,8 +241,8 @@ pub fn p12_p16_numbers_go_up_by_one(script: &mut Script) {
     script.run(1, &[]);
 }
 
-pub fn p13_contra_is_the_other_mpid(script: &mut Script) {
-    script.say("P13: 375 is the other's MPID, or 0");
+pub fn contra_is_the_other_mpid(script: &mut Script) {
+    script.say("Reports: 375 is the other's MPID, or 0");
     script.open_with(["V", "P", "350"], 1, &[(1, 1), (999_999, 1)], 0);
     script.rests(&order_of("1", "s", "2", "5", "0.1"));
     script.taken(&order_of("999999", "b", "1", "4", "0.1"), &[]);
@@ -250,8 +251,8 @@ pub fn p13_contra_is_the_other_mpid(script: &mut Script) {
     script.run(2, &[&["375=0", "109=1"], &["375=1", "no 109"]]);
 }
 
-pub fn p14_symbol_of_rejected_is_the_messages(script: &mut Script) {
-    script.say("P14: 55 on execution kinds is the market's code, on Rejected the message's");
+pub fn symbol_of_rejected_is_the_messages(script: &mut Script) {
+    script.say("Reports: 55 on execution kinds is the market's code, on Rejected the message's");
     script.open(1);
     script.submit(&new_order("a").with("55", "000"), 7, &["55=000", "103=1"]);
     script.taken(&new_order("a"), &["55=350"]);
@@ -259,8 +260,8 @@ pub fn p14_symbol_of_rejected_is_the_messages(script: &mut Script) {
     script.submit(&new_order("a"), 7, &["55=350", "103=6"]);
 }
 
-pub fn p15_short_body_length_has_two_digits(script: &mut Script) {
-    script.say("P15: 9 has no needless zero: two digits when under 100, three from there");
+pub fn short_body_length_has_two_digits(script: &mut Script) {
+    script.say("Reports: 9 has no needless zero: two digits when under 100, three from there");
     script.open(1);
     let short = Draft::of(&[("35", "A"), ("34", "1"), ("49", "P"), ("52", TIME), ("56", "V")]);
     script.submit_whole(
@@ -286,8 +287,8 @@ pub fn p15_short_body_length_has_two_digits(script: &mut Script) {
     );
 }
 
-pub fn p17_leaves_before_matching(script: &mut Script) {
-    script.say("P17: 151 on Accepted and Replaced is what is open right then, before any matching");
+pub fn leaves_before_matching(script: &mut Script) {
+    script.say("Reports: 151 on Accepted and Replaced is what is open right then, before any matching");
     script.open(1);
     script.rests(&order("s", "2", "5", "0.1"));
     script.taken(&order("b", "1", "5", "0.1"), &["38=5", "14=0", "151=5", "39=0"]);

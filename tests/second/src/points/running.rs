@@ -1,10 +1,10 @@
-//! Section R of READINGS: steps and Run.
+//! Steps and Run.
 
 use crate::compose::{cancel, new_order, order, order_of, replace, Draft, TIME};
 use crate::script::Script;
 
-pub fn r1_a_step_of_its_own_ends_the_work(script: &mut Script) {
-    script.say("R1: the step that leaves nothing open does not end the work; the next one does");
+pub fn a_step_of_its_own_ends_the_work(script: &mut Script) {
+    script.say("Run: the step that leaves nothing open does not end the work; the next one does");
     script.open(1);
     script.rests(&order("s", "2", "5", "0.1"));
     script.taken(&order("b", "1", "5", "0.1"), &[]);
@@ -13,49 +13,49 @@ pub fn r1_a_step_of_its_own_ends_the_work(script: &mut Script) {
     script.refused(&new_order("c"), 3);
     script.run_in(4096, 1, 1, &[]);
     script.no_level(1, 0);
-    script.say("R1: one step for an order that meets nothing");
+    script.say("Run: one step for an order that meets nothing");
     script.taken(&order("d", "1", "5", "0.1"), &[]);
     script.run_in(4096, 1, 1, &[]);
     script.run_in(4096, 1, 0, &[]);
     script.level(1, 0, 100, 5, 1);
 }
 
-pub fn r2_done_within_m_plus_1_steps(script: &mut Script) {
-    script.say("R2: m counts what is met at the yield just accepted; orders out of reach are not met");
+pub fn done_within_m_plus_1_steps(script: &mut Script) {
+    script.say("Run: m counts what is met at the yield just accepted; orders out of reach are not met");
     script.open(1);
     script.rests(&order("s1", "2", "5", "0.3"));
     script.rests(&order("s2", "2", "5", "0.2"));
     script.rests(&order("s3", "2", "5", "0.1"));
     script.taken(&order("b", "1", "20", "0.2"), &[]);
     script.run(3, &[&["37=1"], &["37=4"], &["37=2"], &["37=4", "151=10"]]);
-    script.say("R2: a replacement meets at its new yield");
+    script.say("Run: a replacement meets at its new yield");
     script.taken(&replace("b", "b1", "1", "20", "0.1"), &["150=5", "39=1", "151=10"]);
     script.run(2, &[&["37=3", "31=0.100"], &["37=4", "151=5", "44=0.100"]]);
     script.level(1, 0, 100, 5, 1);
     script.no_level(2, 0);
 }
 
-pub fn r3_prevention_of_an_ioc_leaves_no_rest(script: &mut Script) {
-    script.say("R3: mode 1 on an IOC: 378=100, and no 99 after it");
+pub fn prevention_of_an_ioc_leaves_no_rest(script: &mut Script) {
+    script.say("Run: mode 1 on an IOC: 378=100, and no 99 after it");
     script.open(1);
     script.rests(&order_of("10", "s", "2", "5", "0.1"));
     script.taken(&order_of("10", "b", "1", "9", "0.1").with("59", "3"), &[]);
     script.run(2, &[&["37=2", "39=4", "378=100", "59=3"]]);
     script.level(2, 0, 100, 5, 1);
-    script.say("R3: mode 3 with equal sizes on an IOC: both 378=100");
+    script.say("Run: mode 3 with equal sizes on an IOC: both 378=100");
     script.open(3);
     script.rests(&order_of("10", "s", "2", "5", "0.1"));
     script.taken(&order_of("10", "b", "1", "5", "0.1").with("59", "3"), &[]);
     script.run(2, &[&["37=1", "378=100"], &["37=2", "378=100"]]);
-    script.say("R3: mode 3, the IOC smaller: canceled with 378=100");
+    script.say("Run: mode 3, the IOC smaller: canceled with 378=100");
     script.open(3);
     script.rests(&order_of("10", "s", "2", "5", "0.1"));
     script.taken(&order_of("10", "b", "1", "3", "0.1").with("59", "3"), &[]);
     script.run(2, &[&["37=2", "39=4", "378=100"], &["37=1", "150=5", "378=100", "151=2"]]);
 }
 
-pub fn r4_decremented_ioc_goes_on_and_its_rest_is_canceled(script: &mut Script) {
-    script.say("R4: mode 3, the IOC larger: decremented, goes on, and its rest is canceled with 378=99");
+pub fn decremented_ioc_goes_on_and_its_rest_is_canceled(script: &mut Script) {
+    script.say("Run: mode 3, the IOC larger: decremented, goes on, and its rest is canceled with 378=99");
     script.open(3);
     script.rests(&order_of("10", "s1", "2", "5", "0.2"));
     script.rests(&order_of("11", "s2", "2", "3", "0.1"));
@@ -72,8 +72,8 @@ pub fn r4_decremented_ioc_goes_on_and_its_rest_is_canceled(script: &mut Script) 
     );
 }
 
-pub fn r5_a_decrement_keeps_the_place(script: &mut Script) {
-    script.say("R5: a decrement keeps the place: the decremented sell is still first");
+pub fn a_decrement_keeps_the_place(script: &mut Script) {
+    script.say("Run: a decrement keeps the place: the decremented sell is still first");
     script.open(3);
     script.rests(&order_of("10", "s1", "2", "200", "0.1"));
     script.rests(&order_of("11", "s2", "2", "100", "0.1"));
@@ -84,8 +84,8 @@ pub fn r5_a_decrement_keeps_the_place(script: &mut Script) {
     script.level(2, 0, 100, 100, 1);
 }
 
-pub fn r6_run_with_nothing_to_do(script: &mut Script) {
-    script.say("R6: Run with nothing in work, with budget 0, and with a small area");
+pub fn run_with_nothing_to_do(script: &mut Script) {
+    script.say("Run: nothing in work, budget 0, and a small area");
     script.open(1);
     script.run_in(1024, 5, 0, &[]);
     script.run_in(1024, 0, 0, &[]);
@@ -117,8 +117,8 @@ fn trade_of_5() -> [Draft; 2] {
     [Draft::of_text(&resting), Draft::of_text(&in_work)]
 }
 
-pub fn r7_room_is_asked_before_each_step(script: &mut Script) {
-    script.say("R7: room for 1,024 bytes is asked before each step: at exactly 1,024 left the next step is taken");
+pub fn room_is_asked_before_each_step(script: &mut Script) {
+    script.say("Run: room for 1,024 bytes is asked before each step: at exactly 1,024 left the next step is taken");
     let written: usize = trade_of_5().iter().map(|report| report.bytes().len()).sum();
     let book = |script: &mut Script| {
         script.open(1);
@@ -129,16 +129,16 @@ pub fn r7_room_is_asked_before_each_step(script: &mut Script) {
     book(script);
     script.run_in(1024 + written - 1, 9, 1, &[&["37=1", "880=4"], &["37=3", "880=4", "151=10"]]);
     script.run_in(1024, 9, 1, &[&["37=2"], &["37=3", "151=5"]]);
-    script.say("R7: the ending step too, although it writes nothing");
+    script.say("Run: the ending step too, although it writes nothing");
     script.depth_refused(1, 0, 3);
     script.run_in(1024, 9, 1, &[]);
     script.level(1, 0, 100, 5, 1);
-    script.say("R7: one byte more and both trades are done");
+    script.say("Run: one byte more and both trades are done");
     book(script);
     script.run_in(1024 + written, 9, 2, &[&["37=1"], &["37=3"], &["37=2"], &["37=3"]]);
     script.depth_refused(1, 0, 3);
     script.run_in(1024, 9, 1, &[]);
-    script.say("R7: 1,023 bytes free after the last trade leave the order in work");
+    script.say("Run: 1,023 bytes free after the last trade leave the order in work");
     script.open(1);
     script.rests(&order("s1", "2", "5", "0.1"));
     script.taken(&order("b", "1", "5", "0.1"), &[]);
@@ -147,8 +147,8 @@ pub fn r7_room_is_asked_before_each_step(script: &mut Script) {
     script.run_in(1024, 9, 1, &[]);
 }
 
-pub fn r8_sending_time_stays_while_run_stops(script: &mut Script) {
-    script.say("R8: all reports of Run bear the 52 of the message in work; a refused Submit leaves it");
+pub fn sending_time_stays_while_run_stops(script: &mut Script) {
+    script.say("Run: all reports of Run bear the 52 of the message in work; a refused Submit leaves it");
     script.open(1);
     script.rests(&order("s1", "2", "5", "0.1").with("52", "20261116-09:00:01"));
     script.rests(&order("s2", "2", "5", "0.1").with("52", "20261116-09:00:02"));
@@ -164,8 +164,8 @@ pub fn r8_sending_time_stays_while_run_stops(script: &mut Script) {
     script.run_in(1024, 9, 1, &[&["52=20261116-09:00:03", "60=20261116-09:00:03", "378=99"]]);
 }
 
-pub fn r9_a_cancel_is_done_in_submit(script: &mut Script) {
-    script.say("R9: F is done in Submit; nothing is in work after it");
+pub fn a_cancel_is_done_in_submit(script: &mut Script) {
+    script.say("Run: F is done in Submit; nothing is in work after it");
     script.open(1);
     script.rests(&order("a", "1", "10", "0.5"));
     script.taken(&cancel("a", "b", "1"), &["150=4", "39=4", "151=0", "11=b", "41=a", "no 378", "38=10"]);
@@ -174,8 +174,8 @@ pub fn r9_a_cancel_is_done_in_submit(script: &mut Script) {
     script.rests(&order("a", "1", "10", "0.5"));
 }
 
-pub fn r10_a_refused_run_gives_zeros(script: &mut Script) {
-    script.say("R10: a refused Run gives 0 bytes, reports and steps");
+pub fn a_refused_run_gives_zeros(script: &mut Script) {
+    script.say("Run: a refused Run gives 0 bytes, reports and steps");
     script.open(1);
     script.rests(&order("s", "2", "5", "0.1"));
     script.taken(&order("b", "1", "5", "0.1"), &[]);
@@ -183,20 +183,20 @@ pub fn r10_a_refused_run_gives_zeros(script: &mut Script) {
     script.run(2, &[&["34=3"], &["34=4"]]);
 }
 
-pub fn r11_one_mpid_alone_does_not_prevent(script: &mut Script) {
-    script.say("R11: only one carries an MPID: they trade; 375 is that MPID on the other's report and 0 on its own");
+pub fn one_mpid_alone_does_not_prevent(script: &mut Script) {
+    script.say("Run: only one carries an MPID: they trade; 375 is that MPID on the other's report and 0 on its own");
     script.open(1);
     script.rests(&order_of("10", "s", "2", "5", "0.1"));
     script.taken(&order("b", "1", "5", "0.1"), &[]);
     script.run(2, &[&["37=1", "375=0", "109=10"], &["37=2", "375=10", "no 109"]]);
-    script.say("R11: and two different ones trade");
+    script.say("Run: and two different ones trade");
     script.rests(&order_of("10", "s2", "2", "5", "0.1"));
     script.taken(&order_of("11", "b2", "1", "5", "0.1"), &[]);
     script.run(2, &[&["37=3", "375=11", "109=10"], &["37=4", "375=10", "109=11"]]);
 }
 
-pub fn r13_cancel_oldest_goes_on_to_the_next(script: &mut Script) {
-    script.say("R13: mode 2 cancels the resting orders of its own, one a step, and goes on");
+pub fn cancel_oldest_goes_on_to_the_next(script: &mut Script) {
+    script.say("Run: mode 2 cancels the resting orders of its own, one a step, and goes on");
     script.open(2);
     script.rests(&order_of("10", "s1", "2", "5", "0.3"));
     script.rests(&order_of("10", "s2", "2", "5", "0.2"));
@@ -208,8 +208,8 @@ pub fn r13_cancel_oldest_goes_on_to_the_next(script: &mut Script) {
     );
 }
 
-pub fn r14_the_mode_is_that_of_the_mpid(script: &mut Script) {
-    script.say("R14: one market, three MPIDs with three modes");
+pub fn the_mode_is_that_of_the_mpid(script: &mut Script) {
+    script.say("Run: one market, three MPIDs with three modes");
     script.open_with(["V", "P", "350"], 1, &[(3, 3), (999_999, 2), (1, 1)], 0);
     for mpid in ["1", "999999", "3"] {
         script.rests(&order_of(mpid, &format!("s{mpid}"), "2", "10", "0.1"));

@@ -1,10 +1,10 @@
-//! Section S of READINGS: the Session Reject.
+//! The Session Reject: its reasons, and which comes first.
 
 use crate::compose::{cancel, new_order, order, replace, Draft, TIME};
 use crate::script::Script;
 
-pub fn s1_fields_are_asked_one_by_one_from_the_left(script: &mut Script) {
-    script.say("S1: the first field that fails decides, whatever its reason");
+pub fn fields_are_asked_one_by_one_from_the_left(script: &mut Script) {
+    script.say("Session Reject: the first field that fails decides, whatever its reason");
     script.open(1);
     script.session_reject(&new_order("a").with("54", "9").adding("58", "x"), 5, 54);
     script.session_reject(&new_order("a").with("54", "9").inserting("11", "58", "x"), 3, 58);
@@ -12,9 +12,9 @@ pub fn s1_fields_are_asked_one_by_one_from_the_left(script: &mut Script) {
     script.session_reject(&new_order("a").with("38", "x").with("21", "7"), 5, 21);
     script.session_reject(&new_order("a").swapping("38", "21").with("38", "x").with("21", "7"), 6, 38);
     script.session_reject(&new_order("a").inserting("11", "41", "x").with("38", "x"), 2, 41);
-    script.say("S1: body fields in any order are good");
+    script.say("Session Reject: body fields in any order are good");
     script.rests(&new_order("a").swapping("11", "8060").swapping("38", "60").swapping("21", "55"));
-    script.say("S1: one field is asked 3, 2, 4, 6, 5 in this order");
+    script.say("Session Reject: one field is asked 3, 2, 4, 6, 5 in this order");
     script.session_reject(&new_order("b").adding("58", ""), 3, 58);
     script.session_reject(&new_order("b").adding("41", ""), 2, 41);
     script.session_reject(&replace("a", "b", "1", "1", "1").adding("47", "xx"), 2, 47);
@@ -23,16 +23,16 @@ pub fn s1_fields_are_asked_one_by_one_from_the_left(script: &mut Script) {
     script.session_reject(&new_order("b").with("38", "0"), 5, 38);
 }
 
-pub fn s2_tags_of_no_list_are_undefined(script: &mut Script) {
-    script.say("S2: tags in none of the three lists are 3, also those that reports have");
+pub fn tags_of_no_list_are_undefined(script: &mut Script) {
+    script.say("Session Reject: tags in none of the three lists are 3, also those that reports have");
     script.open(1);
     for tag in [2, 6, 14, 15, 37, 39, 45, 58, 102, 103, 110, 150, 151, 371, 378, 423, 797, 8061, 9999] {
         script.session_reject(&new_order("a").adding(&tag.to_string(), "1"), 3, tag);
     }
 }
 
-pub fn s3_tags_of_another_type(script: &mut Script) {
-    script.say("S3: in another type's list, but neither needed nor allowed here: 2, also when empty");
+pub fn tags_of_another_type(script: &mut Script) {
+    script.say("Session Reject: in another type's list, but neither needed nor allowed here: 2, also when empty");
     script.open(1);
     script.session_reject(&new_order("a").adding("41", "x"), 2, 41);
     for (tag, value) in [(1, "x"), (47, "A"), (59, "0"), (109, "10"), (8060, "1")] {
@@ -46,8 +46,8 @@ pub fn s3_tags_of_another_type(script: &mut Script) {
     script.session_reject(&cancel("x", "a", "1").adding("44", ""), 2, 44);
 }
 
-pub fn s4_s5_session_reject_says_tag_type_and_number(script: &mut Script) {
-    script.say("S4, S5: 371 always stands, 372 is the 35 as sent, 45 the 34 as a number");
+pub fn session_reject_says_tag_type_and_number(script: &mut Script) {
+    script.say("Session Reject: 371 always stands, 372 is the 35 as sent, 45 the 34 as a number");
     script.open(1);
     script.submit(&new_order("a").with("35", "AB").with("34", "0042"), 6, &["45=42", "371=35", "372=AB", "373=11"]);
     script.submit(&new_order("a").with("49", "Q"), 6, &["45=1", "371=49", "372=D", "373=9", "49=V", "56=P"]);
@@ -60,8 +60,8 @@ pub fn s4_s5_session_reject_says_tag_type_and_number(script: &mut Script) {
     );
 }
 
-pub fn s6_type_then_sender_then_target(script: &mut Script) {
-    script.say("S6: 11 before 9, 49 before 56, and both before the body; bytes are compared");
+pub fn type_then_sender_then_target(script: &mut Script) {
+    script.say("Session Reject: 11 before 9, 49 before 56, and both before the body; bytes are compared");
     script.open(1);
     script.session_reject(&new_order("a").with("35", "E").with("49", "Q").with("56", "W"), 11, 35);
     script.session_reject(&new_order("a").with("49", "Q").with("56", "W"), 9, 49);
@@ -73,8 +73,8 @@ pub fn s6_type_then_sender_then_target(script: &mut Script) {
     script.session_reject(&new_order("a").with("56", "Venue-of-many-characters"), 9, 56);
 }
 
-pub fn s7_one_character_is_shape_and_the_set_is_values(script: &mut Script) {
-    script.say("S7: two characters are 6, a character outside the set is 5");
+pub fn one_character_is_shape_and_the_set_is_values(script: &mut Script) {
+    script.say("Session Reject: two characters are 6, a character outside the set is 5");
     script.open(1);
     for (tag, known, unknown) in
         [(21, "1", "2"), (40, "2", "1"), (47, "A", "I"), (54, "1", "3"), (59, "0", "4"), (8060, "1", "2")]
@@ -88,7 +88,7 @@ pub fn s7_one_character_is_shape_and_the_set_is_values(script: &mut Script) {
     for (tag, value) in [(21, "3"), (47, "Q"), (54, "0"), (59, "1"), (59, "5"), (8060, "0"), (8060, "7")] {
         script.session_reject(&new_order("a").with(&tag.to_string(), value), 5, tag);
     }
-    script.say("S7: every value of the sets is taken and said back");
+    script.say("Session Reject: every value of the sets is taken and said back");
     for (id, tag, value) in [
         ("a", "47", "P"),
         ("b", "59", "3"),
@@ -103,9 +103,9 @@ pub fn s7_one_character_is_shape_and_the_set_is_values(script: &mut Script) {
     }
 }
 
-pub fn s8_zeros_in_38_and_109(script: &mut Script) {
+pub fn zeros_in_38_and_109(script: &mut Script) {
     script
-        .say("S8: the value counts: all zeros are 5, too many digits are 6, leading zeros within the digits are taken");
+        .say("Session Reject: the value counts: all zeros are 5, too many digits are 6, leading zeros within the digits are taken");
     script.open(1);
     for (tag, value, reason) in [
         (38, "0", 5),
@@ -128,8 +128,8 @@ pub fn s8_zeros_in_38_and_109(script: &mut Script) {
     script.run(1, &[]);
 }
 
-pub fn s9_yields_have_a_shape_only(script: &mut Script) {
-    script.say("S9: yields: leading zeros are taken, -0 is 0, every value of the shape is in range");
+pub fn yields_have_a_shape_only(script: &mut Script) {
+    script.say("Session Reject: yields: leading zeros are taken, -0 is 0, every value of the shape is in range");
     script.open(1);
     let good = [
         ("1", "1.000"),
@@ -151,7 +151,7 @@ pub fn s9_yields_have_a_shape_only(script: &mut Script) {
         script.taken(&order(&format!("a{at}"), "2", "1", sent), &[&format!("44={written}")]);
         script.run(1, &[]);
     }
-    script.say("S9: anything else is 6");
+    script.say("Session Reject: anything else is 6");
     for bad in [
         "1.", ".5", "+1", "-", ".", "-.5", "1.2345", "1234567", "0000001", "1,5", "1.5.0", "--1", "1-", " 1", "1 ",
         "1e1", "1.-5", "-1.", "1. 5", "0x1",
@@ -160,8 +160,8 @@ pub fn s9_yields_have_a_shape_only(script: &mut Script) {
     }
 }
 
-pub fn s10_transact_time_shape_before_ranges(script: &mut Script) {
-    script.say("S10: 60: length, digits and marks first (6), then ranges (5)");
+pub fn transact_time_shape_before_ranges(script: &mut Script) {
+    script.say("Session Reject: 60: length, digits and marks first (6), then ranges (5)");
     script.open(1);
     for (time, reason) in [
         ("20201301-09:00:0x", 6),
@@ -186,8 +186,8 @@ pub fn s10_transact_time_shape_before_ranges(script: &mut Script) {
     script.rests(&new_order("a").with("60", "00000231-23:59:59"));
 }
 
-pub fn s11_ids_and_account_have_a_longest_length(script: &mut Script) {
-    script.say("S11: 1 up to 10 characters, 11 and 41 up to 32; longer is 6");
+pub fn ids_and_account_have_a_longest_length(script: &mut Script) {
+    script.say("Session Reject: 1 up to 10 characters, 11 and 41 up to 32; longer is 6");
     script.open(1);
     let (ten, thirty_two) = ("acct-56789", "an-identifier-of-32-characters-!");
     script.taken(&new_order(thirty_two).adding("1", ten), &["1=acct-56789", "11=an-identifier-of-32-characters-!"]);
@@ -199,8 +199,8 @@ pub fn s11_ids_and_account_have_a_longest_length(script: &mut Script) {
     script.taken(&cancel(thirty_two, &new_id, "1"), &[&format!("11={new_id}"), &format!("41={thirty_two}")]);
 }
 
-pub fn s12_symbol_has_a_shape_only(script: &mut Script) {
-    script.say("S12: 55 is 1 to 9 digits, else 6; another code is 103=1 or 102=1");
+pub fn symbol_has_a_shape_only(script: &mut Script) {
+    script.say("Session Reject: 55 is 1 to 9 digits, else 6; another code is 103=1 or 102=1");
     script.open(1);
     for bad in ["0123456789", "35O", "JGB", "350 ", "-350", "3.5"] {
         script.session_reject(&new_order("a").with("55", bad), 6, 55);
@@ -210,8 +210,8 @@ pub fn s12_symbol_has_a_shape_only(script: &mut Script) {
     script.cancel_reject(&cancel("x", "a", "1").with("55", "999999999"), 1, &["37=NONE", "39=8"]);
 }
 
-pub fn s13_order_qty_of_a_cancel_is_looked_at_and_not_used(script: &mut Script) {
-    script.say("S13: 38 in F is looked at like any field, and then not used");
+pub fn order_qty_of_a_cancel_is_looked_at_and_not_used(script: &mut Script) {
+    script.say("Session Reject: 38 in F is looked at like any field, and then not used");
     script.open(1);
     script.rests(&new_order("a"));
     script.session_reject(&cancel("a", "b", "1").with("38", "0"), 5, 38);
@@ -220,8 +220,8 @@ pub fn s13_order_qty_of_a_cancel_is_looked_at_and_not_used(script: &mut Script) 
     script.no_level(1, 0);
 }
 
-pub fn s14_smallest_missing_tag(script: &mut Script) {
-    script.say("S14: the smallest missing tag, asked only when every field that is there is right");
+pub fn smallest_missing_tag(script: &mut Script) {
+    script.say("Session Reject: the smallest missing tag, asked only when every field that is there is right");
     script.open(1);
     for tag in [11, 21, 38, 40, 44, 47, 54, 55, 59, 60, 8060] {
         script.session_reject(&new_order("a").without(&tag.to_string()), 1, tag);
@@ -241,19 +241,19 @@ pub fn s14_smallest_missing_tag(script: &mut Script) {
     }
 }
 
-pub fn s15_values_are_compared_in_their_case(script: &mut Script) {
-    script.say("S15: 47=a is 5");
+pub fn values_are_compared_in_their_case(script: &mut Script) {
+    script.say("Session Reject: 47=a is 5");
     script.open(1);
     script.session_reject(&new_order("a").with("47", "a"), 5, 47);
     script.session_reject(&new_order("a").with("47", "p"), 5, 47);
-    script.say("S15: ClOrdIDs too: a and A are two ids");
+    script.say("Session Reject: ClOrdIDs too: a and A are two ids");
     script.rests(&new_order("a"));
     script.rests(&new_order("A"));
     script.rejected(&new_order("a"), 6);
 }
 
-pub fn s16_sequence_numbers_and_times_are_not_compared(script: &mut Script) {
-    script.say("S16: 34 may repeat or fall, 60 need not agree with 52, 52 may go back");
+pub fn sequence_numbers_and_times_are_not_compared(script: &mut Script) {
+    script.say("Session Reject: 34 may repeat or fall, 60 need not agree with 52, 52 may go back");
     script.open(1);
     script.rests(&new_order("a").with("34", "900"));
     script.rests(&new_order("b").with("34", "900").with("60", "19700101-00:00:00"));

@@ -24,14 +24,14 @@ abbrev μ-loop : tie.MeasureT-loop
 loop-holds : tie.Need-loop-holds Inv-loop μ-loop
 loop-holds c = (passed-none, marked-none _ refl)
 
-add-place : tie.Need-add-place Inv-loop μ-loop
-add-place c = omega arith
+add-place-at : tie.Need-add-place-at Inv-loop μ-loop
+add-place-at c = omega arith
 
-place-requires : tie.Need-place-requires Inv-loop μ-loop
-place-requires c κs = omega arith
+place-at-requires : tie.Need-place-at-requires Inv-loop μ-loop
+place-at-requires c κs = omega arith
 
 returns : tie.Need-returns Inv-loop μ-loop
-returns c = places-all _ _ _ (c .before .before .before .before .before .pre .1) _ (passed-stop (c .before .before .before .loop .inv .0) (c .before .before .loop-test .taken) (place-high _ _ _ (c .before .before .before .before .before .pre .1) _ _ (c .before .before .loop-test .taken) (c .before .place .ensures .0) (c .if1 .taken)))
+returns c = places-all _ _ _ (c .before .before .before .before .before .pre .1) _ (passed-stop (c .before .before .before .loop .inv .0) (c .before .before .loop-test .taken) (place-high _ _ _ (c .before .before .before .before .before .pre .1) _ _ (c .before .before .loop-test .taken) (c .before .place-at .ensures .0) (c .if1 .taken)))
 
 array-read-if2 : tie.Need-array-read-if2 Inv-loop μ-loop
 array-read-if2 c = omega (arith, c .before .before .before .loop .inv .1 .size)
@@ -55,8 +55,8 @@ loop-again : tie.Need-loop-again Inv-loop μ-loop
 loop-again c =
     let t = c .before .before .before .before .before .before .args .t .now in
     let l = c .before .before .before .before .loop in
-    let p = c .before .before .place .ensures .0 in
-    let e : c .before .before .place .result % 2048 ≡ placeKeyAt (bookOf t) (l .j) =
+    let p = c .before .before .place-at .ensures .0 in
+    let e : c .before .before .place-at .result % 2048 ≡ placeKeyAt (bookOf t) (l .j) =
     ap placeKey (place-read t _ (l .j) _ (c .before .before .before .before .before .before .pre .1) (c .before .before .before .loop-test .taken) p) in
     let h : isFreshPlace (bookOf t) (l .j) ≡ true =
     ⊎-elim (λ w. sym (w .1 .ensures) ∙ not-false _ (w .2 .left))
@@ -75,8 +75,8 @@ has-places-spec =
     Inv-loop
     μ-loop
     loop-holds
-    add-place
-    place-requires
+    add-place-at
+    place-at-requires
     returns
     array-read-if2
     is-fresh-place-requires

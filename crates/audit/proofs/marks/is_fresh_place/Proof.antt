@@ -19,24 +19,24 @@ Inv-loop t n j p i₀ i = Passed (λ k. not (eqb (at (bookOf t) (suc k) .place) 
 abbrev μ-loop : tie.MeasureT-loop
 μ-loop t n j p i₀ i = j - i
 
-add-place : tie.Need-add-place Inv-loop μ-loop
-add-place c = omega arith
+add-place-at : tie.Need-add-place-at Inv-loop μ-loop
+add-place-at c = omega arith
 
-place-requires : tie.Need-place-requires Inv-loop μ-loop
-place-requires c κs = omega arith
+place-at-requires : tie.Need-place-at-requires Inv-loop μ-loop
+place-at-requires c κs = omega arith
 
 loop-holds : tie.Need-loop-holds Inv-loop μ-loop
 loop-holds c = passed-none
 
-add-place-2 : tie.Need-add-place-2 Inv-loop μ-loop
-add-place-2 c = omega arith
+add-place-at-2 : tie.Need-add-place-at-2 Inv-loop μ-loop
+add-place-at-2 c = omega arith
 
-place-requires-2 : tie.Need-place-requires-2 Inv-loop μ-loop
-place-requires-2 c κs = omega arith
+place-at-requires-2 : tie.Need-place-at-requires-2 Inv-loop μ-loop
+place-at-requires-2 c κs = omega arith
 
 returns : tie.Need-returns Inv-loop μ-loop
 unfolding isFreshPlace
-returns c = sym (passed-stop (c .before .before .before .loop .inv) (c .before .before .loop-test .taken) (differ-not _ _ _ _ (place-read _ (c .before .before .before .before .before .before .args .n) _ _ (c .before .before .before .before .before .before .pre .1) (omega arith) (c .before .place2 .ensures .0)) (place-read _ (c .before .before .before .before .before .before .args .n) _ _ (c .before .before .before .before .before .before .pre .1) (c .before .before .before .before .before .before .pre .3) (c .before .before .before .before .place .ensures .0)) (c .if1 .taken)))
+returns c = sym (passed-stop (c .before .before .before .loop .inv) (c .before .before .loop-test .taken) (differ-not _ _ _ _ (place-read _ (c .before .before .before .before .before .before .args .n) _ _ (c .before .before .before .before .before .before .pre .1) (omega arith) (c .before .place-at2 .ensures .0)) (place-read _ (c .before .before .before .before .before .before .args .n) _ _ (c .before .before .before .before .before .before .pre .1) (c .before .before .before .before .before .before .pre .3) (c .before .before .before .before .place-at .ensures .0)) (c .if1 .taken)))
 
 add-i : tie.Need-add-i Inv-loop μ-loop
 add-i c = omega arith
@@ -45,7 +45,7 @@ loop-less : tie.Need-loop-less Inv-loop μ-loop
 loop-less c = omega arith
 
 loop-again : tie.Need-loop-again Inv-loop μ-loop
-loop-again c = passed-more (c .before .before .before .loop .inv) (c .before .before .loop-test .taken) (differ-yes _ _ _ _ (place-read _ (c .before .before .before .before .before .before .args .n) _ _ (c .before .before .before .before .before .before .pre .1) (omega arith) (c .before .place2 .ensures .0)) (place-read _ (c .before .before .before .before .before .before .args .n) _ _ (c .before .before .before .before .before .before .pre .1) (c .before .before .before .before .before .before .pre .3) (c .before .before .before .before .place .ensures .0)) (c .if1 .left))
+loop-again c = passed-more (c .before .before .before .loop .inv) (c .before .before .loop-test .taken) (differ-yes _ _ _ _ (place-read _ (c .before .before .before .before .before .before .args .n) _ _ (c .before .before .before .before .before .before .pre .1) (omega arith) (c .before .place-at2 .ensures .0)) (place-read _ (c .before .before .before .before .before .before .args .n) _ _ (c .before .before .before .before .before .before .pre .1) (c .before .before .before .before .before .before .pre .3) (c .before .before .before .before .place-at .ensures .0)) (c .if1 .left))
 
 returns-2 : tie.Need-returns-2 Inv-loop μ-loop
 unfolding isFreshPlace
@@ -57,11 +57,11 @@ is-fresh-place-spec =
     (tie.spec
     Inv-loop
     μ-loop
-    add-place
-    place-requires
+    add-place-at
+    place-at-requires
     loop-holds
-    add-place-2
-    place-requires-2
+    add-place-at-2
+    place-at-requires-2
     returns
     add-i
     loop-less

@@ -1,5 +1,5 @@
 -- `audit::has_open` meets its contract.
-use Rattle.audit.proofs.Amounts.{open-used}
+use Rattle.table.proofs.Loaded.{open-used}
 use borrow.Author.Needs.{needs}
 use Rattle.audit.proofs.sound.has_open.Statement.{statement}
 use Rattle.audit.proofs.sound.has_open.Tie as tie

@@ -4,8 +4,8 @@ use borrow.Author.Needs.{needs}
 use Rattle.audit.proofs.sound.is_order.Statement.{statement}
 use Rattle.audit.proofs.sound.is_order.Tie as tie
 
-order-at-requires : tie.Need-order-at-requires
-order-at-requires c κs = search needs
+load-requires : tie.Need-load-requires
+load-requires c κs = search needs
 
 is-record-requires : tie.Need-is-record-requires
 is-record-requires c κs = search needs
@@ -17,13 +17,13 @@ is-known-requires : tie.Need-is-known-requires
 is-known-requires c κs = search needs
 
 is-within-requires : tie.Need-is-within-requires
-is-within-requires c κs = narrow-load _ _ (λ j. c .before .before .before .before .shared-slice-known .given j .fits) (c .before .before .before .order-at .ensures)
+is-within-requires c κs = narrow-load _ _ (λ j. c .before .before .before .before .shared-slice-known .given j .fits) (c .before .before .before .load .ensures)
 
 is-shut-requires : tie.Need-is-shut-requires
-is-shut-requires c κs = narrow-load _ _ (λ j. c .before .before .before .before .before .shared-slice-known .given j .fits) (c .before .before .before .before .order-at .ensures)
+is-shut-requires c κs = narrow-load _ _ (λ j. c .before .before .before .before .before .shared-slice-known .given j .fits) (c .before .before .before .before .load .ensures)
 
 is-priced-requires : tie.Need-is-priced-requires
-is-priced-requires c κs = narrow-load _ _ (λ j. c .before .before .before .before .before .before .shared-slice-known .given j .fits) (c .before .before .before .before .before .order-at .ensures)
+is-priced-requires c κs = narrow-load _ _ (λ j. c .before .before .before .before .before .before .shared-slice-known .given j .fits) (c .before .before .before .before .before .load .ensures)
 
 returns : tie.Need-returns
 returns c = search (needs, order-is)
@@ -32,7 +32,7 @@ pub is-order-spec : {M : Type 1} → statement M
 is-order-spec =
     tie.close
     (tie.spec
-    order-at-requires
+    load-requires
     is-record-requires
     is-ranged-requires
     is-known-requires

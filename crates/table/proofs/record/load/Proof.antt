@@ -25,53 +25,50 @@ shared-slice-read-wide-2 c = search needs
 wide-requires-2 : tie.Need-wide-requires-2
 wide-requires-2 c κs = search needs
 
-add-le-at : tie.Need-add-le-at
-add-le-at c = search needs
+add-four-at : tie.Need-add-four-at
+add-four-at c = search needs
 
-le-at-requires : tie.Need-le-at-requires
-le-at-requires c κs = search needs
+four-at-requires : tie.Need-four-at-requires
+four-at-requires c κs = search needs
 
-add-le-at-2 : tie.Need-add-le-at-2
-add-le-at-2 c = search needs
+add-four-at-2 : tie.Need-add-four-at-2
+add-four-at-2 c = search needs
 
-le-at-requires-2 : tie.Need-le-at-requires-2
-le-at-requires-2 c κs = search needs
+four-at-requires-2 : tie.Need-four-at-requires-2
+four-at-requires-2 c κs = search needs
 
-add-le-at-3 : tie.Need-add-le-at-3
-add-le-at-3 c = search needs
+add-four-at-3 : tie.Need-add-four-at-3
+add-four-at-3 c = search needs
 
-le-at-requires-3 : tie.Need-le-at-requires-3
-le-at-requires-3 c κs = search needs
+four-at-requires-3 : tie.Need-four-at-requires-3
+four-at-requires-3 c κs = search needs
 
-add-le-at-4 : tie.Need-add-le-at-4
-add-le-at-4 c = search needs
+add-four-at-4 : tie.Need-add-four-at-4
+add-four-at-4 c = search needs
 
-le-at-requires-4 : tie.Need-le-at-requires-4
-le-at-requires-4 c κs = search needs
+four-at-requires-4 : tie.Need-four-at-requires-4
+four-at-requires-4 c κs = search needs
 
-add-le-at-5 : tie.Need-add-le-at-5
-add-le-at-5 c = search needs
+add-four-at-5 : tie.Need-add-four-at-5
+add-four-at-5 c = search needs
 
-le-at-requires-5 : tie.Need-le-at-requires-5
-le-at-requires-5 c κs = search needs
+four-at-requires-5 : tie.Need-four-at-requires-5
+four-at-requires-5 c κs = search needs
 
-add-le-at-6 : tie.Need-add-le-at-6
-add-le-at-6 c = search needs
+sum-at-requires : tie.Need-sum-at-requires
+sum-at-requires c κs = search needs
 
-le-at-requires-6 : tie.Need-le-at-requires-6
-le-at-requires-6 c κs = search needs
+add-four-at-6 : tie.Need-add-four-at-6
+add-four-at-6 c = search needs
 
-add-le-at-7 : tie.Need-add-le-at-7
-add-le-at-7 c = search needs
+four-at-requires-6 : tie.Need-four-at-requires-6
+four-at-requires-6 c κs = search needs
 
-le-at-requires-7 : tie.Need-le-at-requires-7
-le-at-requires-7 c κs = search needs
+add-four-at-7 : tie.Need-add-four-at-7
+add-four-at-7 c = search needs
 
-add-le-at-8 : tie.Need-add-le-at-8
-add-le-at-8 c = search needs
-
-le-at-requires-8 : tie.Need-le-at-requires-8
-le-at-requires-8 c κs = search needs
+four-at-requires-7 : tie.Need-four-at-requires-7
+four-at-requires-7 c κs = search needs
 
 returns : tie.Need-returns
 unfolding orderAt
@@ -88,20 +85,19 @@ load-spec =
     add-wide-2
     shared-slice-read-wide-2
     wide-requires-2
-    add-le-at
-    le-at-requires
-    add-le-at-2
-    le-at-requires-2
-    add-le-at-3
-    le-at-requires-3
-    add-le-at-4
-    le-at-requires-4
-    add-le-at-5
-    le-at-requires-5
-    add-le-at-6
-    le-at-requires-6
-    add-le-at-7
-    le-at-requires-7
-    add-le-at-8
-    le-at-requires-8
+    add-four-at
+    four-at-requires
+    add-four-at-2
+    four-at-requires-2
+    add-four-at-3
+    four-at-requires-3
+    add-four-at-4
+    four-at-requires-4
+    add-four-at-5
+    four-at-requires-5
+    sum-at-requires
+    add-four-at-6
+    four-at-requires-6
+    add-four-at-7
+    four-at-requires-7
     returns)

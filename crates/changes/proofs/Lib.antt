@@ -1,2 +1,0 @@
--- The laws of `changes`.
-pub mod Counting

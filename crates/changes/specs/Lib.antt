@@ -1,2 +1,0 @@
--- What the contracts of `changes` cite.
-pub mod Changes

@@ -1,0 +1,145 @@
+-- What the calls on a table do not answer or leave: each wrong answer that docs/PROMISES.md names, on a table and a message that would
+-- tell it apart. The definitions are run on all bytes of both.
+use mathlib.Core.Path.{_≡_, refl}
+use mathlib.Core.List.{List, [], _∷_, map}
+use Prim.Native.Nat.{ℕ, _+_}
+use lib.ListN.{length, replicate}
+use Rattle.octets.specs.Octets.{leAt, bytesOf, put, partAt, textAt, textBytes, sameBytes, allZero}
+use Rattle.octets.specs.Tests.{allUpTo, firstFrom}
+use Rattle.decimal.specs.Writing.{decimal, places, plain, fixed, shareOf, meanOf}
+use Rattle.decimal.specs.Reading.{isDigit, digitOf, runOf, numberAfter, isNumber, numOf, digitAt, isFraction, fractionOf, sizeOf, levelOf, isTimeLength, twoAt, timeShaped, timeRanged, isTime}
+use Rattle.fix.specs.Fields.{isText, startsTag, leading, tagOf, valueFrom, valueLen, fieldOf, fieldsAfter, fieldsFrom, stepOf, findTag, valueOf, hasTag, repeats, cleanFields, lastTagOr}
+use Rattle.fix.specs.Garbled.{headedBy, ordered, headerRight, partOf, endOf, tenAt, lengthTrue, sumOf, checkSum, sumTrue, garbledMessage, bodyPart, headOf, frameOf}
+use Rattle.request.specs.Asks.{bodyOf, saidIn, lengthIn, refusalOf, termsIn, requestIn, completed, bodyAsked, headAsked, askedOf}
+use Rattle.request.specs.Session.{kindOf, oneOf, belongs, listed, shapeOf, charSays, lookAs, judge, firstFailing, firstMissing}
+use Rattle.matching.specs.Matching.{openOf, meets, better, faces, sameOwner, sumOver, countOf, choose, best, partner, prevention, meeting, ending, outcome, preventing, causes, change, happens, workAfter, opposed, opposedTo, Book}
+use Rattle.matching.specs.Depth.{stands, behind, nearer, next, levelAt, onLevel, share, total, orders, depth}
+use Rattle.table.specs.Changes.{played, stepEvents, numbered, stepped, entered, renewed, taken}
+use Rattle.table.specs.Heading.{entries, entryOf, isListed, modeOf, mpidBytes, nextOf, endWork}
+use Rattle.table.specs.Market.{every, isPadded, hasLength, hasNames, isEntry, hasList, hasSettings, hasNext, hasWork, hasSpare, restZero, isCapacity, isClass, isRecord, isRanged, isKnown, isWithin, isShut, isPriced, isOrder, hasOrders, isFreshId, hasIds, isFreshPlace, hasPlaces, isDone, noIoc, isClear, noCross, hasNumbers, isBook, isMarket, isText as isStoredText}
+use Rattle.table.specs.Opened.{isName, isNew, isGiven, areGiven, areNames, areSettings, namedTable, freshTable, isOpening, opened}
+use Rattle.table.specs.Orders.{orderAt, filled, ordersFrom, bookOf, idIndex, recordWith, termBytes, amountBytes, recordOf, applied, withdrawn, replaced, accepted, fieldBytes}
+use Rattle.calls.specs.Checks.{holder, newStands, changeStands, cancelStands, replaceStands}
+use Rattle.calls.specs.Submit.{rejecting, faulted, newRejected, changeRejected, newTaken, replacementTaken, cancelTaken, submitted, Submitted, submitNumber, submitLength}
+use Rattle.calls.specs.Run.{eventReport, eventReports, stepReports, worked, ran, Ran, runBytes, runReports, runSteps}
+use Rattle.calls.specs.Told.{joined}
+use Rattle.report.specs.Fields.{label, written, fieldBytes as writtenField}
+use Rattle.report.specs.Frame.{version, front, trailer, reportBytes}
+use Rattle.rows.specs.Rows.{text, orNumber, digit, orNobody, avgPx, replacedStatus, tradeStatus, statusOf, figuresOf, header, acceptedFields, replacedFields, canceledFields, tradeFields, cancelRejectRow}
+use Rattle.ticket.specs.Tickets.{orStoredAt, stampOn, shownOn, rowOf, ticketOf, unchangedOn, unchangedRow}
+use Rattle.calls.specs.declared.RunAnswer.{RunAnswer}
+use Rattle.calls.specs.Open.{openAnswer, openNumberOf}
+use Rattle.matching.specs.declared.Depth.the-variants.{Level}
+use Rattle.kamurjesh.specs.Numbers.{yieldOf}
+use lib.IntN.{pos}
+use Rattle.market.specs.Depth.{depthAnswer, depthNumber}
+use Rattle.ruled_out.proofs.Text.{bytes}
+use Rattle.ruled_out.proofs.Books.{fresh, bookR}
+
+-- opens all definitions
+computes : ℕ
+unfolding leAt bytesOf put partAt textAt textBytes sameBytes allZero allUpTo firstFrom decimal places plain fixed shareOf meanOf isDigit digitOf runOf numberAfter isNumber numOf digitAt isFraction fractionOf sizeOf levelOf isTimeLength twoAt timeShaped timeRanged isTime isText startsTag leading tagOf valueFrom valueLen fieldOf fieldsAfter fieldsFrom stepOf findTag valueOf hasTag repeats cleanFields lastTagOr headedBy ordered headerRight partOf endOf tenAt lengthTrue sumOf checkSum sumTrue garbledMessage bodyPart headOf frameOf bodyOf saidIn lengthIn refusalOf termsIn requestIn completed bodyAsked headAsked askedOf kindOf oneOf belongs listed shapeOf charSays lookAs judge firstFailing firstMissing openOf meets better faces sameOwner sumOver countOf choose best partner prevention meeting ending outcome preventing causes change happens workAfter opposed opposedTo stands behind nearer next levelAt onLevel share total orders depth played stepEvents numbered stepped entered renewed taken entries entryOf isListed modeOf mpidBytes every isPadded hasLength hasNames isEntry hasList hasSettings hasNext hasWork hasSpare restZero isCapacity isClass isRecord isRanged isKnown isWithin isShut isPriced isOrder hasOrders isFreshId hasIds isFreshPlace hasPlaces isDone noIoc isClear noCross hasNumbers isBook isMarket isStoredText isName isNew isGiven areGiven areNames areSettings namedTable freshTable isOpening opened orderAt filled ordersFrom bookOf idIndex recordWith termBytes amountBytes recordOf applied withdrawn replaced accepted fieldBytes holder newStands changeStands cancelStands replaceStands rejecting faulted newRejected changeRejected newTaken replacementTaken cancelTaken submitted eventReport eventReports stepReports worked ran joined label written writtenField version front trailer reportBytes text orNumber digit orNobody avgPx replacedStatus tradeStatus statusOf figuresOf header acceptedFields replacedFields canceledFields tradeFields cancelRejectRow orStoredAt stampOn shownOn rowOf ticketOf unchangedOn unchangedRow openAnswer depthAnswer bytes
+computes = 0
+
+-- ---- Open
+
+-- bytes of no market
+abbrev sevens : List ℕ
+sevens = replicate 32768 7
+
+-- there is no mode 4
+mode-four : openNumberOf (openAnswer sevens (bytes "V") (bytes "P") (bytes "350") 1 (10 ∷ []) (4 ∷ [])) ≡ 9
+unfolding computes
+mode-four = refl
+
+-- a refusal leaves every byte
+nothing-opened : opened sevens (bytes "V") (bytes "P") (bytes "350") 1 (10 ∷ []) (4 ∷ []) ≡ sevens
+unfolding computes
+nothing-opened = refl
+
+-- ---- Submit: a buy of 100 at 0.100 to a market just opened
+
+abbrev buy : List ℕ
+buy = bytes "8=FIX.4.2|9=122|35=D|34=1|49=P|52=20260105-09:00:00|56=V|11=a|21=1|38=100|40=2|44=0.100|47=A|54=1|55=350|59=0|60=20260105-09:00:00|8060=1|10=115|"
+
+-- it is taken, one report is written, and the next number goes up by one
+abbrev after-buy : Submitted → List ℕ
+after-buy s = submitNumber (s .answer) ∷ length (s .reports) ∷ nextOf (s .table) ∷ []
+
+buy-taken : after-buy (submitted (fresh 1) buy 1024) ≡ 0 ∷ 1 ∷ 2 ∷ []
+unfolding computes
+buy-taken = refl
+
+-- a garbled message has no report
+untold : submitted (fresh 1) (bytes "x") 1024 .reports ≡ []
+unfolding computes
+untold = refl
+
+-- ---- Submit, while the buy rests
+
+abbrev rests : List ℕ
+rests = endWork (submitted (fresh 1) buy 1024 .table)
+
+abbrev cancel : List ℕ
+cancel = bytes "8=FIX.4.2|9=84|35=F|34=2|49=P|52=20260105-09:00:00|56=V|11=b|41=a|54=1|55=350|60=20260105-09:00:00|10=218|"
+
+-- a cancel leaves nothing open
+canceled : openOf (orderAt (submitted rests cancel 1024 .table) 1) ≡ 0
+unfolding computes
+canceled = refl
+
+-- a replacement takes the place of its report, which is number 2
+new-place : orderAt (submitted rests (bytes "8=FIX.4.2|9=110|35=G|34=2|49=P|52=20260105-09:00:00|56=V|11=b|21=1|38=100|40=2|41=a|44=0.101|54=1|55=350|60=20260105-09:00:00|10=119|") 1024 .table) 1 .place ≡ 2
+unfolding computes
+new-place = refl
+
+-- where no order has 41, the length of the Cancel reject is given
+reject-length : submitLength (submitted rests (bytes "8=FIX.4.2|9=84|35=F|34=2|49=P|52=20260105-09:00:00|56=V|11=b|41=z|54=1|55=350|60=20260105-09:00:00|10=243|") 1024 .answer) ≡ 106
+unfolding computes
+reject-length = refl
+
+-- ---- Run: A's buy against book R, in mode 1: trades of 100 and 200, then 900 are canceled, in four steps
+
+-- four steps, each counted, with five reports; what rests behind A's own sell stays
+abbrev after-run : Ran → List ℕ
+after-run r = runSteps (r .answer) ∷ runReports (r .answer) ∷ map openOf (bookOf (r .table))
+
+newest-stops : after-run (ran (bookR 1) 262144 256) ≡ 4 ∷ 5 ∷ 0 ∷ 0 ∷ 200 ∷ 500 ∷ 0 ∷ []
+unfolding computes
+newest-stops = refl
+
+-- a budget of one is one step, with the two reports of its trade, 508 bytes; a second step is not taken with 1,023 bytes free
+abbrev figures : RunAnswer → List ℕ
+figures a = runBytes a ∷ runReports a ∷ runSteps a ∷ []
+
+one-step : figures (ran (bookR 1) 262144 1 .answer) ≡ 508 ∷ 2 ∷ 1 ∷ []
+unfolding computes
+one-step = refl
+
+no-room : figures (ran (bookR 1) (508 + 1023) 256 .answer) ≡ 508 ∷ 2 ∷ 1 ∷ []
+unfolding computes
+no-room = refl
+
+-- ---- Depth
+
+-- no answer while an order is in work
+in-work : depthNumber (depthAnswer (bookR 1) 2 0) ≡ 3
+unfolding computes
+in-work = refl
+
+-- the best sell is the highest yield, and behind it comes another level
+abbrev levels : Book → List ℕ
+levels b = levelAt b 2 0 ∷ next b 2 1000000101 5 ∷ []
+
+best-first : levels (bookOf (bookR 1)) ≡ 1000000101 ∷ 1000000100 ∷ []
+unfolding computes
+best-first = refl
+
+-- an order with nothing open is not counted: when two steps are taken, one of the three sells at 0.100 has traded
+dead-uncounted : orders (bookOf (ran (bookR 1) 262144 2 .table)) 2 1000000100 ≡ 2
+unfolding computes
+dead-uncounted = refl
+
+-- the level of the yield 0.100 is shown to C as 100 thousandths
+yield-shown : yieldOf (Level 1000000100 700 2) ≡ pos 100
+yield-shown = refl

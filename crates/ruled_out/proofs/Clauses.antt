@@ -1,0 +1,137 @@
+-- Book R's table, with A's buy in work, is a market; with any one clause broken it is none. By computing: the definitions are
+-- run on all 32,768 bytes.
+use mathlib.Core.Path.{_≡_, refl}
+use mathlib.Core.Bool.{true, false}
+use mathlib.Core.List.{_++_}
+use Prim.Native.Nat.{ℕ}
+use lib.ListN.{set}
+use Rattle.octets.specs.Octets.{leAt, bytesOf, put, partAt, textAt, textBytes, sameBytes, allZero}
+use Rattle.octets.specs.Tests.{allUpTo, firstFrom}
+use Rattle.decimal.specs.Reading.{isDigit, digitOf, isTime, isTimeLength, timeShaped, timeRanged, twoAt}
+use Rattle.matching.specs.Matching.{openOf, meets, opposed, opposedTo, countOf, sumOver}
+use Rattle.table.specs.Heading.{entries, entryOf, isListed, modeOf, mpidBytes, putNext, endWork}
+use Rattle.table.specs.Orders.{orderAt, filled, ordersFrom, bookOf, termBytes, amountBytes, fieldBytes, recordOf, accepted}
+use Rattle.table.specs.Market.{every, isPadded, isText, hasLength, hasNames, isEntry, hasList, hasSettings, hasNext, hasWork, hasSpare, restZero, isCapacity, isClass, isRecord, isRanged, isKnown, isWithin, isShut, isPriced, isOrder, hasOrders, isFreshId, hasIds, isFreshPlace, hasPlaces, isDone, noIoc, isClear, noCross, hasNumbers, isBook, isMarket}
+use Rattle.table.specs.Opened.{namedTable, freshTable}
+use Rattle.ruled_out.proofs.Text.{bytes}
+use Rattle.ruled_out.proofs.Books.{fresh, bookR}
+
+-- opens all definitions
+computes : ℕ
+unfolding leAt bytesOf put partAt textAt textBytes sameBytes allZero allUpTo firstFrom isDigit digitOf isTime isTimeLength timeShaped timeRanged twoAt openOf meets opposed opposedTo countOf sumOver entries entryOf isListed modeOf mpidBytes orderAt filled ordersFrom bookOf termBytes amountBytes fieldBytes recordOf accepted every isPadded isText hasLength hasNames isEntry hasList hasSettings hasNext hasWork hasSpare restZero isCapacity isClass isRecord isRanged isKnown isWithin isShut isPriced isOrder hasOrders isFreshId hasIds isFreshPlace hasPlaces isDone noIoc isClear noCross hasNumbers isBook isMarket namedTable freshTable bytes
+computes = 0
+
+-- a table just opened, and book R's
+opened-is : isMarket (fresh 1) ≡ true
+unfolding computes
+opened-is = refl
+
+book-is : isMarket (bookR 1) ≡ true
+unfolding computes
+book-is = refl
+
+-- ---- the settings: a byte behind the venue, a letter in the code, an MPID twice, a mode 4
+venue-padding : isMarket (set (bookR 1) 3 65) ≡ false
+unfolding computes
+venue-padding = refl
+
+code-letter : isMarket (set (bookR 1) 19 65) ≡ false
+unfolding computes
+code-letter = refl
+
+mpid-twice : isMarket (set (bookR 1) 60 10) ≡ false
+unfolding computes
+mpid-twice = refl
+
+mode-four : isMarket (set (bookR 1) 88 4) ≡ false
+unfolding computes
+mode-four = refl
+
+-- ---- the heading: a next number of 0, an order in work that is none, a 52 without one, a 52 that is no time, an unused byte
+next-zero : isMarket (set (bookR 1) 28 0) ≡ false
+unfolding computes
+next-zero = refl
+
+work-free : isMarket (set (bookR 1) 32 6) ≡ false
+unfolding computes
+work-free = refl
+
+stamp-idle : isMarket (set (fresh 1) 34 50) ≡ false
+unfolding computes
+stamp-idle = refl
+
+stamp-wrong : isMarket (set (bookR 1) 38 57) ≡ false
+unfolding computes
+stamp-wrong = refl
+
+heading-unused : isMarket (set (bookR 1) 127 1) ≡ false
+unfolding computes
+heading-unused = refl
+
+-- ---- the records: a gap, a byte behind the last one, an unused byte, a capacity B, a side 3, an MPID that is not listed
+gap : isMarket (set (bookR 1) 384 0) ≡ false
+unfolding computes
+gap = refl
+
+rest : isMarket (set (bookR 1) 32767 1) ≡ false
+unfolding computes
+rest = refl
+
+record-unused : isMarket (set (bookR 1) 212 1) ≡ false
+unfolding computes
+record-unused = refl
+
+capacity-b : isMarket (set (bookR 1) 174 66) ≡ false
+unfolding computes
+capacity-b = refl
+
+side-three : isMarket (set (bookR 1) 172 3) ≡ false
+unfolding computes
+side-three = refl
+
+mpid-unlisted : isMarket (set (bookR 1) 188 15) ≡ false
+unfolding computes
+mpid-unlisted = refl
+
+-- ---- the amounts: more executed than ordered, something canceled while the rest is open, a sum of nothing
+too-much : isMarket (put (bookR 1) 192 (bytesOf 8 101 ++ bytesOf 4 101)) ≡ false
+unfolding computes
+too-much = refl
+
+half-canceled : isMarket (set (bookR 1) 208 1) ≡ false
+unfolding computes
+half-canceled = refl
+
+sum-of-nothing : isMarket (set (bookR 1) 192 1) ≡ false
+unfolding computes
+sum-of-nothing = refl
+
+-- ---- the book: a ClOrdID twice, a place twice, a place that is not yet given, an open IOC that is not in work, a buy that meets a sell
+id-twice : isMarket (set (bookR 1) 257 97) ≡ false
+unfolding computes
+id-twice = refl
+
+place-twice : isMarket (set (bookR 1) 312 1) ≡ false
+unfolding computes
+place-twice = refl
+
+place-next : isMarket (set (bookR 1) 696 6) ≡ false
+unfolding computes
+place-next = refl
+
+ioc-resting : isMarket (set (bookR 1) 173 3) ≡ false
+unfolding computes
+ioc-resting = refl
+
+crossed : isMarket (endWork (bookR 1)) ≡ false
+unfolding computes
+crossed = refl
+
+-- ---- the numbers: eight for four open sells and one more must fit below 1,000,000,000
+numbers-fit : isMarket (putNext (bookR 1) 999999991) ≡ true
+unfolding computes
+numbers-fit = refl
+
+numbers-spent : isMarket (putNext (bookR 1) 999999992) ≡ false
+unfolding computes
+numbers-spent = refl

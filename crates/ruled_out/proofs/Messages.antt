@@ -1,0 +1,95 @@
+-- What a message is not taken for: each wrong reading that docs/PROMISES.md names, on a message that would tell it apart.
+use mathlib.Core.Path.{_≡_, refl}
+use mathlib.Core.Bool.{true, false}
+use mathlib.Core.List.{List, [], _∷_}
+use Prim.Native.Nat.{ℕ}
+use Prim.Native.String.{String}
+use Rattle.octets.specs.Octets.{partAt, sameBytes}
+use Rattle.decimal.specs.Reading.{isDigit, digitOf, runOf, numberAfter, isNumber, numOf, digitAt, isFraction, fractionOf, sizeOf, levelOf, isTimeLength, twoAt, timeShaped, timeRanged, isTime}
+use Rattle.fix.specs.Fields.{isText, startsTag, leading, tagOf, valueFrom, valueLen, fieldOf, fieldsAfter, fieldsFrom, stepOf, findTag, valueOf, hasTag, repeats, cleanFields, lastTagOr}
+use Rattle.fix.specs.Garbled.{headedBy, ordered, headerRight, partOf, endOf, tenAt, lengthTrue, sumOf, checkSum, sumTrue, garbledMessage, bodyPart, headOf, frameOf}
+use Rattle.request.specs.declared.Asked.{Asked}
+use Rattle.request.specs.declared.Asked.the-variants.{Garbled, Refused, Enters, Replaces, Cancels}
+use Rattle.request.specs.Asks.{bodyOf, saidIn, lengthIn, refusalOf, termsIn, requestIn, completed, bodyAsked, headAsked, askedOf}
+use Rattle.request.specs.Session.{kindOf, oneOf, belongs, listed, shapeOf, charSays, lookAs, judge, firstFailing, firstMissing}
+use Rattle.ruled_out.proofs.Text.{bytes}
+
+-- opens all definitions
+computes : ℕ
+unfolding partAt sameBytes isDigit digitOf runOf numberAfter isNumber numOf digitAt isFraction fractionOf sizeOf levelOf isTimeLength twoAt timeShaped timeRanged isTime isText startsTag leading tagOf valueFrom valueLen fieldOf fieldsAfter fieldsFrom stepOf findTag valueOf hasTag repeats cleanFields lastTagOr headedBy ordered headerRight partOf endOf tenAt lengthTrue sumOf checkSum sumTrue garbledMessage bodyPart headOf frameOf bodyOf saidIn lengthIn refusalOf termsIn requestIn completed bodyAsked headAsked askedOf kindOf oneOf belongs listed shapeOf charSays lookAs judge firstFailing firstMissing bytes
+computes = 0
+
+-- ---- garbled
+
+-- an order to buy 100 at 0.100 is not garbled
+plain : garbledMessage (bytes "8=FIX.4.2|9=122|35=D|34=1|49=P|52=20260105-09:00:00|56=V|11=a|21=1|38=100|40=2|44=0.100|47=A|54=1|55=350|59=0|60=20260105-09:00:00|8060=1|10=115|") ≡ false
+unfolding computes
+plain = refl
+
+-- 170 is the sum of all its bytes, those of field 10 among them
+sum-with-ten : garbledMessage (bytes "8=FIX.4.2|9=122|35=D|34=1|49=P|52=20260105-09:00:00|56=V|11=a|21=1|38=100|40=2|44=0.100|47=A|54=1|55=350|59=0|60=20260105-09:00:00|8060=1|10=170|") ≡ true
+unfolding computes
+sum-with-ten = refl
+
+-- 11 stands twice
+tag-twice : garbledMessage (bytes "8=FIX.4.2|9=127|35=D|34=1|49=P|52=20260105-09:00:00|56=V|11=a|21=1|38=100|40=2|44=0.100|47=A|54=1|55=350|59=0|60=20260105-09:00:00|8060=1|11=b|10=122|") ≡ true
+unfolding computes
+tag-twice = refl
+
+-- a tag starts with 0
+zero-tag : garbledMessage (bytes "8=FIX.4.2|9=128|35=D|34=1|49=P|52=20260105-09:00:00|56=V|11=a|21=1|38=100|40=2|44=0.100|47=A|54=1|55=350|59=0|60=20260105-09:00:00|8060=1|058=b|10=182|") ≡ true
+unfolding computes
+zero-tag = refl
+
+-- ---- the value of a tag
+
+-- 11 is not 110, whose digits begin with it
+longer-tag : valueOf (bytes "110=x|11=a|") 11 ≡ bytes "a"
+unfolding computes
+longer-tag = refl
+
+-- a second `=` is part of the value, and so is what follows it
+second-equals : valueOf (bytes "58=a=b|11=c|") 58 ≡ bytes "a=b"
+unfolding computes
+second-equals = refl
+
+-- ---- what a message asks of the market with venue V and port P
+
+asks : String → Asked
+asks s = askedOf (bytes "V") (bytes "P") (bytes s)
+
+-- 373 and 371 of a session Reject; neither where there is none
+record Fault : Type 0 where
+  reason : ℕ
+  tag : ℕ
+
+abbrev fault : Asked → Fault
+fault Garbled = record { reason = 0; tag = 0 }
+fault (Refused r) = record { reason = r .reason; tag = r .tag }
+fault (Enters o) = record { reason = 0; tag = 0 }
+fault (Replaces o) = record { reason = 0; tag = 0 }
+fault (Cancels o) = record { reason = 0; tag = 0 }
+
+-- 49 is held to the port and 56 to the venue
+exchanged : fault (asks "8=FIX.4.2|9=122|35=D|34=1|49=V|52=20260105-09:00:00|56=P|11=a|21=1|38=100|40=2|44=0.100|47=A|54=1|55=350|59=0|60=20260105-09:00:00|8060=1|10=115|") ≡ record { reason = 9; tag = 49 }
+unfolding computes asks
+exchanged = refl
+
+-- another venue is 9, not 11
+other-venue : fault (asks "8=FIX.4.2|9=122|35=D|34=1|49=P|52=20260105-09:00:00|56=W|11=a|21=1|38=100|40=2|44=0.100|47=A|54=1|55=350|59=0|60=20260105-09:00:00|8060=1|10=116|") ≡ record { reason = 9; tag = 56 }
+unfolding computes asks
+other-venue = refl
+
+-- a tag that no type has is 3, one of another type 2
+unlisted : fault (asks "8=FIX.4.2|9=127|35=D|34=1|49=P|52=20260105-09:00:00|56=V|11=a|21=1|38=100|40=2|44=0.100|47=A|54=1|55=350|59=0|60=20260105-09:00:00|8060=1|58=b|10=133|") ≡ record { reason = 3; tag = 58 }
+unfolding computes asks
+unlisted = refl
+
+other-type : fault (asks "8=FIX.4.2|9=127|35=D|34=1|49=P|52=20260105-09:00:00|56=V|11=a|21=1|38=100|40=2|44=0.100|47=A|54=1|55=350|59=0|60=20260105-09:00:00|8060=1|41=b|10=125|") ≡ record { reason = 2; tag = 41 }
+unfolding computes asks
+other-type = refl
+
+-- a cancel needs 60
+missing : fault (asks "8=FIX.4.2|9=63|35=F|34=1|49=P|52=20260105-09:00:00|56=V|11=b|41=a|54=1|55=350|10=216|") ≡ record { reason = 1; tag = 60 }
+unfolding computes asks
+missing = refl

@@ -1,0 +1,135 @@
+-- What a report is not read as, and what the reports of the market do not say: each wrong answer that docs/PROMISES.md names, on a
+-- report that would tell it apart.
+use mathlib.Core.Path.{_≡_, refl}
+use mathlib.Core.List.{List, [], _∷_}
+use Prim.Native.Nat.{ℕ, zero, suc}
+use Prim.Native.String.{String}
+use Rattle.octets.specs.Octets.{leAt, bytesOf, put, partAt, textAt, textBytes, sameBytes, allZero}
+use Rattle.octets.specs.Tests.{allUpTo, firstFrom}
+use Rattle.decimal.specs.Writing.{decimal, places, plain, fixed, shareOf, meanOf}
+use Rattle.decimal.specs.Canonical.{bare, bareOf, exactlyOf, amountOf, fixedOf}
+use Rattle.decimal.specs.Reading.{isDigit, digitOf, runOf, numberAfter, isNumber, numOf, digitAt, isFraction, fractionOf, sizeOf, levelOf, isTimeLength, twoAt, timeShaped, timeRanged, isTime}
+use Rattle.fix.specs.Fields.{isText, startsTag, leading, tagOf, valueFrom, valueLen, fieldOf, fieldsAfter, fieldsFrom, stepOf, findTag, valueOf, hasTag, repeats, cleanFields, lastTagOr}
+use Rattle.fix.specs.Garbled.{headedBy, ordered, headerRight, partOf, endOf, tenAt, lengthTrue, sumOf, checkSum, sumTrue, garbledMessage, bodyPart, headOf, frameOf}
+use Rattle.request.specs.Asks.{bodyOf, saidIn, lengthIn, refusalOf, termsIn, requestIn, completed, bodyAsked, headAsked, askedOf}
+use Rattle.request.specs.Session.{kindOf, oneOf, belongs, listed, shapeOf, charSays, lookAs, judge, firstFailing, firstMissing}
+use Rattle.matching.specs.Matching.{openOf, meets, better, faces, sameOwner, sumOver, countOf, choose, best, partner, prevention, meeting, ending, outcome, preventing, causes, change, happens, workAfter, opposed, opposedTo}
+use Rattle.table.specs.Changes.{played, stepEvents, numbered, stepped, entered, renewed, taken}
+use Rattle.table.specs.Heading.{entries, entryOf, isListed, modeOf, mpidBytes, endWork}
+use Rattle.table.specs.Market.{every, isPadded, hasLength, hasNames, isEntry, hasList, hasSettings, hasNext, hasWork, hasSpare, restZero, isCapacity, isClass, isRecord, isRanged, isKnown, isWithin, isShut, isPriced, isOrder, hasOrders, isFreshId, hasIds, isFreshPlace, hasPlaces, isDone, noIoc, isClear, noCross, hasNumbers, isBook, isMarket, isText as isStoredText}
+use Rattle.table.specs.Opened.{isName, isNew, isGiven, areGiven, areNames, areSettings, namedTable, freshTable, isOpening, opened}
+use Rattle.table.specs.Orders.{orderAt, filled, ordersFrom, bookOf, idIndex, recordWith, termBytes, amountBytes, recordOf, applied, withdrawn, replaced, accepted, fieldBytes}
+use Rattle.calls.specs.Checks.{holder, newStands, changeStands, cancelStands, replaceStands}
+use Rattle.calls.specs.Submit.{rejecting, faulted, newRejected, changeRejected, newTaken, replacementTaken, cancelTaken, submitted}
+use Rattle.calls.specs.Run.{eventReport, eventReports, stepReports, worked, ran}
+use Rattle.calls.specs.Told.{joined}
+use Rattle.report.specs.Fields.{label, written, fieldBytes as writtenField}
+use Rattle.report.specs.Frame.{version, front, trailer, reportBytes}
+use Rattle.report.specs.Parse.{valueAt, fieldAt, hop, placeOf}
+use Rattle.report.specs.Reports.{bodyAt, trailerAt, readFramed, executionFor, kindFor, firstOf, oneReason, readOf, kindOf as kindOfReport, partOf as placeOfTag}
+use Rattle.report.specs.Shapes.{oneIn, wordIn, recordIn, textIn, timeIn}
+use Rattle.report.specs.Slots.{acceptedSlots, replacedSlots, canceledSlots, tradeSlots, cancelRejectSlots}
+use Rattle.rows.specs.Rows.{text, orNumber, digit, orNobody, avgPx, replacedStatus, tradeStatus, statusOf, figuresOf, header, acceptedFields, replacedFields, canceledFields, tradeFields, cancelRejectRow}
+use Rattle.ticket.specs.Tickets.{orStoredAt, stampOn, shownOn, rowOf, ticketOf, unchangedOn, unchangedRow}
+use Rattle.readback.specs.Says.{says}
+use Rattle.report.specs.declared.Part.the-variants.{Nowhere}
+use Rattle.calls.specs.Read.{readNumber}
+use Rattle.ruled_out.proofs.Text.{bytes}
+use Rattle.ruled_out.proofs.Books.{fresh, bookR}
+
+-- opens all definitions
+computes : ℕ
+unfolding leAt bytesOf put partAt textAt textBytes sameBytes allZero allUpTo firstFrom decimal places plain fixed shareOf meanOf bare bareOf exactlyOf amountOf fixedOf isDigit digitOf runOf numberAfter isNumber numOf digitAt isFraction fractionOf sizeOf levelOf isTimeLength twoAt timeShaped timeRanged isTime isText startsTag leading tagOf valueFrom valueLen fieldOf fieldsAfter fieldsFrom stepOf findTag valueOf hasTag repeats cleanFields lastTagOr headedBy ordered headerRight partOf endOf tenAt lengthTrue sumOf checkSum sumTrue garbledMessage bodyPart headOf frameOf bodyOf saidIn lengthIn refusalOf termsIn requestIn completed bodyAsked headAsked askedOf kindOf oneOf belongs listed shapeOf charSays lookAs judge firstFailing firstMissing openOf meets better faces sameOwner sumOver countOf choose best partner prevention meeting ending outcome preventing causes change happens workAfter opposed opposedTo played stepEvents numbered stepped entered renewed taken entries entryOf isListed modeOf mpidBytes every isPadded hasLength hasNames isEntry hasList hasSettings hasNext hasWork hasSpare restZero isCapacity isClass isRecord isRanged isKnown isWithin isShut isPriced isOrder hasOrders isFreshId hasIds isFreshPlace hasPlaces isDone noIoc isClear noCross hasNumbers isBook isMarket isStoredText isName isNew isGiven areGiven areNames areSettings namedTable freshTable isOpening opened orderAt filled ordersFrom bookOf idIndex recordWith termBytes amountBytes recordOf applied withdrawn replaced accepted fieldBytes holder newStands changeStands cancelStands replaceStands rejecting faulted newRejected changeRejected newTaken replacementTaken cancelTaken submitted eventReport eventReports stepReports worked ran joined label written writtenField version front trailer reportBytes valueAt fieldAt hop placeOf bodyAt trailerAt readFramed executionFor kindFor firstOf oneReason readOf kindOfReport placeOfTag oneIn wordIn recordIn textIn timeIn acceptedSlots replacedSlots canceledSlots tradeSlots cancelRejectSlots text orNumber digit orNobody avgPx replacedStatus tradeStatus statusOf figuresOf header acceptedFields replacedFields canceledFields tradeFields cancelRejectRow orStoredAt stampOn shownOn rowOf ticketOf unchangedOn unchangedRow says bytes
+computes = 0
+
+-- ---- Read
+
+-- an Accepted
+whole : readNumber (readOf (bytes "8=FIX.4.2|9=202|35=8|34=1|49=V|50=DJGB|52=20260105-09:00:02|56=P|1=ACC-1|6=0.000000|11=BUY-1|14=0|17=1|20=0|37=7|38=1200|39=0|40=2|44=0.100|47=A|54=1|55=350|59=0|60=20260105-09:00:02|109=10|150=0|151=1200|423=9|8060=1|10=015|") .kind) ≡ 0
+unfolding computes
+whole = refl
+
+-- 37 is 256, a record that no table has
+record-256 : readNumber (readOf (bytes "8=FIX.4.2|9=204|35=8|34=1|49=V|50=DJGB|52=20260105-09:00:02|56=P|1=ACC-1|6=0.000000|11=BUY-1|14=0|17=1|20=0|37=256|38=1200|39=0|40=2|44=0.100|47=A|54=1|55=350|59=0|60=20260105-09:00:02|109=10|150=0|151=1200|423=9|8060=1|10=119|") .kind) ≡ 11
+unfolding computes
+record-256 = refl
+
+-- a CheckSum of two digits
+short-sum : readNumber (readOf (bytes "8=FIX.4.2|9=202|35=8|34=1|49=V|50=DJGB|52=20260105-09:00:02|56=P|1=ACC-1|6=0.000000|11=BUY-1|14=0|17=1|20=0|37=7|38=1200|39=0|40=2|44=0.100|47=A|54=1|55=350|59=0|60=20260105-09:00:02|109=10|150=0|151=1200|423=9|8060=1|10=15|") .kind) ≡ 11
+unfolding computes
+short-sum = refl
+
+-- a Canceled with 378, and one that has 41 too
+prevented-canceled : readNumber (readOf (bytes "8=FIX.4.2|9=209|35=8|34=7|49=V|50=DJGB|52=20260105-09:00:01|56=P|1=ACC-1|6=0.100666|11=BUY-1|14=300|17=7|20=0|37=7|38=1200|39=4|40=2|44=0.100|47=A|54=1|55=350|59=0|60=20260105-09:00:01|109=10|150=4|151=0|378=100|423=9|8060=1|10=124|") .kind) ≡ 0
+unfolding computes
+prevented-canceled = refl
+
+two-reasons : readNumber (readOf (bytes "8=FIX.4.2|9=218|35=8|34=7|49=V|50=DJGB|52=20260105-09:00:01|56=P|1=ACC-1|6=0.100666|11=BUY-1|14=300|17=7|20=0|37=7|38=1200|39=4|40=2|41=BUY-1|44=0.100|47=A|54=1|55=350|59=0|60=20260105-09:00:01|109=10|150=4|151=0|378=100|423=9|8060=1|10=109|") .kind) ≡ 11
+unfolding computes
+two-reasons = refl
+
+-- ---- the place of a field
+
+abbrev without : List ℕ
+without = bytes "8=FIX.4.2|9=194|35=8|34=1|49=V|50=DJGB|52=20260105-09:00:02|56=P|6=0.000000|11=BUY-1|14=0|17=1|20=0|37=7|38=1200|39=0|40=2|44=0.100|47=A|54=1|55=350|59=0|60=20260105-09:00:02|109=10|150=0|151=1200|423=9|8060=1|10=133|"
+
+-- 1 is not 11, nor 151, whose digits end with it
+shorter-tag : placeOfTag without 1 ≡ Nowhere
+unfolding computes
+shorter-tag = refl
+
+-- a tag that is not there has no place
+no-tag : placeOfTag without 999 ≡ Nowhere
+unfolding computes
+no-tag = refl
+
+-- ---- what the reports of Run say: A's buy against book R, in mode 3. The first step trades 100, the third decrements the buy by 200
+
+-- the number that report k says for a tag; reports are counted from 0
+abbrev told : List (List ℕ) → ℕ → ℕ → ℕ
+told [] k tag = 0
+told (r ∷ rs) zero tag = says tag (readOf r)
+told (r ∷ rs) (suc k) tag = told rs k tag
+
+-- of the two reports of the trade: 34, their own numbers; 375, the other's MPID; 851, the resting order adds liquidity and the one in
+-- work removes it
+abbrev trade-says : List (List ℕ) → List ℕ
+trade-says rs = told rs 0 34 ∷ told rs 1 34 ∷ told rs 0 375 ∷ told rs 1 375 ∷ told rs 0 851 ∷ told rs 1 851 ∷ []
+
+trade-told : trade-says (ran (bookR 3) 262144 1 .reports) ≡ 6 ∷ 7 ∷ 10 ∷ 11 ∷ 1 ∷ 2 ∷ []
+unfolding computes
+trade-told = refl
+
+-- of the decrement, the sixth report: 34, 38, which stays 1,200, and 151, which falls to 700
+abbrev decrement-says : List (List ℕ) → List ℕ
+decrement-says rs = told rs 5 34 ∷ told rs 5 38 ∷ told rs 5 151 ∷ []
+
+decrement-told : decrement-says (ran (bookR 3) 262144 3 .reports) ≡ 11 ∷ 1200 ∷ 700 ∷ []
+unfolding computes
+decrement-told = refl
+
+-- ---- what the reports of Submit say, while a buy of 100 rests that has ClOrdID a
+
+abbrev rests : List ℕ
+rests = endWork (submitted (fresh 1) (bytes "8=FIX.4.2|9=122|35=D|34=1|49=P|52=20260105-09:00:00|56=V|11=a|21=1|38=100|40=2|44=0.100|47=A|54=1|55=350|59=0|60=20260105-09:00:00|8060=1|10=115|") 1024 .table)
+
+-- 102 is 2 for another side, and 0 where nothing is open
+other-side : told (submitted rests (bytes "8=FIX.4.2|9=84|35=F|34=2|49=P|52=20260105-09:00:00|56=V|11=b|41=a|54=2|55=350|60=20260105-09:00:00|10=219|") 1024 .reports) 0 102 ≡ 2
+unfolding computes
+other-side = refl
+
+abbrev dead : List ℕ
+dead = submitted rests (bytes "8=FIX.4.2|9=84|35=F|34=2|49=P|52=20260105-09:00:00|56=V|11=b|41=a|54=1|55=350|60=20260105-09:00:00|10=218|") 1024 .table
+
+nothing-open : told (submitted dead (bytes "8=FIX.4.2|9=84|35=F|34=3|49=P|52=20260105-09:00:00|56=V|11=c|41=b|54=1|55=350|60=20260105-09:00:00|10=221|") 1024 .reports) 0 102 ≡ 0
+unfolding computes
+nothing-open = refl
+
+-- a Replaced names the ClOrdID before
+named : List (List ℕ) → List ℕ
+named [] = []
+named (r ∷ rs) = valueOf r 41
+
+replaced-41 : named (submitted rests (bytes "8=FIX.4.2|9=110|35=G|34=2|49=P|52=20260105-09:00:00|56=V|11=b|21=1|38=100|40=2|41=a|44=0.101|54=1|55=350|60=20260105-09:00:00|10=119|") 1024 .reports) ≡ bytes "a"
+unfolding computes named
+replaced-41 = refl

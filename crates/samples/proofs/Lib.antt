@@ -1,2 +1,0 @@
--- The laws of `samples`.
-pub mod Texts

@@ -1,2 +1,0 @@
--- What the contracts of `samples` cite.
-pub mod Fine

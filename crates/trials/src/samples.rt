@@ -1,0 +1,385 @@
+// Samples: one report of every kind and variant, a line each, with `|` for SOH. docs/SAMPLES.md says what each line is.
+ghost use Prim.Native.Nat.{_^_, _<_};
+ghost use Rattle.matching.specs.Held.{Sound};
+ghost use Rattle.rows.specs.Ranges.{FillIn, RefusedIn, UnchangedIn, FaultyIn};
+ghost use Rattle.trials.specs.Fine.{StampFine, ShownFine, GroundFine, RowFine};
+use matching::Order;
+use report::Field;
+use report::Place;
+use report::Value;
+use rows::Faulty;
+use rows::Fill;
+use rows::Ground;
+use rows::Refused;
+use rows::Shown;
+use rows::Stamp;
+use rows::Unchanged;
+
+// A bar for SOH, and every other byte as it is.
+fn bar(b: u8) -> u8 {
+    if b == 1 { b'|' } else { b }
+}
+
+// Makes every SOH a bar.
+fn bars(s: &mut [u8]) {
+    let mut i = 0;
+    while i < s.len() {
+        s[i] = bar(s[i]);
+        i += 1;
+    }
+}
+
+// Writes a report into an area and prints it.
+fn print(row: [Field; 36])
+    requires { ⌜ RowFine row ⌝ }
+{
+    let mut area = [0u8; 512];
+    let n = report::write::write_report(
+        &mut area,
+        row,
+        b"20260105-09:00:02BUY-2BUY-1350D",
+        b"VP35020260105-09:00:01BUY-1ACC-1BUY-2",
+    );
+    bars(&mut area);
+    if n <= 512 {
+        io::write_all(1, &area[..n]);
+        io::write_all(1, b"\n");
+    }
+}
+
+// The start of a report: venue V, port P, and the 52 that the table keeps.
+fn stamp(number: u64) -> Stamp
+    requires { ⌜ number < 10 ^ 9 ⌝ }
+    ensures { λ r. ⌜ StampFine r ⌝ }
+{
+    Stamp {
+        number,
+        time: Value::Stored { from: 5, len: 17 },
+        venue: Value::Stored { from: 0, len: 1 },
+        port: Value::Stored { from: 1, len: 1 },
+    }
+}
+
+// The same, with the 52 of the message.
+fn stamp_sent(number: u64) -> Stamp
+    requires { ⌜ number < 10 ^ 9 ⌝ }
+    ensures { λ r. ⌜ StampFine r ⌝ }
+{
+    Stamp {
+        number,
+        time: Value::Sent { from: 0, len: 17 },
+        venue: Value::Stored { from: 0, len: 1 },
+        port: Value::Stored { from: 1, len: 1 },
+    }
+}
+
+// The order of record 7, BUY-1, with its account.
+fn known(order: Order) -> Shown
+    requires { ⌜ Sound order × (order .mpid < 10 ^ 6) ⌝ }
+    ensures { λ r. ⌜ ShownFine r ⌝ }
+{
+    Shown {
+        orderid: 7,
+        order,
+        capacity: b'A',
+        class: 1,
+        code: Value::Stored { from: 2, len: 3 },
+        id: Value::Stored { from: 22, len: 5 },
+        account: Value::Stored { from: 27, len: 5 },
+    }
+}
+
+// The same under its new ClOrdID, BUY-2.
+fn renamed(order: Order) -> Shown
+    requires { ⌜ Sound order × (order .mpid < 10 ^ 6) ⌝ }
+    ensures { λ r. ⌜ ShownFine r ⌝ }
+{
+    Shown {
+        orderid: 7,
+        order,
+        capacity: b'A',
+        class: 1,
+        code: Value::Stored { from: 2, len: 3 },
+        id: Value::Stored { from: 32, len: 5 },
+        account: Value::Stored { from: 27, len: 5 },
+    }
+}
+
+// The order of record 255, with no account.
+fn bare(order: Order) -> Shown
+    requires { ⌜ Sound order × (order .mpid < 10 ^ 6) ⌝ }
+    ensures { λ r. ⌜ ShownFine r ⌝ }
+{
+    Shown {
+        orderid: 255,
+        order,
+        capacity: b'P',
+        class: 6,
+        code: Value::Stored { from: 2, len: 3 },
+        id: Value::Stored { from: 22, len: 5 },
+        account: Value::Absent,
+    }
+}
+
+// A buy of 1,200 at 0.100 for MPID 10, of which so much has executed, was decremented, was canceled.
+fn buy(executed: u64, decremented: u64, canceled: u64, sum: u64) -> Order
+    requires { ⌜ Sound (record { side = 1; tif = 0; level = 1000000100; qty = 1200; executed = executed; decremented = decremented; canceled = canceled; sum = sum; place = 5; mpid = 10 }) ⌝ }
+    ensures { λ r. ⌜ Sound r × (r .mpid < 10 ^ 6) ⌝ }
+{
+    Order {
+        side: 1,
+        tif: 0,
+        level: 1_000_000_100,
+        qty: 1200,
+        executed,
+        decremented,
+        canceled,
+        sum,
+        place: 5,
+        mpid: 10,
+    }
+}
+
+// A sell of 500 with no MPID, IOC, of which so much has executed and was canceled.
+fn sell(level: u64, executed: u64, canceled: u64, sum: u64) -> Order
+    requires { ⌜ Sound (record { side = 2; tif = 3; level = level; qty = 500; executed = executed; decremented = 0; canceled = canceled; sum = sum; place = 6; mpid = 0 }) ⌝ }
+    ensures { λ r. ⌜ Sound r × (r .mpid < 10 ^ 6) ⌝ }
+{
+    Order {
+        side: 2,
+        tif: 3,
+        level,
+        qty: 500,
+        executed,
+        decremented: 0,
+        canceled,
+        sum,
+        place: 6,
+        mpid: 0,
+    }
+}
+
+fn accepted(s: Stamp, o: Shown)
+    requires { ⌜ StampFine s × ShownFine o ⌝ }
+{
+    print(rows::accepted_row(s, o));
+}
+
+fn replaced(s: Stamp, o: Shown, w: Ground)
+    requires { ⌜ StampFine s × ShownFine o × GroundFine w ⌝ }
+{
+    print(rows::replaced_row(s, o, w));
+}
+
+fn canceled(s: Stamp, o: Shown, w: Ground)
+    requires { ⌜ StampFine s × ShownFine o × GroundFine w ⌝ }
+{
+    print(rows::canceled_row(s, o, w));
+}
+
+fn trade(s: Stamp, o: Shown, f: Fill)
+    requires { ⌜ StampFine s × ShownFine o × FillIn f ⌝ }
+{
+    print(rows::trade_row(s, o, f));
+}
+
+fn rejected(s: Stamp, q: Refused)
+    requires { ⌜ StampFine s × RefusedIn q ⌝ }
+{
+    print(rows::rejected_row(s, q));
+}
+
+fn unchanged(s: Stamp, u: Unchanged)
+    requires { ⌜ StampFine s × UnchangedIn u ⌝ }
+{
+    print(rows::cancel_reject_row(s, u));
+}
+
+fn faulty(s: Stamp, f: Faulty)
+    requires { ⌜ StampFine s × FaultyIn f ⌝ }
+{
+    print(rows::session_reject_row(s, f));
+}
+
+// A request's 41.
+fn requested() -> Ground
+    ensures { λ r. ⌜ GroundFine r ⌝ }
+{
+    Ground {
+        orig: Value::Sent { from: 22, len: 5 },
+        reason: Value::Absent,
+    }
+}
+
+fn prevented() -> Ground
+    ensures { λ r. ⌜ GroundFine r ⌝ }
+{
+    Ground {
+        orig: Value::Absent,
+        reason: Value::Number(100),
+    }
+}
+
+fn decremented() -> Ground
+    ensures { λ r. ⌜ GroundFine r ⌝ }
+{
+    Ground {
+        orig: Value::Stored { from: 22, len: 5 },
+        reason: Value::Number(100),
+    }
+}
+
+fn expired() -> Ground
+    ensures { λ r. ⌜ GroundFine r ⌝ }
+{
+    Ground {
+        orig: Value::Absent,
+        reason: Value::Number(99),
+    }
+}
+
+// Orders that enter the book and are replaced.
+fn book_samples() {
+    accepted(stamp_sent(1), known(buy(0, 0, 0, 0)));
+    accepted(stamp_sent(999_999_999), bare(sell(999_999_995, 0, 0, 0)));
+    replaced(stamp_sent(3), renamed(buy(0, 0, 0, 0)), requested());
+    replaced(
+        stamp_sent(4),
+        renamed(buy(300, 0, 0, 300_000_030_200)),
+        requested(),
+    );
+    replaced(
+        stamp(5),
+        known(buy(300, 200, 0, 300_000_030_200)),
+        decremented(),
+    );
+}
+
+// Orders that leave it: as requested, by prevention, and an IOC's rest.
+fn cancel_samples() {
+    canceled(
+        stamp_sent(6),
+        renamed(buy(300, 0, 900, 300_000_030_200)),
+        requested(),
+    );
+    canceled(
+        stamp(7),
+        known(buy(300, 0, 900, 300_000_030_200)),
+        prevented(),
+    );
+    canceled(
+        stamp(8),
+        bare(sell(999_999_995, 300, 200, 299_999_998_500)),
+        expired(),
+    );
+}
+
+// A trade of the resting order and of the one in work, and the one in work's at a yield below zero.
+fn trade_samples() {
+    trade(
+        stamp(9),
+        known(buy(300, 0, 0, 300_000_030_200)),
+        Fill {
+            quantity: 200,
+            level: 1_000_000_100,
+            other: 0,
+            first: 9,
+            liquidity: 1,
+        },
+    );
+    trade(
+        stamp(10),
+        bare(sell(1_000_000_105, 200, 0, 200_000_020_000)),
+        Fill {
+            quantity: 200,
+            level: 1_000_000_100,
+            other: 10,
+            first: 9,
+            liquidity: 2,
+        },
+    );
+    trade(
+        stamp(12),
+        bare(sell(999_999_995, 500, 0, 499_999_997_500)),
+        Fill {
+            quantity: 500,
+            level: 999_999_995,
+            other: 11,
+            first: 11,
+            liquidity: 2,
+        },
+    );
+}
+
+// What is refused: a new order whose 38 was 00042, a cancel of an unknown order, a replacement of a known one, a message.
+fn refusal_samples() {
+    let id = Place {
+        sent: true,
+        start: 17,
+        length: 5,
+    };
+    let orig = Place {
+        sent: true,
+        start: 22,
+        length: 5,
+    };
+    let code = Place {
+        sent: true,
+        start: 27,
+        length: 3,
+    };
+    let kind = Place {
+        sent: true,
+        start: 30,
+        length: 1,
+    };
+    rejected(
+        stamp_sent(13),
+        Refused {
+            id,
+            quantity: 42,
+            side: 1,
+            code,
+            reason: 99,
+        },
+    );
+    unchanged(
+        stamp_sent(14),
+        Unchanged {
+            id,
+            orderid: 0,
+            status: 8,
+            orig,
+            reason: 1,
+            response: 1,
+        },
+    );
+    unchanged(
+        stamp_sent(15),
+        Unchanged {
+            id,
+            orderid: 7,
+            status: 1,
+            orig,
+            reason: 2,
+            response: 2,
+        },
+    );
+    faulty(
+        stamp_sent(16),
+        Faulty {
+            sequence: 7,
+            tag: 38,
+            kind,
+            reason: 5,
+        },
+    );
+}
+
+// All samples.
+pub fn all() {
+    book_samples();
+    cancel_samples();
+    trade_samples();
+    refusal_samples();
+}

@@ -1,0 +1,130 @@
+// Broken tables: one is built through opening and the stores and broken one byte at a time; what is left is a market or not. A line is a
+// place (five digits), a value (three digits) and what that breaks; it is written back with the answer. A line that starts with `#`
+// says what those after it are for, and is written as it is.
+use audit::is_market;
+use decimal::Said;
+use decimal::read::read_number;
+use matching::Order;
+use octets::part_at;
+use table::heading::put_next;
+use table::heading::put_work;
+use table::opening::open_table;
+use table::record::accept;
+ghost use mathlib.Core.Path.{_≡_};
+ghost use Prim.Native.Nat.{_≤_, _<_};
+ghost use lib.ListN.{length};
+
+// A new order.
+fn order(side: u64, tif: u64, level: u64, qty: u64, place: u64, mpid: u64) -> Order
+    ensures { λ r. ⌜ (r .side ≡ side) × (r .tif ≡ tif) ⌝ }
+{
+    Order {
+        side,
+        tif,
+        level,
+        qty,
+        executed: 0,
+        decremented: 0,
+        canceled: 0,
+        sum: 0,
+        place,
+        mpid,
+    }
+}
+
+// Two resting orders: a sell at 0.101 and a buy at 0.102.
+fn resting(t: &mut [u8])
+    requires { ⌜ length (now t) ≡ 32768 ⌝ }
+{
+    accept(
+        t,
+        1,
+        b"S1",
+        b"ACC",
+        b'P',
+        1,
+        order(2, 0, 1_000_000_101, 100, 1, 11),
+    );
+    accept(
+        t,
+        2,
+        b"B1",
+        b"",
+        b'A',
+        3,
+        order(1, 0, 1_000_000_102, 50, 2, 0),
+    );
+}
+
+// An IOC buy at 0.100, which meets the sell.
+fn meeting(t: &mut [u8])
+    requires { ⌜ length (now t) ≡ 32768 ⌝ }
+{
+    accept(
+        t,
+        3,
+        b"B2",
+        b"",
+        b'A',
+        3,
+        order(1, 3, 1_000_000_100, 70, 3, 10),
+    );
+}
+
+// A market with these orders, the last of them in work.
+pub fn build(t: &mut [u8])
+    requires { ⌜ length (now t) ≡ 32768 ⌝ }
+{
+    let mpids = [10u64, 11];
+    let modes = [1u64, 3];
+    open_table(t, b"V", b"P", b"350", 1, &mpids, &modes);
+    resting(t);
+    meeting(t);
+    put_next(t, 4);
+    put_work(t, 3, b"20260105-09:00:00");
+}
+
+// The number that n digits at a place of a line say, and 0 where they are none.
+fn said(s: &[u8], at: usize, n: usize) -> u64 {
+    match read_number(part_at(s, at, n), 9) {
+        Said::Value(v) => v,
+        Said::Wrong => 0,
+    }
+}
+
+// Whether the table is a market with another value at place p; the table is as before afterwards.
+fn with_byte(t: &mut [u8], p: usize, v: u8) -> bool {
+    if t.len() <= p {
+        return false;
+    }
+    let old = t[p];
+    t[p] = v;
+    let r = is_market(t);
+    t[p] = old;
+    r
+}
+
+// Writes a line with its answer.
+fn answer(t: &mut [u8], s: &[u8]) {
+    let p = said(s, 0, 5) as usize;
+    let v = (said(s, 6, 3) % 256) as u8;
+    io::write_all(1, s);
+    if with_byte(t, p, v) {
+        io::write_all(1, b": market\n");
+    } else {
+        io::write_all(1, b": no market\n");
+    }
+}
+
+// Writes a heading, or a line with its answer.
+pub fn line(t: &mut [u8], s: &[u8]) {
+    if part_at(s, 0, 1).len() == 0 {
+        return;
+    }
+    if octets::same(part_at(s, 0, 1), b"#") {
+        io::write_all(1, s);
+        io::write_all(1, b"\n");
+        return;
+    }
+    answer(t, s);
+}
