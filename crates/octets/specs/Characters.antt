@@ -3,7 +3,9 @@
 use Prim.Native.Nat.{ℕ, zero, suc}
 use Prim.Native.Char.{Char, code}
 use Prim.Native.String.{String, [] as none, _∷_ as _then_}
+use mathlib.Core.Bool.{cond}
 use mathlib.Core.List.{List, [], _∷_}
+use lib.Dec.{eqb}
 
 -- the byte of a character
 abbrev pub byte : Char → ℕ
@@ -24,3 +26,8 @@ byteAt (c then (d then s)) (suc i) = byteAt (d then s) i
 -- SOH, which ends a field
 abbrev pub soh : ℕ
 soh = 0x01
+
+-- the bytes of a message or a report as a person writes it: `|` stands for SOH
+abbrev pub message : String → List ℕ
+message none = []
+message (c then s) = cond (eqb (byte c) (byte "|")) soh (byte c) ∷ message s

@@ -2,13 +2,11 @@
 -- rehearsed case 3 from Open on, message by message. The definitions are run on all bytes: of the messages, of the table, and of the
 -- reports as they are read.
 use mathlib.Core.Path.{_≡_, refl}
-use mathlib.Core.Bool.{true, cond}
+use mathlib.Core.Bool.{true}
 use mathlib.Core.List.{List, [], _∷_}
 use Prim.Native.Nat.{ℕ}
-use Prim.Native.String.{String, [] as none, _∷_ as _then_}
-use lib.Dec.{eqb}
 use lib.ListN.{replicate}
-use Rattle.octets.specs.Characters.{byte, bytes, soh}
+use Rattle.octets.specs.Characters.{bytes, message}
 use Rattle.octets.specs.Octets.{leAt, bytesOf, put, partAt, textAt, textBytes, sameBytes, allZero}
 use Rattle.octets.specs.Tests.{allUpTo, firstFrom}
 use Rattle.decimal.specs.Writing.{decimal, places, plain, fixed, shareOf, meanOf}
@@ -65,11 +63,6 @@ opens = opened before (bytes "V") (bytes "P") (bytes "350") 1 mpids modes
 pub opens-right : isOpening before (bytes "V") (bytes "P") (bytes "350") 1 mpids modes ≡ true
 unfolding computes
 opens-right = refl
-
--- the bytes of a message, `|` for SOH
-abbrev pub message : String → List ℕ
-message none = []
-message (c then s) = cond (eqb (byte c) (byte "|")) soh (byte c) ∷ message s
 
 -- book R: sells of 100 at 0.101 (MPID 11), and at 0.100 of 200 (12), 200 (A) and 500 (13); then A buys 1,200 at 0.100
 abbrev pub sell1 : List ℕ

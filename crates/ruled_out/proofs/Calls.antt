@@ -33,12 +33,12 @@ use Rattle.matching.specs.declared.Depth.the-variants.{Level}
 use Rattle.kamurjesh.specs.Numbers.{yieldOf}
 use lib.IntN.{pos}
 use Rattle.market.specs.Depth.{depthAnswer, depthNumber}
-use Rattle.ruled_out.proofs.Text.{bytes}
+use Rattle.octets.specs.Characters.{message}
 use Rattle.ruled_out.proofs.Books.{fresh, bookR}
 
 -- opens all definitions
 computes : ℕ
-unfolding leAt bytesOf put partAt textAt textBytes sameBytes allZero allUpTo firstFrom decimal places plain fixed shareOf meanOf isDigit digitOf runOf numberAfter isNumber numOf digitAt isFraction fractionOf sizeOf levelOf isTimeLength twoAt timeShaped timeRanged isTime isText startsTag leading tagOf valueFrom valueLen fieldOf fieldsAfter fieldsFrom stepOf findTag valueOf hasTag repeats cleanFields lastTagOr headedBy ordered headerRight partOf endOf tenAt lengthTrue sumOf checkSum sumTrue garbledMessage bodyPart headOf frameOf bodyOf saidIn lengthIn refusalOf termsIn requestIn completed bodyAsked headAsked askedOf kindOf oneOf belongs listed shapeOf charSays lookAs judge firstFailing firstMissing openOf meets better faces sameOwner sumOver countOf choose best partner prevention meeting ending outcome preventing causes change happens workAfter opposed opposedTo stands behind nearer next levelAt onLevel share total orders depth played stepEvents numbered stepped entered renewed taken entries entryOf isListed modeOf mpidBytes every isPadded hasLength hasNames isEntry hasList hasSettings hasNext hasWork hasSpare restZero isCapacity isClass isRecord isRanged isKnown isWithin isShut isPriced isOrder hasOrders isFreshId hasIds isFreshPlace hasPlaces isDone noIoc isClear noCross hasNumbers isBook isMarket isStoredText isName isNew isGiven areGiven areNames areSettings namedTable freshTable isOpening opened orderAt filled ordersFrom bookOf idIndex recordWith termBytes amountBytes recordOf applied withdrawn replaced accepted fieldBytes holder newStands changeStands cancelStands replaceStands rejecting faulted newRejected changeRejected newTaken replacementTaken cancelTaken submitted eventReport eventReports stepReports worked ran joined label written writtenField version front trailer reportBytes text orNumber digit orNobody avgPx replacedStatus tradeStatus statusOf figuresOf header acceptedFields replacedFields canceledFields tradeFields cancelRejectRow orStoredAt stampOn shownOn rowOf ticketOf unchangedOn unchangedRow openAnswer depthAnswer bytes
+unfolding leAt bytesOf put partAt textAt textBytes sameBytes allZero allUpTo firstFrom decimal places plain fixed shareOf meanOf isDigit digitOf runOf numberAfter isNumber numOf digitAt isFraction fractionOf sizeOf levelOf isTimeLength twoAt timeShaped timeRanged isTime isText startsTag leading tagOf valueFrom valueLen fieldOf fieldsAfter fieldsFrom stepOf findTag valueOf hasTag repeats cleanFields lastTagOr headedBy ordered headerRight partOf endOf tenAt lengthTrue sumOf checkSum sumTrue garbledMessage bodyPart headOf frameOf bodyOf saidIn lengthIn refusalOf termsIn requestIn completed bodyAsked headAsked askedOf kindOf oneOf belongs listed shapeOf charSays lookAs judge firstFailing firstMissing openOf meets better faces sameOwner sumOver countOf choose best partner prevention meeting ending outcome preventing causes change happens workAfter opposed opposedTo stands behind nearer next levelAt onLevel share total orders depth played stepEvents numbered stepped entered renewed taken entries entryOf isListed modeOf mpidBytes every isPadded hasLength hasNames isEntry hasList hasSettings hasNext hasWork hasSpare restZero isCapacity isClass isRecord isRanged isKnown isWithin isShut isPriced isOrder hasOrders isFreshId hasIds isFreshPlace hasPlaces isDone noIoc isClear noCross hasNumbers isBook isMarket isStoredText isName isNew isGiven areGiven areNames areSettings namedTable freshTable isOpening opened orderAt filled ordersFrom bookOf idIndex recordWith termBytes amountBytes recordOf applied withdrawn replaced accepted fieldBytes holder newStands changeStands cancelStands replaceStands rejecting faulted newRejected changeRejected newTaken replacementTaken cancelTaken submitted eventReport eventReports stepReports worked ran joined label written writtenField version front trailer reportBytes text orNumber digit orNobody avgPx replacedStatus tradeStatus statusOf figuresOf header acceptedFields replacedFields canceledFields tradeFields cancelRejectRow orStoredAt stampOn shownOn rowOf ticketOf unchangedOn unchangedRow openAnswer depthAnswer
 computes = 0
 
 -- ---- Open
@@ -48,19 +48,19 @@ abbrev sevens : List ℕ
 sevens = replicate 32768 7
 
 -- there is no mode 4
-mode-four : openNumberOf (openAnswer sevens (bytes "V") (bytes "P") (bytes "350") 1 (10 ∷ []) (4 ∷ [])) ≡ 9
+mode-four : openNumberOf (openAnswer sevens (message "V") (message "P") (message "350") 1 (10 ∷ []) (4 ∷ [])) ≡ 9
 unfolding computes
 mode-four = refl
 
 -- a refusal leaves every byte
-nothing-opened : opened sevens (bytes "V") (bytes "P") (bytes "350") 1 (10 ∷ []) (4 ∷ []) ≡ sevens
+nothing-opened : opened sevens (message "V") (message "P") (message "350") 1 (10 ∷ []) (4 ∷ []) ≡ sevens
 unfolding computes
 nothing-opened = refl
 
 -- ---- Submit: a buy of 100 at 0.100 to a market just opened
 
 abbrev buy : List ℕ
-buy = bytes "8=FIX.4.2|9=122|35=D|34=1|49=P|52=20260105-09:00:00|56=V|11=a|21=1|38=100|40=2|44=0.100|47=A|54=1|55=350|59=0|60=20260105-09:00:00|8060=1|10=115|"
+buy = message "8=FIX.4.2|9=122|35=D|34=1|49=P|52=20260105-09:00:00|56=V|11=a|21=1|38=100|40=2|44=0.100|47=A|54=1|55=350|59=0|60=20260105-09:00:00|8060=1|10=115|"
 
 -- it is taken, one report is written, and the next number goes up by one
 abbrev after-buy : Submitted → List ℕ
@@ -71,7 +71,7 @@ unfolding computes
 buy-taken = refl
 
 -- a garbled message has no report
-untold : submitted (fresh 1) (bytes "x") 1024 .reports ≡ []
+untold : submitted (fresh 1) (message "x") 1024 .reports ≡ []
 unfolding computes
 untold = refl
 
@@ -81,7 +81,7 @@ abbrev rests : List ℕ
 rests = endWork (submitted (fresh 1) buy 1024 .table)
 
 abbrev cancel : List ℕ
-cancel = bytes "8=FIX.4.2|9=84|35=F|34=2|49=P|52=20260105-09:00:00|56=V|11=b|41=a|54=1|55=350|60=20260105-09:00:00|10=218|"
+cancel = message "8=FIX.4.2|9=84|35=F|34=2|49=P|52=20260105-09:00:00|56=V|11=b|41=a|54=1|55=350|60=20260105-09:00:00|10=218|"
 
 -- a cancel leaves nothing open
 canceled : openOf (orderAt (submitted rests cancel 1024 .table) 1) ≡ 0
@@ -89,12 +89,12 @@ unfolding computes
 canceled = refl
 
 -- a replacement takes the place of its report, which is number 2
-new-place : orderAt (submitted rests (bytes "8=FIX.4.2|9=110|35=G|34=2|49=P|52=20260105-09:00:00|56=V|11=b|21=1|38=100|40=2|41=a|44=0.101|54=1|55=350|60=20260105-09:00:00|10=119|") 1024 .table) 1 .place ≡ 2
+new-place : orderAt (submitted rests (message "8=FIX.4.2|9=110|35=G|34=2|49=P|52=20260105-09:00:00|56=V|11=b|21=1|38=100|40=2|41=a|44=0.101|54=1|55=350|60=20260105-09:00:00|10=119|") 1024 .table) 1 .place ≡ 2
 unfolding computes
 new-place = refl
 
 -- where no order has 41, the length of the Cancel reject is given
-reject-length : submitLength (submitted rests (bytes "8=FIX.4.2|9=84|35=F|34=2|49=P|52=20260105-09:00:00|56=V|11=b|41=z|54=1|55=350|60=20260105-09:00:00|10=243|") 1024 .answer) ≡ 106
+reject-length : submitLength (submitted rests (message "8=FIX.4.2|9=84|35=F|34=2|49=P|52=20260105-09:00:00|56=V|11=b|41=z|54=1|55=350|60=20260105-09:00:00|10=243|") 1024 .answer) ≡ 106
 unfolding computes
 reject-length = refl
 

@@ -1,7 +1,6 @@
 -- Answers that the definitions rule out, each by computing: Messages, of what a message asks; Calls, of the calls on a table; Reports,
--- of what a report says; Clauses, the clauses of a market, each shown to matter on a whole table. Text and Books have what they are
--- computed on: a text in quotes as bytes, and tables.
-pub mod Text
+-- of what a report says; Clauses, the clauses of a market, each shown to matter on a whole table. Books has the
+-- tables that they are computed on.
 pub mod Books
 pub mod Messages
 pub mod Calls

@@ -12,51 +12,51 @@ use Rattle.request.specs.declared.Asked.{Asked}
 use Rattle.request.specs.declared.Asked.the-variants.{Garbled, Refused, Enters, Replaces, Cancels}
 use Rattle.request.specs.Asks.{bodyOf, saidIn, lengthIn, refusalOf, termsIn, requestIn, completed, bodyAsked, headAsked, askedOf}
 use Rattle.request.specs.Session.{kindOf, oneOf, belongs, listed, shapeOf, charSays, lookAs, judge, firstFailing, firstMissing}
-use Rattle.ruled_out.proofs.Text.{bytes}
+use Rattle.octets.specs.Characters.{message}
 
 -- opens all definitions
 computes : ℕ
-unfolding partAt sameBytes isDigit digitOf runOf numberAfter isNumber numOf digitAt isFraction fractionOf sizeOf levelOf isTimeLength twoAt timeShaped timeRanged isTime isText startsTag leading tagOf valueFrom valueLen fieldOf fieldsAfter fieldsFrom stepOf findTag valueOf hasTag repeats cleanFields lastTagOr headedBy ordered headerRight partOf endOf tenAt lengthTrue sumOf checkSum sumTrue garbledMessage bodyPart headOf frameOf bodyOf saidIn lengthIn refusalOf termsIn requestIn completed bodyAsked headAsked askedOf kindOf oneOf belongs listed shapeOf charSays lookAs judge firstFailing firstMissing bytes
+unfolding partAt sameBytes isDigit digitOf runOf numberAfter isNumber numOf digitAt isFraction fractionOf sizeOf levelOf isTimeLength twoAt timeShaped timeRanged isTime isText startsTag leading tagOf valueFrom valueLen fieldOf fieldsAfter fieldsFrom stepOf findTag valueOf hasTag repeats cleanFields lastTagOr headedBy ordered headerRight partOf endOf tenAt lengthTrue sumOf checkSum sumTrue garbledMessage bodyPart headOf frameOf bodyOf saidIn lengthIn refusalOf termsIn requestIn completed bodyAsked headAsked askedOf kindOf oneOf belongs listed shapeOf charSays lookAs judge firstFailing firstMissing
 computes = 0
 
 -- ---- garbled
 
 -- an order to buy 100 at 0.100 is not garbled
-plain : garbledMessage (bytes "8=FIX.4.2|9=122|35=D|34=1|49=P|52=20260105-09:00:00|56=V|11=a|21=1|38=100|40=2|44=0.100|47=A|54=1|55=350|59=0|60=20260105-09:00:00|8060=1|10=115|") ≡ false
+plain : garbledMessage (message "8=FIX.4.2|9=122|35=D|34=1|49=P|52=20260105-09:00:00|56=V|11=a|21=1|38=100|40=2|44=0.100|47=A|54=1|55=350|59=0|60=20260105-09:00:00|8060=1|10=115|") ≡ false
 unfolding computes
 plain = refl
 
 -- 170 is the sum of all its bytes, those of field 10 among them
-sum-with-ten : garbledMessage (bytes "8=FIX.4.2|9=122|35=D|34=1|49=P|52=20260105-09:00:00|56=V|11=a|21=1|38=100|40=2|44=0.100|47=A|54=1|55=350|59=0|60=20260105-09:00:00|8060=1|10=170|") ≡ true
+sum-with-ten : garbledMessage (message "8=FIX.4.2|9=122|35=D|34=1|49=P|52=20260105-09:00:00|56=V|11=a|21=1|38=100|40=2|44=0.100|47=A|54=1|55=350|59=0|60=20260105-09:00:00|8060=1|10=170|") ≡ true
 unfolding computes
 sum-with-ten = refl
 
 -- 11 stands twice
-tag-twice : garbledMessage (bytes "8=FIX.4.2|9=127|35=D|34=1|49=P|52=20260105-09:00:00|56=V|11=a|21=1|38=100|40=2|44=0.100|47=A|54=1|55=350|59=0|60=20260105-09:00:00|8060=1|11=b|10=122|") ≡ true
+tag-twice : garbledMessage (message "8=FIX.4.2|9=127|35=D|34=1|49=P|52=20260105-09:00:00|56=V|11=a|21=1|38=100|40=2|44=0.100|47=A|54=1|55=350|59=0|60=20260105-09:00:00|8060=1|11=b|10=122|") ≡ true
 unfolding computes
 tag-twice = refl
 
 -- a tag starts with 0
-zero-tag : garbledMessage (bytes "8=FIX.4.2|9=128|35=D|34=1|49=P|52=20260105-09:00:00|56=V|11=a|21=1|38=100|40=2|44=0.100|47=A|54=1|55=350|59=0|60=20260105-09:00:00|8060=1|058=b|10=182|") ≡ true
+zero-tag : garbledMessage (message "8=FIX.4.2|9=128|35=D|34=1|49=P|52=20260105-09:00:00|56=V|11=a|21=1|38=100|40=2|44=0.100|47=A|54=1|55=350|59=0|60=20260105-09:00:00|8060=1|058=b|10=182|") ≡ true
 unfolding computes
 zero-tag = refl
 
 -- ---- the value of a tag
 
 -- 11 is not 110, whose digits begin with it
-longer-tag : valueOf (bytes "110=x|11=a|") 11 ≡ bytes "a"
+longer-tag : valueOf (message "110=x|11=a|") 11 ≡ message "a"
 unfolding computes
 longer-tag = refl
 
 -- a second `=` is part of the value, and so is what follows it
-second-equals : valueOf (bytes "58=a=b|11=c|") 58 ≡ bytes "a=b"
+second-equals : valueOf (message "58=a=b|11=c|") 58 ≡ message "a=b"
 unfolding computes
 second-equals = refl
 
 -- ---- what a message asks of the market with venue V and port P
 
 asks : String → Asked
-asks s = askedOf (bytes "V") (bytes "P") (bytes s)
+asks s = askedOf (message "V") (message "P") (message s)
 
 -- 373 and 371 of a session Reject; neither where there is none
 record Fault : Type 0 where

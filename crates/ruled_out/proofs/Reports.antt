@@ -34,44 +34,44 @@ use Rattle.ticket.specs.Tickets.{orStoredAt, stampOn, shownOn, rowOf, ticketOf,
 use Rattle.readback.specs.Says.{says}
 use Rattle.report.specs.declared.Part.the-variants.{Nowhere}
 use Rattle.calls.specs.Read.{readNumber}
-use Rattle.ruled_out.proofs.Text.{bytes}
+use Rattle.octets.specs.Characters.{message}
 use Rattle.ruled_out.proofs.Books.{fresh, bookR}
 
 -- opens all definitions
 computes : ℕ
-unfolding leAt bytesOf put partAt textAt textBytes sameBytes allZero allUpTo firstFrom decimal places plain fixed shareOf meanOf bare bareOf exactlyOf amountOf fixedOf isDigit digitOf runOf numberAfter isNumber numOf digitAt isFraction fractionOf sizeOf levelOf isTimeLength twoAt timeShaped timeRanged isTime isText startsTag leading tagOf valueFrom valueLen fieldOf fieldsAfter fieldsFrom stepOf findTag valueOf hasTag repeats cleanFields lastTagOr headedBy ordered headerRight partOf endOf tenAt lengthTrue sumOf checkSum sumTrue garbledMessage bodyPart headOf frameOf bodyOf saidIn lengthIn refusalOf termsIn requestIn completed bodyAsked headAsked askedOf kindOf oneOf belongs listed shapeOf charSays lookAs judge firstFailing firstMissing openOf meets better faces sameOwner sumOver countOf choose best partner prevention meeting ending outcome preventing causes change happens workAfter opposed opposedTo played stepEvents numbered stepped entered renewed taken entries entryOf isListed modeOf mpidBytes every isPadded hasLength hasNames isEntry hasList hasSettings hasNext hasWork hasSpare restZero isCapacity isClass isRecord isRanged isKnown isWithin isShut isPriced isOrder hasOrders isFreshId hasIds isFreshPlace hasPlaces isDone noIoc isClear noCross hasNumbers isBook isMarket isStoredText isName isNew isGiven areGiven areNames areSettings namedTable freshTable isOpening opened orderAt filled ordersFrom bookOf idIndex recordWith termBytes amountBytes recordOf applied withdrawn replaced accepted fieldBytes holder newStands changeStands cancelStands replaceStands rejecting faulted newRejected changeRejected newTaken replacementTaken cancelTaken submitted eventReport eventReports stepReports worked ran joined label written writtenField version front trailer reportBytes valueAt fieldAt hop placeOf bodyAt trailerAt readFramed executionFor kindFor firstOf oneReason readOf kindOfReport placeOfTag oneIn wordIn recordIn textIn timeIn acceptedSlots replacedSlots canceledSlots tradeSlots cancelRejectSlots text orNumber digit orNobody avgPx replacedStatus tradeStatus statusOf figuresOf header acceptedFields replacedFields canceledFields tradeFields cancelRejectRow orStoredAt stampOn shownOn rowOf ticketOf unchangedOn unchangedRow says bytes
+unfolding leAt bytesOf put partAt textAt textBytes sameBytes allZero allUpTo firstFrom decimal places plain fixed shareOf meanOf bare bareOf exactlyOf amountOf fixedOf isDigit digitOf runOf numberAfter isNumber numOf digitAt isFraction fractionOf sizeOf levelOf isTimeLength twoAt timeShaped timeRanged isTime isText startsTag leading tagOf valueFrom valueLen fieldOf fieldsAfter fieldsFrom stepOf findTag valueOf hasTag repeats cleanFields lastTagOr headedBy ordered headerRight partOf endOf tenAt lengthTrue sumOf checkSum sumTrue garbledMessage bodyPart headOf frameOf bodyOf saidIn lengthIn refusalOf termsIn requestIn completed bodyAsked headAsked askedOf kindOf oneOf belongs listed shapeOf charSays lookAs judge firstFailing firstMissing openOf meets better faces sameOwner sumOver countOf choose best partner prevention meeting ending outcome preventing causes change happens workAfter opposed opposedTo played stepEvents numbered stepped entered renewed taken entries entryOf isListed modeOf mpidBytes every isPadded hasLength hasNames isEntry hasList hasSettings hasNext hasWork hasSpare restZero isCapacity isClass isRecord isRanged isKnown isWithin isShut isPriced isOrder hasOrders isFreshId hasIds isFreshPlace hasPlaces isDone noIoc isClear noCross hasNumbers isBook isMarket isStoredText isName isNew isGiven areGiven areNames areSettings namedTable freshTable isOpening opened orderAt filled ordersFrom bookOf idIndex recordWith termBytes amountBytes recordOf applied withdrawn replaced accepted fieldBytes holder newStands changeStands cancelStands replaceStands rejecting faulted newRejected changeRejected newTaken replacementTaken cancelTaken submitted eventReport eventReports stepReports worked ran joined label written writtenField version front trailer reportBytes valueAt fieldAt hop placeOf bodyAt trailerAt readFramed executionFor kindFor firstOf oneReason readOf kindOfReport placeOfTag oneIn wordIn recordIn textIn timeIn acceptedSlots replacedSlots canceledSlots tradeSlots cancelRejectSlots text orNumber digit orNobody avgPx replacedStatus tradeStatus statusOf figuresOf header acceptedFields replacedFields canceledFields tradeFields cancelRejectRow orStoredAt stampOn shownOn rowOf ticketOf unchangedOn unchangedRow says
 computes = 0
 
 -- ---- Read
 
 -- an Accepted
-whole : readNumber (readOf (bytes "8=FIX.4.2|9=202|35=8|34=1|49=V|50=DJGB|52=20260105-09:00:02|56=P|1=ACC-1|6=0.000000|11=BUY-1|14=0|17=1|20=0|37=7|38=1200|39=0|40=2|44=0.100|47=A|54=1|55=350|59=0|60=20260105-09:00:02|109=10|150=0|151=1200|423=9|8060=1|10=015|") .kind) ≡ 0
+whole : readNumber (readOf (message "8=FIX.4.2|9=202|35=8|34=1|49=V|50=DJGB|52=20260105-09:00:02|56=P|1=ACC-1|6=0.000000|11=BUY-1|14=0|17=1|20=0|37=7|38=1200|39=0|40=2|44=0.100|47=A|54=1|55=350|59=0|60=20260105-09:00:02|109=10|150=0|151=1200|423=9|8060=1|10=015|") .kind) ≡ 0
 unfolding computes
 whole = refl
 
 -- 37 is 256, a record that no table has
-record-256 : readNumber (readOf (bytes "8=FIX.4.2|9=204|35=8|34=1|49=V|50=DJGB|52=20260105-09:00:02|56=P|1=ACC-1|6=0.000000|11=BUY-1|14=0|17=1|20=0|37=256|38=1200|39=0|40=2|44=0.100|47=A|54=1|55=350|59=0|60=20260105-09:00:02|109=10|150=0|151=1200|423=9|8060=1|10=119|") .kind) ≡ 11
+record-256 : readNumber (readOf (message "8=FIX.4.2|9=204|35=8|34=1|49=V|50=DJGB|52=20260105-09:00:02|56=P|1=ACC-1|6=0.000000|11=BUY-1|14=0|17=1|20=0|37=256|38=1200|39=0|40=2|44=0.100|47=A|54=1|55=350|59=0|60=20260105-09:00:02|109=10|150=0|151=1200|423=9|8060=1|10=119|") .kind) ≡ 11
 unfolding computes
 record-256 = refl
 
 -- a CheckSum of two digits
-short-sum : readNumber (readOf (bytes "8=FIX.4.2|9=202|35=8|34=1|49=V|50=DJGB|52=20260105-09:00:02|56=P|1=ACC-1|6=0.000000|11=BUY-1|14=0|17=1|20=0|37=7|38=1200|39=0|40=2|44=0.100|47=A|54=1|55=350|59=0|60=20260105-09:00:02|109=10|150=0|151=1200|423=9|8060=1|10=15|") .kind) ≡ 11
+short-sum : readNumber (readOf (message "8=FIX.4.2|9=202|35=8|34=1|49=V|50=DJGB|52=20260105-09:00:02|56=P|1=ACC-1|6=0.000000|11=BUY-1|14=0|17=1|20=0|37=7|38=1200|39=0|40=2|44=0.100|47=A|54=1|55=350|59=0|60=20260105-09:00:02|109=10|150=0|151=1200|423=9|8060=1|10=15|") .kind) ≡ 11
 unfolding computes
 short-sum = refl
 
 -- a Canceled with 378, and one that has 41 too
-prevented-canceled : readNumber (readOf (bytes "8=FIX.4.2|9=209|35=8|34=7|49=V|50=DJGB|52=20260105-09:00:01|56=P|1=ACC-1|6=0.100666|11=BUY-1|14=300|17=7|20=0|37=7|38=1200|39=4|40=2|44=0.100|47=A|54=1|55=350|59=0|60=20260105-09:00:01|109=10|150=4|151=0|378=100|423=9|8060=1|10=124|") .kind) ≡ 0
+prevented-canceled : readNumber (readOf (message "8=FIX.4.2|9=209|35=8|34=7|49=V|50=DJGB|52=20260105-09:00:01|56=P|1=ACC-1|6=0.100666|11=BUY-1|14=300|17=7|20=0|37=7|38=1200|39=4|40=2|44=0.100|47=A|54=1|55=350|59=0|60=20260105-09:00:01|109=10|150=4|151=0|378=100|423=9|8060=1|10=124|") .kind) ≡ 0
 unfolding computes
 prevented-canceled = refl
 
-two-reasons : readNumber (readOf (bytes "8=FIX.4.2|9=218|35=8|34=7|49=V|50=DJGB|52=20260105-09:00:01|56=P|1=ACC-1|6=0.100666|11=BUY-1|14=300|17=7|20=0|37=7|38=1200|39=4|40=2|41=BUY-1|44=0.100|47=A|54=1|55=350|59=0|60=20260105-09:00:01|109=10|150=4|151=0|378=100|423=9|8060=1|10=109|") .kind) ≡ 11
+two-reasons : readNumber (readOf (message "8=FIX.4.2|9=218|35=8|34=7|49=V|50=DJGB|52=20260105-09:00:01|56=P|1=ACC-1|6=0.100666|11=BUY-1|14=300|17=7|20=0|37=7|38=1200|39=4|40=2|41=BUY-1|44=0.100|47=A|54=1|55=350|59=0|60=20260105-09:00:01|109=10|150=4|151=0|378=100|423=9|8060=1|10=109|") .kind) ≡ 11
 unfolding computes
 two-reasons = refl
 
 -- ---- the place of a field
 
 abbrev without : List ℕ
-without = bytes "8=FIX.4.2|9=194|35=8|34=1|49=V|50=DJGB|52=20260105-09:00:02|56=P|6=0.000000|11=BUY-1|14=0|17=1|20=0|37=7|38=1200|39=0|40=2|44=0.100|47=A|54=1|55=350|59=0|60=20260105-09:00:02|109=10|150=0|151=1200|423=9|8060=1|10=133|"
+without = message "8=FIX.4.2|9=194|35=8|34=1|49=V|50=DJGB|52=20260105-09:00:02|56=P|6=0.000000|11=BUY-1|14=0|17=1|20=0|37=7|38=1200|39=0|40=2|44=0.100|47=A|54=1|55=350|59=0|60=20260105-09:00:02|109=10|150=0|151=1200|423=9|8060=1|10=133|"
 
 -- 1 is not 11, nor 151, whose digits end with it
 shorter-tag : placeOfTag without 1 ≡ Nowhere
@@ -111,17 +111,17 @@ decrement-told = refl
 -- ---- what the reports of Submit say, while a buy of 100 rests that has ClOrdID a
 
 abbrev rests : List ℕ
-rests = endWork (submitted (fresh 1) (bytes "8=FIX.4.2|9=122|35=D|34=1|49=P|52=20260105-09:00:00|56=V|11=a|21=1|38=100|40=2|44=0.100|47=A|54=1|55=350|59=0|60=20260105-09:00:00|8060=1|10=115|") 1024 .table)
+rests = endWork (submitted (fresh 1) (message "8=FIX.4.2|9=122|35=D|34=1|49=P|52=20260105-09:00:00|56=V|11=a|21=1|38=100|40=2|44=0.100|47=A|54=1|55=350|59=0|60=20260105-09:00:00|8060=1|10=115|") 1024 .table)
 
 -- 102 is 2 for another side, and 0 where nothing is open
-other-side : told (submitted rests (bytes "8=FIX.4.2|9=84|35=F|34=2|49=P|52=20260105-09:00:00|56=V|11=b|41=a|54=2|55=350|60=20260105-09:00:00|10=219|") 1024 .reports) 0 102 ≡ 2
+other-side : told (submitted rests (message "8=FIX.4.2|9=84|35=F|34=2|49=P|52=20260105-09:00:00|56=V|11=b|41=a|54=2|55=350|60=20260105-09:00:00|10=219|") 1024 .reports) 0 102 ≡ 2
 unfolding computes
 other-side = refl
 
 abbrev dead : List ℕ
-dead = submitted rests (bytes "8=FIX.4.2|9=84|35=F|34=2|49=P|52=20260105-09:00:00|56=V|11=b|41=a|54=1|55=350|60=20260105-09:00:00|10=218|") 1024 .table
+dead = submitted rests (message "8=FIX.4.2|9=84|35=F|34=2|49=P|52=20260105-09:00:00|56=V|11=b|41=a|54=1|55=350|60=20260105-09:00:00|10=218|") 1024 .table
 
-nothing-open : told (submitted dead (bytes "8=FIX.4.2|9=84|35=F|34=3|49=P|52=20260105-09:00:00|56=V|11=c|41=b|54=1|55=350|60=20260105-09:00:00|10=221|") 1024 .reports) 0 102 ≡ 0
+nothing-open : told (submitted dead (message "8=FIX.4.2|9=84|35=F|34=3|49=P|52=20260105-09:00:00|56=V|11=c|41=b|54=1|55=350|60=20260105-09:00:00|10=221|") 1024 .reports) 0 102 ≡ 0
 unfolding computes
 nothing-open = refl
 
@@ -130,6 +130,6 @@ named : List (List ℕ) → List ℕ
 named [] = []
 named (r ∷ rs) = valueOf r 41
 
-replaced-41 : named (submitted rests (bytes "8=FIX.4.2|9=110|35=G|34=2|49=P|52=20260105-09:00:00|56=V|11=b|21=1|38=100|40=2|41=a|44=0.101|54=1|55=350|60=20260105-09:00:00|10=119|") 1024 .reports) ≡ bytes "a"
+replaced-41 : named (submitted rests (message "8=FIX.4.2|9=110|35=G|34=2|49=P|52=20260105-09:00:00|56=V|11=b|21=1|38=100|40=2|41=a|44=0.101|54=1|55=350|60=20260105-09:00:00|10=119|") 1024 .reports) ≡ message "a"
 unfolding computes named
 replaced-41 = refl
