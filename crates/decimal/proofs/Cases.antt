@@ -4,43 +4,44 @@ use mathlib.Core.Path.{_≡_, refl}
 use mathlib.Core.List.{List, [], _∷_, _++_}
 use Prim.Native.Nat.{ℕ, _+_, _-_, _*_}
 use native.Mathlib.Omega.{arith}
+use Rattle.octets.specs.Characters.{bytes}
 use Rattle.decimal.specs.Writing.{decimal, places, plain, fixed, shareOf, meanOf}
 
 -- case 9: the level five thousandths below zero is written -0.005
-pub case-nine : fixed 3 999999995 ≡ 45 ∷ 48 ∷ 46 ∷ 48 ∷ 48 ∷ 53 ∷ []
+pub case-nine : fixed 3 999999995 ≡ bytes "-0.005"
 unfolding decimal places plain fixed
 case-nine = refl
 
 -- zero has no minus: 0.000 and 0.000000
-pub zero-yield : fixed 3 1000000000 ≡ 48 ∷ 46 ∷ 48 ∷ 48 ∷ 48 ∷ []
+pub zero-yield : fixed 3 1000000000 ≡ bytes "0.000"
 unfolding decimal places plain fixed
 zero-yield = refl
 
-pub none-executed : (sum : ℕ) → fixed 6 (meanOf sum 0) ≡ 48 ∷ 46 ∷ 48 ∷ 48 ∷ 48 ∷ 48 ∷ 48 ∷ 48 ∷ []
+pub none-executed : (sum : ℕ) → fixed 6 (meanOf sum 0) ≡ bytes "0.000000"
 unfolding decimal places plain fixed meanOf
 none-executed sum = refl
 
 -- case 11: 1 at 0.100 and 2 at 0.101 is 0.100667
-pub case-eleven : fixed 6 (meanOf (1 * 1000000100 + 2 * 1000000101) 3) ≡ 48 ∷ 46 ∷ 49 ∷ 48 ∷ 48 ∷ 54 ∷ 54 ∷ 55 ∷ []
+pub case-eleven : fixed 6 (meanOf (1 * 1000000100 + 2 * 1000000101) 3) ≡ bytes "0.100667"
 unfolding decimal places plain fixed shareOf meanOf
 case-eleven = refl
 
 -- its mirror: 1 at -0.100 and 2 at -0.101 is -0.100667
-pub case-eleven-below : fixed 6 (meanOf (1 * 999999900 + 2 * 999999899) 3) ≡ 45 ∷ 48 ∷ 46 ∷ 49 ∷ 48 ∷ 48 ∷ 54 ∷ 54 ∷ 55 ∷ []
+pub case-eleven-below : fixed 6 (meanOf (1 * 999999900 + 2 * 999999899) 3) ≡ bytes "-0.100667"
 unfolding decimal places plain fixed shareOf meanOf
 case-eleven-below = refl
 
 -- a half goes away from zero: 15 at 0.100 and 1 at 0.101 is 0.100063, and with the signs turned round -0.100063
-pub half : fixed 6 (meanOf (15 * 1000000100 + 1 * 1000000101) 16) ≡ 48 ∷ 46 ∷ 49 ∷ 48 ∷ 48 ∷ 48 ∷ 54 ∷ 51 ∷ []
+pub half : fixed 6 (meanOf (15 * 1000000100 + 1 * 1000000101) 16) ≡ bytes "0.100063"
 unfolding decimal places plain fixed shareOf meanOf
 half = refl
 
-pub half-below : fixed 6 (meanOf (15 * 999999900 + 1 * 999999899) 16) ≡ 45 ∷ 48 ∷ 46 ∷ 49 ∷ 48 ∷ 48 ∷ 48 ∷ 54 ∷ 51 ∷ []
+pub half-below : fixed 6 (meanOf (15 * 999999900 + 1 * 999999899) 16) ≡ bytes "-0.100063"
 unfolding decimal places plain fixed shareOf meanOf
 half-below = refl
 
 -- less than half a millionth below zero is 0.000000
-pub nearly-zero : fixed 6 (meanOf (999999999 * 1000000000 - 1) 999999999) ≡ 48 ∷ 46 ∷ 48 ∷ 48 ∷ 48 ∷ 48 ∷ 48 ∷ 48 ∷ []
+pub nearly-zero : fixed 6 (meanOf (999999999 * 1000000000 - 1) 999999999) ≡ bytes "0.000000"
 unfolding decimal places plain fixed shareOf meanOf
 nearly-zero = refl
 

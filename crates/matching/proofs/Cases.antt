@@ -5,6 +5,7 @@ use mathlib.Core.List.{List, [], _∷_, map}
 use Prim.Native.Nat.{ℕ, _+_, _≤_}
 use native.Mathlib.Omega.{arith}
 use lib.ListN.{length}
+use Rattle.octets.specs.Characters.{bytes}
 use Rattle.decimal.specs.Writing.{decimal, places, plain, fixed, shareOf, meanOf}
 use Rattle.matching.specs.declared.Event.{Event}
 use Rattle.matching.specs.declared.Depth.the-variants.{Level, NoLevel}
@@ -89,7 +90,7 @@ mean11 : meanOf 3_000_000_302 3 ≡ 1_000_000_100_667
 unfolding meanOf shareOf
 mean11 = refl
 
-text11 : fixed 6 1_000_000_100_667 ≡ 48 ∷ 46 ∷ 49 ∷ 48 ∷ 48 ∷ 54 ∷ 54 ∷ 55 ∷ []
+text11 : fixed 6 1_000_000_100_667 ≡ bytes "0.100667"
 unfolding fixed plain decimal places
 text11 = refl
 
@@ -97,7 +98,7 @@ mean-mirror11 : meanOf 2_999_999_698 3 ≡ 999_999_899_333
 unfolding meanOf shareOf
 mean-mirror11 = refl
 
-text-mirror11 : fixed 6 999_999_899_333 ≡ 45 ∷ 48 ∷ 46 ∷ 49 ∷ 48 ∷ 48 ∷ 54 ∷ 54 ∷ 55 ∷ []
+text-mirror11 : fixed 6 999_999_899_333 ≡ bytes "-0.100667"
 unfolding fixed plain decimal places
 text-mirror11 = refl
 
@@ -175,11 +176,11 @@ module _ (modes : ℕ → ℕ) (b : Book) where
   case9 e = rw e (shown modes (modes 12) book9 2 2 (omega arith) refl (comes9 (modes 12)))
 
   -- 11: AvgPx 0.100667
-  pub case11 : b ≡ book11 → Averages modes b 3 3 3_000_000_302 3 1_000_000_100_667 (48 ∷ 46 ∷ 49 ∷ 48 ∷ 48 ∷ 54 ∷ 54 ∷ 55 ∷ [])
+  pub case11 : b ≡ book11 → Averages modes b 3 3 3_000_000_302 3 1_000_000_100_667 (bytes "0.100667")
   case11 e = rw e (averaged modes (modes 12) book11 3 3 (omega arith) refl (means11 (modes 12)) mean11 text11)
 
   -- 11, its mirror: AvgPx -0.100667
-  pub case11-mirror : b ≡ mirror11 → Averages modes b 3 3 2_999_999_698 3 999_999_899_333 (45 ∷ 48 ∷ 46 ∷ 49 ∷ 48 ∷ 48 ∷ 54 ∷ 54 ∷ 55 ∷ [])
+  pub case11-mirror : b ≡ mirror11 → Averages modes b 3 3 2_999_999_698 3 999_999_899_333 (bytes "-0.100667")
   case11-mirror e = rw e (averaged modes (modes 12) mirror11 3 3 (omega arith) refl (means-mirror11 (modes 12)) mean-mirror11 text-mirror11)
 
 -- 10: one level, with 4,999,999,995 and 5 orders

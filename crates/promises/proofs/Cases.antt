@@ -6,6 +6,7 @@ use mathlib.Core.List.{List, [], _∷_, map}
 use Prim.Native.Nat.{ℕ, _+_, _≤_}
 use native.Mathlib.Nat.{add-zero}
 use native.Mathlib.Omega.{arith}
+use Rattle.octets.specs.Characters.{bytes}
 use Rattle.matching.specs.declared.Event.{Event}
 use Rattle.matching.specs.declared.Depth.the-variants.{Level, NoLevel}
 use Rattle.matching.specs.Matching.{Book, at, openOf}
@@ -97,10 +98,10 @@ module _ (t : List ℕ) (m : isMarket t ≡ true) where
       (found t m w 2 0 refl ∙ ap Found (c .0), found t m w 2 1 refl ∙ ap Found (c .1))
 
   -- 11: 1 at 0.100 and 2 at 0.101: AvgPx 0.100667
-  pub table11 : bookOf t ≡ book11 → workOf t ≡ 3 → AveragesOn t 3 3 3_000_000_302 3 1_000_000_100_667 (48 ∷ 46 ∷ 49 ∷ 48 ∷ 48 ∷ 54 ∷ 54 ∷ 55 ∷ [])
+  pub table11 : bookOf t ≡ book11 → workOf t ≡ 3 → AveragesOn t 3 3 3_000_000_302 3 1_000_000_100_667 (bytes "0.100667")
   table11 b w = average-on-table t 3 3 m w (omega arith) (case11 (modeOf t) (bookOf t) b)
 
   -- 11, its mirror: 1 at -0.100 and 2 at -0.101: AvgPx -0.100667
   pub table11-mirror : bookOf t ≡ mirror11 → workOf t ≡ 3
-      → AveragesOn t 3 3 2_999_999_698 3 999_999_899_333 (45 ∷ 48 ∷ 46 ∷ 49 ∷ 48 ∷ 48 ∷ 54 ∷ 54 ∷ 55 ∷ [])
+      → AveragesOn t 3 3 2_999_999_698 3 999_999_899_333 (bytes "-0.100667")
   table11-mirror b w = average-on-table t 3 3 m w (omega arith) (case11-mirror (modeOf t) (bookOf t) b)
