@@ -43,11 +43,13 @@ fixed k v = cond (ltb v (zeroOf k)) (bytes "-" ++ plain k (zeroOf k - v)) (plain
 
 -- ---- AvgPx
 
--- d thousandths shared by e, in millionths, cut
+-- d thousandths shared by e, to the nearest millionth: the cut share where less than half a millionth is left over, and the
+-- next one from half on, so that halves go away from zero
 unfoldable pub shareOf : ℕ → ℕ → ℕ
-shareOf d e = d * 1000 / e
+shareOf d e = cond (ltb (2 * (d * 1000 % e)) e) (d * 1000 / e) (d * 1000 / e + 1)
 
--- the mean of what has executed, from the sum of quantity times level: cut toward zero; before any execution it is zero
+-- the mean of what has executed, from the sum of quantity times level: the nearest millionth, halves away from zero, above
+-- zero and below, since it is the distance from zero that is shared; before any execution it is zero
 unfoldable pub meanOf : ℕ → ℕ → ℕ
 meanOf sum executed =
     cond (eqb executed 0) 1000000000000

@@ -100,12 +100,18 @@ pub fn put_mean(out: &mut [u8], at: usize, mean: u64) -> usize
     put_fixed(out, at, 6, 1_000_000, mean)
 }
 
-// The millionths of d thousandths over e: the whole part first, then the rest.
+// The millionths of d thousandths over e, to the nearest: the whole part first, then the rest, so that nothing needs more
+// than 64 bits.
 fn share(d: u64, e: u64) -> u64
     requires { ⌜ (0 < e) × (e < 1000000000) × (d ≤ e * 1000000000) ⌝ }
     ensures { λ r. ⌜ (r ≡ shareOf d e) × (r ≤ 1000000000000) ⌝ }
 {
-    d / e * 1000 + d % e * 1000 / e
+    let rest = d % e * 1000;
+    let cut = d / e * 1000 + rest / e;
+    if 2 * (rest % e) < e {
+        return cut;
+    }
+    cut + 1
 }
 
 // The mean of what has executed, from the sum of quantity times level.

@@ -1,17 +1,18 @@
--- The rehearsed cases 1 to 11 of document 01, each over any book that is the printed one: of a table's book it is the same
+-- The rehearsed cases 1 to 11 of document 01, with the mirror of the last, each over any book that is the printed one: of a table's book it is the same
 -- statement. Modes are those of the market's MPIDs; only that of the order in work is asked for.
 use mathlib.Core.Path.{_≡_, refl, ap, _∙_}
 use mathlib.Core.List.{List, [], _∷_, map}
 use Prim.Native.Nat.{ℕ, _+_, _≤_}
 use native.Mathlib.Omega.{arith}
 use lib.ListN.{length}
+use Rattle.octets.specs.Characters.{bytes}
 use Rattle.decimal.specs.Writing.{decimal, places, plain, fixed, shareOf, meanOf}
 use Rattle.matching.specs.declared.Event.{Event}
 use Rattle.matching.specs.declared.Depth.the-variants.{Level, NoLevel}
 use Rattle.matching.specs.Matching.{Book, at, openOf, Ran, run, meets, better, faces, choose, best, sameOwner, prevention, meeting, ending, preventing, causes, change, after, play, partner, outcome, happens, workAfter, sumOver, countOf}
 use Rattle.matching.specs.Accounts.{tally}
 use Rattle.matching.specs.Depth.{stands, behind, nearer, next, levelAt, onLevel, share, total, orders, depth}
-use Rattle.matching.specs.Rehearsed.{yield, bookA, events1, events2, events3, book4, events4, book5, events5, book6, events6, book7, events7, book8, book9, events9, book10, book11, Shows, Line, Averages}
+use Rattle.matching.specs.Rehearsed.{yield, bookA, events1, events2, events3, book4, events4, book5, events5, book6, events6, book7, events7, book8, book9, events9, book10, book11, mirror11, Shows, Line, Averages}
 use Rattle.matching.proofs.Modes.{same-modes, beyond}
 
 -- ---- what a run of n steps comes to where every MPID has mode m, by computing
@@ -24,6 +25,11 @@ record Comes (m : ℕ) (b : Book) (w n : ℕ) (es : List Event) (os : List ℕ) 
   left : map openOf (run (always m) n b w .book) ≡ os
   steps : run (always m) n b w .steps ≡ n
   ended : run (always m) n b w .work ≡ 0
+
+record Means (m : ℕ) (b : Book) (w n sum executed : ℕ) : Type 0 where
+  ended : run (always m) n b w .work ≡ 0
+  sum-is : at (run (always m) n b w .book) w .sum ≡ sum
+  executed-is : at (run (always m) n b w .book) w .executed ≡ executed
 
 -- computing opens these
 computes : ℕ
@@ -72,25 +78,29 @@ module _ (m : ℕ) where
   unfolding computes
   comes9 = record { events = refl; left = refl; steps = refl; ended = refl }
 
-  ends11 : run (always m) 3 book11 3 .work ≡ 0
+  means11 : Means m book11 3 3 3_000_000_302 3
   unfolding computes
-  ends11 = refl
+  means11 = record { ended = refl; sum-is = refl; executed-is = refl }
 
-  sum11 : at (run (always m) 3 book11 3 .book) 3 .sum ≡ 3_000_000_302
+  means-mirror11 : Means m mirror11 3 3 2_999_999_698 3
   unfolding computes
-  sum11 = refl
+  means-mirror11 = record { ended = refl; sum-is = refl; executed-is = refl }
 
-  executed11 : at (run (always m) 3 book11 3 .book) 3 .executed ≡ 3
-  unfolding computes
-  executed11 = refl
-
-mean11 : meanOf 3_000_000_302 3 ≡ 1_000_000_100_666
+mean11 : meanOf 3_000_000_302 3 ≡ 1_000_000_100_667
 unfolding meanOf shareOf
 mean11 = refl
 
-text11 : fixed 6 1_000_000_100_666 ≡ 48 ∷ 46 ∷ 49 ∷ 48 ∷ 48 ∷ 54 ∷ 54 ∷ 54 ∷ []
+text11 : fixed 6 1_000_000_100_667 ≡ bytes "0.100667"
 unfolding fixed plain decimal places
 text11 = refl
+
+mean-mirror11 : meanOf 2_999_999_698 3 ≡ 999_999_899_333
+unfolding meanOf shareOf
+mean-mirror11 = refl
+
+text-mirror11 : fixed 6 999_999_899_333 ≡ bytes "-0.100667"
+unfolding fixed plain decimal places
+text-mirror11 = refl
 
 level10 : depth book10 2 0 ≡ Level (yield 100) 4_999_999_995 5
 unfolding openOf sumOver countOf stands behind nearer next levelAt onLevel share total orders depth
@@ -114,6 +124,17 @@ module _ (modes : ℕ → ℕ) (m : ℕ) (b : Book) (w n : ℕ) (in-book : w ≤
         left = λ k. ap (λ (r : Ran). map openOf (r .book)) (same (c .ended) k) ∙ c .left;
         steps = λ k. ap (λ (r : Ran). r .steps) (same (c .ended) k) ∙ c .steps;
         ended = λ k. ap (λ (r : Ran). r .work) (same (c .ended) k) ∙ c .ended;
+      }
+
+  averaged : {sum executed mean : ℕ} {text : List ℕ} → Means m b w n sum executed → meanOf sum executed ≡ mean → fixed 6 mean ≡ text
+      → Averages modes b w n sum executed mean text
+  averaged c mean text =
+      record {
+        ended = λ k. ap (λ (r : Ran). r .work) (same (c .ended) k) ∙ c .ended;
+        is-sum = λ k. ap (λ (r : Ran). at (r .book) w .sum) (same (c .ended) k) ∙ c .sum-is;
+        is-executed = λ k. ap (λ (r : Ran). at (r .book) w .executed) (same (c .ended) k) ∙ c .executed-is;
+        is-mean = mean;
+        is-text = text;
       }
 
 -- ---- the cases
@@ -154,18 +175,13 @@ module _ (modes : ℕ → ℕ) (b : Book) where
   pub case9 : b ≡ book9 → Shows modes b 2 events9 (0 ∷ 0 ∷ []) 2
   case9 e = rw e (shown modes (modes 12) book9 2 2 (omega arith) refl (comes9 (modes 12)))
 
-  -- 11: AvgPx 0.100666
-  pub case11 : b ≡ book11 → Averages modes b 3 3 3_000_000_302 3 1_000_000_100_666 (48 ∷ 46 ∷ 49 ∷ 48 ∷ 48 ∷ 54 ∷ 54 ∷ 54 ∷ [])
-  case11 e =
-      let m = modes 12 in
-      let s = same modes m book11 3 3 (omega arith) refl (ends11 m) in
-      rw e
-      (record {
-        is-sum = λ k. ap (λ (r : Ran). at (r .book) 3 .sum) (s k) ∙ sum11 m;
-        is-executed = λ k. ap (λ (r : Ran). at (r .book) 3 .executed) (s k) ∙ executed11 m;
-        is-mean = mean11;
-        is-text = text11;
-      })
+  -- 11: AvgPx 0.100667
+  pub case11 : b ≡ book11 → Averages modes b 3 3 3_000_000_302 3 1_000_000_100_667 (bytes "0.100667")
+  case11 e = rw e (averaged modes (modes 12) book11 3 3 (omega arith) refl (means11 (modes 12)) mean11 text11)
+
+  -- 11, its mirror: AvgPx -0.100667
+  pub case11-mirror : b ≡ mirror11 → Averages modes b 3 3 2_999_999_698 3 999_999_899_333 (bytes "-0.100667")
+  case11-mirror e = rw e (averaged modes (modes 12) mirror11 3 3 (omega arith) refl (means-mirror11 (modes 12)) mean-mirror11 text-mirror11)
 
 -- 10: one level, with 4,999,999,995 and 5 orders
 pub case10 : (b : Book) → b ≡ book10 → (depth b 2 0 ≡ Level (yield 100) 4_999_999_995 5) × (depth b 2 1 ≡ NoLevel)

@@ -108,6 +108,10 @@ book10 =
 abbrev pub book11 : Book
 book11 = sell 1 (yield 100) 1 11 ∷ sell 2 (yield 101) 2 11 ∷ buy 3 (yield 100) 3 12 ∷ []
 
+-- its mirror: 1 at -0.100 and 2 at -0.101, and a buy of 3
+abbrev pub mirror11 : Book
+mirror11 = sell 1 (minus 100) 1 11 ∷ sell 2 (minus 101) 2 11 ∷ buy 3 (minus 101) 3 12 ∷ []
+
 -- ---- what is shown
 
 -- w of book b, run with any budget of n steps or more, takes n steps, has the events es, and leaves open os
@@ -126,9 +130,10 @@ pub record Line (b : Book) (es : List Event) (k accepted executed decremented ca
   pub is-left : openOf (at (play b es) k) ≡ left
   pub adds-up : accepted ≡ executed + decremented + canceled + left
 
--- w of book b, run with any budget of n steps or more, has executed at this sum of quantity times level, of which the mean
--- is AvgPx as it is written
+-- w of book b, run with any budget of n steps or more, ends its work and has executed at this sum of quantity times level, of
+-- which the mean is AvgPx as it is written
 pub record Averages (modes : ℕ → ℕ) (b : Book) (w n sum executed mean : ℕ) (text : List ℕ) : Type 0 where
+  pub ended : (k : ℕ) → run modes (n + k) b w .work ≡ 0
   pub is-sum : (k : ℕ) → at (run modes (n + k) b w .book) w .sum ≡ sum
   pub is-executed : (k : ℕ) → at (run modes (n + k) b w .book) w .executed ≡ executed
   pub is-mean : meanOf sum executed ≡ mean

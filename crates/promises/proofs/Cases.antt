@@ -6,12 +6,12 @@ use mathlib.Core.List.{List, [], _∷_, map}
 use Prim.Native.Nat.{ℕ, _+_, _≤_}
 use native.Mathlib.Nat.{add-zero}
 use native.Mathlib.Omega.{arith}
+use Rattle.octets.specs.Characters.{bytes}
 use Rattle.matching.specs.declared.Event.{Event}
 use Rattle.matching.specs.declared.Depth.the-variants.{Level, NoLevel}
-use Rattle.matching.specs.Matching.{Book, at, openOf, meets, faces, sumOver, countOf, metBy, run}
-use Rattle.matching.specs.Rehearsed.{yield, bookA, events1, events2, events3, book4, events4, book5, events5, book6, events6, book7, events7, book8, book9, events9, book10, book11, Shows}
-use Rattle.matching.proofs.Theorems.{done}
-use Rattle.matching.proofs.Cases.{case1, case2, case3, case4, case5, case6, case7, case8, case9, case10, case11}
+use Rattle.matching.specs.Matching.{Book, at, openOf}
+use Rattle.matching.specs.Rehearsed.{yield, bookA, events1, events2, events3, book4, events4, book5, events5, book6, events6, book7, events7, book8, book9, events9, book10, book11, mirror11, Shows, Averages}
+use Rattle.matching.proofs.Cases.{case1, case2, case3, case4, case5, case6, case7, case8, case9, case10, case11, case11-mirror}
 use Rattle.table.specs.Heading.{workOf, modeOf}
 use Rattle.table.specs.Orders.{bookOf}
 use Rattle.table.specs.Market.{isMarket}
@@ -38,15 +38,20 @@ on-table t w es os n m e low s room budget h l =
       ended = g .work ∙ ended;
     }
 
--- the buy of case 11 meets two orders, so three steps end its work
-met11 : metBy book11 3 ≡ 2
-unfolding metBy countOf sumOver faces openOf meets
-met11 = refl
-
-ends11 : (modes : ℕ → ℕ) (b : Book) → b ≡ book11 → run modes 3 b 3 .work ≡ 0
-ends11 modes b e =
-    let d = done modes book11 3 (omega arith) .ended in
-    rw e (rw met11 at d)
+-- the AvgPx that matching gives of order w on the book, Run gives on the table
+average-on-table : {sum executed mean : ℕ} {text : List ℕ} (t : List ℕ) (w n : ℕ) → isMarket t ≡ true → workOf t ≡ w → 1 ≤ n
+    → Averages (modeOf t) (bookOf t) w n sum executed mean text
+    → AveragesOn t w n sum executed mean text
+average-on-table t w n m e low c room budget h l =
+    let z : n + 0 ≡ n = add-zero n in
+    let ended = rw (z, ← e) at (c .ended 0) in
+    let g = rw e at (ran-matches n t room budget m low h l ended .book) in
+    record {
+      is-sum = ap (λ (x : Book). at x w .sum) g ∙ rw z at (c .is-sum 0);
+      is-executed = ap (λ (x : Book). at x w .executed) g ∙ rw z at (c .is-executed 0);
+      is-mean = c .is-mean;
+      is-text = c .is-text;
+    }
 
 module _ (t : List ℕ) (m : isMarket t ≡ true) where
   -- 1: A buys 1,200, mode 1: trades of 100 and 200, 900 canceled; 200 and 500 stay; 4 steps
@@ -92,16 +97,11 @@ module _ (t : List ℕ) (m : isMarket t ≡ true) where
       let c = case10 (bookOf t) b in
       (found t m w 2 0 refl ∙ ap Found (c .0), found t m w 2 1 refl ∙ ap Found (c .1))
 
-  -- 11: 1 at 0.100 and 2 at 0.101: AvgPx 0.100666
-  pub table11 : bookOf t ≡ book11 → workOf t ≡ 3 → AveragesOn t 3 3 3_000_000_302 3 1_000_000_100_666 (48 ∷ 46 ∷ 49 ∷ 48 ∷ 48 ∷ 54 ∷ 54 ∷ 54 ∷ [])
-  table11 b w room budget h l =
-      let ended = ends11 (modeOf t) (bookOf t) b in
-      let g = ran-matches 3 t room budget m (omega arith) h l (rw w ended) in
-      let c = case11 (modeOf t) (bookOf t) b in
-      let q = rw w at (g .book) in
-      record {
-        is-sum = ap (λ (x : Book). at x 3 .sum) q ∙ c .is-sum 0;
-        is-executed = ap (λ (x : Book). at x 3 .executed) q ∙ c .is-executed 0;
-        is-mean = c .is-mean;
-        is-text = c .is-text;
-      }
+  -- 11: 1 at 0.100 and 2 at 0.101: AvgPx 0.100667
+  pub table11 : bookOf t ≡ book11 → workOf t ≡ 3 → AveragesOn t 3 3 3_000_000_302 3 1_000_000_100_667 (bytes "0.100667")
+  table11 b w = average-on-table t 3 3 m w (omega arith) (case11 (modeOf t) (bookOf t) b)
+
+  -- 11, its mirror: 1 at -0.100 and 2 at -0.101: AvgPx -0.100667
+  pub table11-mirror : bookOf t ≡ mirror11 → workOf t ≡ 3
+      → AveragesOn t 3 3 2_999_999_698 3 999_999_899_333 (bytes "-0.100667")
+  table11-mirror b w = average-on-table t 3 3 m w (omega arith) (case11-mirror (modeOf t) (bookOf t) b)

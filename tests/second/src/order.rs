@@ -1,5 +1,15 @@
 //! An order as the market keeps it.
 
+/// The whole number nearest to `dividend / divisor`, the one farther from zero where two are. `divisor` is positive.
+fn nearest(dividend: i128, divisor: i128) -> i128 {
+    let size = (2 * dividend.abs() + divisor) / (2 * divisor);
+    if dividend < 0 {
+        -size
+    } else {
+        size
+    }
+}
+
 /// Buy or sell.
 #[derive(Clone, Copy, Debug, PartialEq, Eq)]
 pub enum Side {
@@ -75,11 +85,11 @@ impl Order {
         self.order_qty - self.executed - self.decremented - self.canceled
     }
 
-    /// The average yield of all executions in millionths, cut toward zero; 0 before any.
+    /// The average yield of all executions in millionths: the nearest, halves away from zero; 0 before any.
     pub fn average_millionths(&self) -> i128 {
         match self.executed {
             0 => 0,
-            executed => self.sum * 1000 / i128::from(executed),
+            executed => nearest(self.sum * 1000, i128::from(executed)),
         }
     }
 

@@ -182,8 +182,8 @@ pub fn case_10_level_total_above_32_bits(script: &mut Script) {
     script.no_level(2, 1);
 }
 
-pub fn case_11_average_is_cut(script: &mut Script) {
-    script.say("Case 11: 1 at 0.100 and 2 at 0.101: AvgPx 0.100666");
+pub fn case_11_average_is_rounded(script: &mut Script) {
+    script.say("Case 11: 1 at 0.100 and 2 at 0.101: AvgPx 0.100667");
     script.open(1);
     script.rests(&order("s1", "2", "1", "0.100"));
     script.rests(&order("s2", "2", "2", "0.101"));
@@ -194,7 +194,24 @@ pub fn case_11_average_is_cut(script: &mut Script) {
             &["37=2", "32=2", "31=0.101", "6=0.101000"],
             &["37=3", "32=2", "6=0.101000", "151=1"],
             &["37=1", "32=1", "31=0.100", "6=0.100000"],
-            &["37=3", "32=1", "6=0.100666", "14=3", "151=0", "39=2"],
+            &["37=3", "32=1", "6=0.100667", "14=3", "151=0", "39=2"],
+        ],
+    );
+}
+
+pub fn mirror_of_case_11_is_rounded_away_from_zero(script: &mut Script) {
+    script.say("Case 11, mirrored: 1 at -0.100 and 2 at -0.101: AvgPx -0.100667");
+    script.open(1);
+    script.rests(&order("s1", "2", "1", "-0.100"));
+    script.rests(&order("s2", "2", "2", "-0.101"));
+    script.taken(&order("b", "1", "3", "-0.101"), &[]);
+    script.run(
+        3,
+        &[
+            &["37=1", "32=1", "31=-0.100", "6=-0.100000"],
+            &["37=3", "32=1", "6=-0.100000", "151=2"],
+            &["37=2", "32=2", "31=-0.101", "6=-0.101000"],
+            &["37=3", "32=2", "6=-0.100667", "14=3", "151=0", "39=2"],
         ],
     );
 }

@@ -60,7 +60,8 @@ points! {
         case_8_buy_above_sell_is_no_trade
         case_9_negative_yields_trade
         case_10_level_total_above_32_bits
-        case_11_average_is_cut
+        case_11_average_is_rounded
+        mirror_of_case_11_is_rounded_away_from_zero
         case_12_limits_of_quantity_area_and_table
     }
     messages {
@@ -151,7 +152,9 @@ points! {
         tag_39_on_replaced_is_1_or_5
         account_and_mpid_only_where_the_order_has_them
         tags_11_and_44_always_stand_on_replaced
-        average_is_cut_toward_zero
+        average_is_the_nearest_millionth
+        halves_of_a_millionth_go_away_from_zero
+        average_of_the_largest_sums
         replace_keeps_average_and_executed
         own_yield_and_resting_yield
         transact_time_is_the_sending_time

@@ -138,51 +138,85 @@ pub fn tags_11_and_44_always_stand_on_replaced(script: &mut Script) {
     script.run(2, &[&["11=c", "44=-1.000", "39=4"], &["150=5", "11=b", "44=-0.250", "151=5"]]);
 }
 
-pub fn average_is_cut_toward_zero(script: &mut Script) {
-    script.say("Reports: AvgPx is cut toward zero after dividing the whole sum: -0.002 over 3 is -0.000666");
+/// A market in which an order of one side executes these two quantities at these yields, the better first, with the
+/// average that its last Trade must show.
+fn averaged(script: &mut Script, side: &str, executions: [(u64, &str); 2], average: &str) {
     script.open(1);
-    script.rests(&order("s1", "2", "1", "0"));
-    script.rests(&order("s2", "2", "2", "-0.001"));
-    script.taken(&order("b", "1", "3", "-0.001"), &["6=0.000000", "44=-0.001"]);
-    script.run(3, &[&["37=1"], &["37=3", "6=0.000000"], &["37=2", "6=-0.001000"], &["37=3", "6=-0.000666"]]);
-    script.say("Reports: -0.001 over 1,000 is -0.000001; over 1,001 it is cut to 0.000000, without a minus");
+    let other = if side == "1" { "2" } else { "1" };
+    for (id, (quantity, at)) in ["r1", "r2"].iter().zip(executions) {
+        script.rests(&order(id, other, &quantity.to_string(), at));
+    }
+    let [(first, _), (second, at)] = executions;
+    let (executed, average) = (format!("14={}", first + second), format!("6={average}"));
+    script.taken(&order("x", side, &(first + second).to_string(), at), &["6=0.000000"]);
+    script.run(3, &[&["37=1"], &["37=3"], &["37=2"], &["37=3", &average, &executed, "39=2"]]);
+}
+
+pub fn average_is_the_nearest_millionth(script: &mut Script) {
+    script.say("Reports: AvgPx is the nearest millionth of the whole mean: thirds on both sides of zero");
+    averaged(script, "1", [(1, "0.001"), (2, "0")], "0.000333");
+    averaged(script, "1", [(2, "0.001"), (1, "0")], "0.000667");
+    averaged(script, "1", [(2, "0"), (1, "-0.001")], "-0.000333");
+    averaged(script, "1", [(1, "0"), (2, "-0.001")], "-0.000667");
+    averaged(script, "2", [(2, "-0.001"), (1, "0")], "-0.000667");
+    averaged(script, "2", [(1, "0"), (2, "0.001")], "0.000667");
+    script.say("Reports: just over half a millionth is one, just under it is 0.000000, without a minus");
+    averaged(script, "1", [(1, "0.001"), (1998, "0")], "0.000001");
+    averaged(script, "1", [(1, "0.001"), (2000, "0")], "0.000000");
+    averaged(script, "1", [(1998, "0"), (1, "-0.001")], "-0.000001");
+    averaged(script, "1", [(2000, "0"), (1, "-0.001")], "0.000000");
+    script.say("Reports: rounding carries through every digit");
+    averaged(script, "1", [(2000, "1"), (1, "0.999")], "1.000000");
+    averaged(script, "1", [(1998, "1"), (1, "0.999")], "0.999999");
+    averaged(script, "2", [(2000, "-1"), (1, "-0.999")], "-1.000000");
+    averaged(script, "2", [(1998, "-1"), (1, "-0.999")], "-0.999999");
+    script.say("Reports: each Trade rounds the sum anew, not the average shown before");
     script.open(1);
-    script.rests(&order("s1", "2", "999", "0"));
-    script.rests(&order("s2", "2", "1", "-0.001"));
-    script.taken(&order("b", "1", "1000", "-0.001"), &[]);
-    script.run(3, &[&["37=1"], &["37=3"], &["37=2"], &["37=3", "6=-0.000001"]]);
-    script.open(1);
-    script.rests(&order("s1", "2", "1000", "0"));
-    script.rests(&order("s2", "2", "1", "-0.001"));
-    script.taken(&order("b", "1", "1001", "-0.001"), &[]);
-    script.run(3, &[&["37=1"], &["37=3"], &["37=2"], &["37=3", "6=0.000000"]]);
-    script.say("Reports: the largest sums: 999,999,998 at 999999.999 and 1 at 999999.998");
-    script.open(1);
-    script.rests(&order("s1", "2", "999999998", "999999.999"));
-    script.rests(&order("s2", "2", "1", "999999.998"));
-    script.taken(&order("b", "1", "999999999", "-999999.999"), &[]);
+    for (id, at) in [("s1", "0.002"), ("s2", "0.001"), ("s3", "0.001")] {
+        script.rests(&order(id, "2", if id == "s1" { "1" } else { "2" }, at));
+    }
+    script.taken(&order("b", "1", "5", "0"), &[]);
     script.run(
-        3,
-        &[
-            &["37=1", "6=999999.999000"],
-            &["37=3", "6=999999.999000"],
-            &["37=2", "6=999999.998000"],
-            &["37=3", "6=999999.998999", "14=999999999"],
-        ],
+        4,
+        &[&["37=1"], &["37=4", "6=0.002000"], &["37=2"], &["37=4", "6=0.001333"], &["37=3"], &["37=4", "6=0.001200"]],
     );
-    script.open(1);
-    script.rests(&order("b1", "1", "999999998", "-999999.999"));
-    script.rests(&order("b2", "1", "1", "-999999.998"));
-    script.taken(&order("s", "2", "999999999", "999999.999"), &[]);
-    script.run(
-        3,
-        &[
-            &["37=1", "6=-999999.999000"],
-            &["37=3", "6=-999999.999000"],
-            &["37=2", "6=-999999.998000"],
-            &["37=3", "6=-999999.998999", "14=999999999"],
-        ],
+}
+
+pub fn halves_of_a_millionth_go_away_from_zero(script: &mut Script) {
+    script.say(
+        "Reports: halves of a millionth go away from zero: 0.0000625, 0.0001875 and 0.0000005 among those above it",
     );
+    averaged(script, "1", [(1, "0.001"), (15, "0")], "0.000063");
+    averaged(script, "1", [(3, "0.001"), (13, "0")], "0.000188");
+    averaged(script, "2", [(15, "0"), (1, "0.001")], "0.000063");
+    averaged(script, "1", [(1, "0.001"), (1999, "0")], "0.000001");
+    averaged(script, "1", [(1, "0.101"), (1999, "0.100")], "0.100001");
+    averaged(script, "1", [(1999, "0.101"), (1, "0.100")], "0.101000");
+    averaged(script, "1", [(1999, "1"), (1, "0.999")], "1.000000");
+    script.say("Reports: and below it");
+    averaged(script, "1", [(15, "0"), (1, "-0.001")], "-0.000063");
+    averaged(script, "1", [(13, "0"), (3, "-0.001")], "-0.000188");
+    averaged(script, "2", [(1, "-0.001"), (15, "0")], "-0.000063");
+    averaged(script, "1", [(1999, "0"), (1, "-0.001")], "-0.000001");
+    averaged(script, "1", [(1999, "-0.100"), (1, "-0.101")], "-0.100001");
+    averaged(script, "1", [(1, "-0.100"), (1999, "-0.101")], "-0.101000");
+    averaged(script, "1", [(1, "-0.999"), (1999, "-1")], "-1.000000");
+    script.say("Reports: yields on both sides of zero in one mean");
+    averaged(script, "1", [(1000, "0.001"), (1000, "-0.001")], "0.000000");
+    averaged(script, "1", [(9, "0.001"), (7, "-0.001")], "0.000125");
+    averaged(script, "1", [(1, "0.006"), (15, "-0.001")], "-0.000563");
+}
+
+pub fn average_of_the_largest_sums(script: &mut Script) {
+    script
+        .say("Reports: AvgPx of the largest sums: all but 1 of 999,999,999 at 999999.999, the rest 0.001 nearer zero");
+    averaged(script, "1", [(999_999_998, "999999.999"), (1, "999999.998")], "999999.999000");
+    averaged(script, "2", [(999_999_998, "-999999.999"), (1, "-999999.998")], "-999999.999000");
+    script.say("Reports: the same with a part large enough to be seen");
+    averaged(script, "1", [(999_500_000, "999999.999"), (499_999, "999999.998")], "999999.999000");
+    averaged(script, "1", [(999_499_998, "999999.999"), (500_001, "999999.998")], "999999.998999");
+    averaged(script, "2", [(999_499_998, "-999999.999"), (500_001, "-999999.998")], "-999999.998999");
+    averaged(script, "1", [(500_000_000, "999999.999"), (499_999_999, "-999999.999")], "0.001000");
 }
 
 pub fn replace_keeps_average_and_executed(script: &mut Script) {
@@ -194,7 +228,7 @@ pub fn replace_keeps_average_and_executed(script: &mut Script) {
     script.taken(&replace("b", "b1", "1", "3", "0.1"), &["14=1", "6=0.300000", "44=0.100", "151=2", "39=1"]);
     script.run(1, &[]);
     script.taken(&order("s2", "2", "2", "0.1"), &[]);
-    script.run(2, &[&["37=2", "14=3", "6=0.166666", "31=0.100", "39=2"], &["37=3"]]);
+    script.run(2, &[&["37=2", "14=3", "6=0.166667", "31=0.100", "39=2"], &["37=3"]]);
 }
 
 pub fn own_yield_and_resting_yield(script: &mut Script) {

@@ -1,34 +1,54 @@
 -- `write::share` meets its contract.
-use Rattle.decimal.proofs.Means.{share-parts, share-most}
-use Prim.Native.Nat.{_*_, _%_}
-use native.Mathlib.Nat.{div-le-of-le-mul, mod-lt, div-le-self}
-use native.Mathlib.Omega.{arith}
+use Rattle.decimal.proofs.Means.{parts-down, parts-up, share-size, rest-fits, whole-fits, cut-fits, next-fits, twice-fits}
 use borrow.Author.Needs.{needs}
 use Rattle.decimal.proofs.write.share.Statement.{statement}
 use Rattle.decimal.proofs.write.share.Tie as tie
 
-div-result : tie.Need-div-result
-div-result c = search needs
+rem-rest : tie.Need-rem-rest
+rem-rest c = search needs
 
-mul-result : tie.Need-mul-result
-mul-result c = omega (arith, div-le-of-le-mul (c .args .e) (c .pre .2))
+mul-rest : tie.Need-mul-rest
+mul-rest c = search (needs, rest-fits)
 
-rem-result : tie.Need-rem-result
-rem-result c = search needs
+div-cut : tie.Need-div-cut
+div-cut c = search needs
 
-mul-result-2 : tie.Need-mul-result-2
-mul-result-2 c = omega (arith, mod-lt (c .args .d) (c .pre .0))
+mul-cut : tie.Need-mul-cut
+mul-cut c = search (needs, whole-fits)
 
-div-result-2 : tie.Need-div-result-2
-div-result-2 c = search needs
+div-cut-2 : tie.Need-div-cut-2
+div-cut-2 c = search needs
 
-add-result : tie.Need-add-result
-add-result c = omega (arith, div-le-of-le-mul (c .args .e) (c .pre .2), mod-lt (c .args .d) (c .pre .0), div-le-self (c .args .d % c .args .e * 1000) (c .args .e))
+add-cut : tie.Need-add-cut
+add-cut c = search (needs, cut-fits)
+
+rem-if1 : tie.Need-rem-if1
+rem-if1 c = search needs
+
+mul-if1 : tie.Need-mul-if1
+mul-if1 c = search (needs, twice-fits)
 
 returns : tie.Need-returns
-returns c = let e = share-parts (c .args .d) (c .args .e) (c .pre .0) in (e, rw e (share-most (c .args .d) (c .args .e) (c .pre .0) (c .pre .2)))
+returns c = (search (needs, parts-down), search (needs, share-size, parts-down))
+
+add-result : tie.Need-add-result
+add-result c = search (needs, next-fits)
+
+returns-2 : tie.Need-returns-2
+returns-2 c = (search (needs, parts-up), search (needs, share-size, parts-up))
 
 pub share-spec : {M : Type 1} → statement M
 share-spec =
     tie.close
-    (tie.spec div-result mul-result rem-result mul-result-2 div-result-2 add-result returns)
+    (tie.spec
+    rem-rest
+    mul-rest
+    div-cut
+    mul-cut
+    div-cut-2
+    add-cut
+    rem-if1
+    mul-if1
+    returns
+    add-result
+    returns-2)
