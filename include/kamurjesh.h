@@ -82,7 +82,8 @@ uint64_t kamurjesh_open(uint8_t *table, size_t table_length,
                         const uint64_t *modes, size_t modes_count);
 
 /* Takes one FIX message and writes its first report at the start of the area. A new order or a replacement that is taken is
- * then in work: call kamurjesh_run until it is done. A cancel is done at once.
+ * then in work: call kamurjesh_run until it is done. A cancel is done at once. A replacement with the same yield and a 38 not
+ * above the one in force keeps its place among the orders of that yield; any other goes behind them.
  * length: of the report; the area's bytes behind it stay as they were.
  * Refusals: 1 to 8. */
 uint64_t kamurjesh_submit(uint8_t *table, size_t table_length,

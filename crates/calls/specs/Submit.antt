@@ -112,7 +112,7 @@ module _ (t message : List ℕ) where
       (ticketOf (accepted t k clOrdId account (o .terms .capacity) (o .terms .class) (newOrderOf o)) message (nextOf t) (causeOf (o .time) noText) (Accepted k (newOrderOf o)))
       (λ n. answer.Taken n)
 
-  -- a replacement of record k: its place is the number of this report
+  -- a replacement of record k: the place that it may take is the number of this report
   unfoldable pub replacementTaken : Replacement → ℕ → Submitted
   replacementTaken o k =
       let clOrdId = textOf message (o .id) in

@@ -139,7 +139,7 @@ pub fn enter(table: &mut [u8], message: &[u8], area: &mut [u8], o: NewOrder) -> 
     SubmitAnswer::Taken(len)
 }
 
-// Record k takes new terms, a new ClOrdID and a new place, and is in work.
+// Record k takes new terms and a new ClOrdID, keeps its place or takes the number of its report for it, and is in work.
 pub fn renew(
     table: &mut [u8],
     message: &[u8],

@@ -48,7 +48,7 @@ by-level a c h =
     (λ t. absurd (ahead-self (isBuy a) (c .level) (rw (eqb-true (a .level) (c .level) t) at h)))
     (λ t. rw t h)
 
-by-place : (a c : Order) → a .level ≡ c .level → a .place < c .place → better a c ≡ true
+pub by-place : (a c : Order) → a .level ≡ c .level → a .place < c .place → better a c ≡ true
 unfolding better
 by-place a c e h = rw (eq-eqb (a .level) (c .level) e) (lt-ltb _ _ h)
 

@@ -1,5 +1,6 @@
--- The rehearsed cases 1 to 11 of document 01, with the mirror of the last, each over any book that is the printed one: of a table's book it is the same
--- statement. Modes are those of the market's MPIDs; only that of the order in work is asked for.
+-- The rehearsed cases 1 to 11 of document 01, with the mirror of the last, and two of replacements, each over any book that is the
+-- one written down: of a table's book it is the same statement. Modes are those of the market's MPIDs; only that of the order in
+-- work is asked for.
 use mathlib.Core.Path.{_≡_, refl, ap, _∙_}
 use mathlib.Core.List.{List, [], _∷_, map}
 use Prim.Native.Nat.{ℕ, _+_, _≤_}
@@ -9,10 +10,10 @@ use Rattle.octets.specs.Characters.{bytes}
 use Rattle.decimal.specs.Writing.{decimal, places, plain, fixed, shareOf, meanOf}
 use Rattle.matching.specs.declared.Event.{Event}
 use Rattle.matching.specs.declared.Depth.the-variants.{Level, NoLevel}
-use Rattle.matching.specs.Matching.{Book, at, openOf, Ran, run, meets, better, faces, choose, best, sameOwner, prevention, meeting, ending, preventing, causes, change, after, play, partner, outcome, happens, workAfter, sumOver, countOf}
+use Rattle.matching.specs.Matching.{Book, at, openOf, Ran, run, meets, better, faces, choose, best, sameOwner, prevention, meeting, ending, preventing, causes, placeAfter, change, after, play, partner, outcome, happens, workAfter, sumOver, countOf}
 use Rattle.matching.specs.Accounts.{tally}
 use Rattle.matching.specs.Depth.{stands, behind, nearer, next, levelAt, onLevel, share, total, orders, depth}
-use Rattle.matching.specs.Rehearsed.{yield, bookA, events1, events2, events3, book4, events4, book5, events5, book6, events6, book7, events7, book8, book9, events9, book10, book11, mirror11, Shows, Line, Averages}
+use Rattle.matching.specs.Rehearsed.{yield, bookA, events1, events2, events3, book4, events4, book5, events5, book6, events6, book7, events7, book8, book9, events9, book10, book11, mirror11, sell, buy, bookTurn, eventsReduced, eventsRaised, Shows, Line, Averages}
 use Rattle.matching.proofs.Modes.{same-modes, beyond}
 
 -- ---- what a run of n steps comes to where every MPID has mode m, by computing
@@ -33,7 +34,7 @@ record Means (m : ℕ) (b : Book) (w n sum executed : ℕ) : Type 0 where
 
 -- computing opens these
 computes : ℕ
-unfolding openOf run meets better faces choose best sameOwner prevention meeting ending preventing causes change after play partner outcome happens workAfter
+unfolding openOf run meets better faces choose best sameOwner prevention meeting ending preventing causes placeAfter change after play partner outcome happens workAfter
 computes = 0
 
 comes1 : Comes 1 bookA 5 4 events1 (0 ∷ 0 ∷ 200 ∷ 500 ∷ 0 ∷ [])
@@ -60,8 +61,28 @@ comes5 : Comes 3 book5 2 2 events5 (150 ∷ 0 ∷ [])
 unfolding computes
 comes5 = record { events = refl; left = refl; steps = refl; ended = refl }
 
+-- the book of a replacement and a buy: a reduced sell has its place, a raised one that of the replacement
+abbrev turned : ℕ → ℕ → Book
+turned quantity place = sell quantity (yield 100) place 11 ∷ sell 200 (yield 100) 2 12 ∷ buy 250 (yield 100) 4 13 ∷ []
+
+reduced-is : bookTurn 150 ≡ turned 150 1
+unfolding computes
+reduced-is = refl
+
+raised-is : bookTurn 300 ≡ turned 300 3
+unfolding computes
+raised-is = refl
+
 -- under any mode
 module _ (m : ℕ) where
+  comes-reduced : Comes m (turned 150 1) 3 3 eventsReduced (0 ∷ 100 ∷ 0 ∷ [])
+  unfolding computes
+  comes-reduced = record { events = refl; left = refl; steps = refl; ended = refl }
+
+  comes-raised : Comes m (turned 300 3) 3 3 eventsRaised (250 ∷ 0 ∷ 0 ∷ [])
+  unfolding computes
+  comes-raised = record { events = refl; left = refl; steps = refl; ended = refl }
+
   comes6 : Comes m book6 2 2 events6 (150 ∷ 0 ∷ [])
   unfolding computes
   comes6 = record { events = refl; left = refl; steps = refl; ended = refl }
@@ -182,6 +203,14 @@ module _ (modes : ℕ → ℕ) (b : Book) where
   -- 11, its mirror: AvgPx -0.100667
   pub case11-mirror : b ≡ mirror11 → Averages modes b 3 3 2_999_999_698 3 999_999_899_333 (bytes "-0.100667")
   case11-mirror e = rw e (averaged modes (modes 12) mirror11 3 3 (omega arith) refl (means-mirror11 (modes 12)) mean-mirror11 text-mirror11)
+
+  -- a reduced order trades before the one that came after it
+  pub reduced-first : b ≡ bookTurn 150 → Shows modes b 3 eventsReduced (0 ∷ 100 ∷ 0 ∷ []) 3
+  reduced-first e = rw (e ∙ reduced-is) (shown modes (modes 13) (turned 150 1) 3 3 (omega arith) refl (comes-reduced (modes 13)))
+
+  -- an order whose quantity is raised trades behind it
+  pub raised-behind : b ≡ bookTurn 300 → Shows modes b 3 eventsRaised (250 ∷ 0 ∷ 0 ∷ []) 3
+  raised-behind e = rw (e ∙ raised-is) (shown modes (modes 13) (turned 300 3) 3 3 (omega arith) refl (comes-raised (modes 13)))
 
 -- 10: one level, with 4,999,999,995 and 5 orders
 pub case10 : (b : Book) → b ≡ book10 → (depth b 2 0 ≡ Level (yield 100) 4_999_999_995 5) × (depth b 2 1 ≡ NoLevel)

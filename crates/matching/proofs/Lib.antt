@@ -7,6 +7,7 @@
 pub mod Values
 pub mod Books
 pub mod Events
+pub mod Placing
 pub mod Steps
 pub mod Conserved
 pub mod Fair

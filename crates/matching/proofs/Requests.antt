@@ -12,11 +12,12 @@ use borrow.Author.Tests.{ltb-true, ltb-false, eqb-true, eqb-false}
 use Rattle.octets.proofs.Bools.{split}
 use Rattle.matching.specs.declared.Order.{Order}
 use Rattle.matching.specs.declared.Event.the-variants.{Accepted, Replaced, Withdrawn}
-use Rattle.matching.specs.Matching.{Book, at, openOf, opposedTo, change, after, play}
+use Rattle.matching.specs.Matching.{Book, at, openOf, opposedTo, placeAfter, change, after, play}
 use Rattle.matching.specs.Held.{Sound, In, Uncrossed, Held, Enters, Renews}
 use Rattle.matching.specs.Happens.{Fit, Fits, Fresh, Renewed}
 use Rattle.matching.proofs.Books.{length-put, length-put-new, count-most, open-low, at-nothing}
 use Rattle.matching.proofs.Events.{after-here, after-there, play-open}
+use Rattle.matching.proofs.Placing.{place-either}
 use Rattle.matching.proofs.Crossing.{play-uncrossed}
 use Rattle.matching.proofs.Ends.{none-most}
 use Rattle.matching.proofs.Sounds.{quiet}
@@ -58,7 +59,8 @@ later-held listed next more b h l m =
 module _ (listed : ℕ → Bool) (next : ℕ) (b c : Book) (n : ℕ) (o : Order) (h : Held listed next b 0)
     (here : at c n ≡ o) (there : (k : ℕ) → k ≢ n → at c k ≡ at b k)
     (i : In c n) (back : (k : ℕ) → k ≢ n → In c k → In b k)
-    (sound : Sound o) (owned : (eqb (o .mpid) 0 || listed (o .mpid)) ≡ true) (newest : o .place ≡ next)
+    (sound : Sound o) (owned : (eqb (o .mpid) 0 || listed (o .mpid)) ≡ true)
+    (placed : o .place ≤ next) (unshared : (k : ℕ) → k ≢ n → In b k → at b k .place ≢ o .place)
     (filled : length c ≤ 255) (numbered : next ≤ 999_998_976) where
   -- of the new order, or of another
   each : (P : Order → Type 0) (k : ℕ) → P o → (k ≢ n → P (at b k)) → P (at c k)
@@ -71,21 +73,18 @@ module _ (listed : ℕ → Bool) (next : ℕ) (b c : Book) (n : ℕ) (o : Order)
   apart k m j l e =
       split (eqb k n)
       (λ t. split (eqb m n)
-      (λ u. omega (arith, eqb-true k n t, eqb-true m n u))
-      (λ u. let d = eqb-false m n u in absurd (omega (arith, h .places-below m (back m d l), new (eqb-true k n t), old m d, newest))))
+      (λ u. eqb-true k n t ∙ sym (eqb-true m n u))
+      (λ u. let d = eqb-false m n u in absurd (unshared m d (back m d l) (sym (old m d) ∙ sym e ∙ new k (eqb-true k n t)))))
       (λ t. let d = eqb-false k n t in
       split (eqb m n)
-      (λ u. absurd (omega (arith, h .places-below k (back k d j), new′ (eqb-true m n u), old k d, newest)))
+      (λ u. absurd (unshared k d (back k d j) (sym (old k d) ∙ e ∙ new m (eqb-true m n u))))
       (λ u. let x = eqb-false m n u in h .places-apart k m (back k d j) (back m x l) (sym (old k d) ∙ e ∙ old m x)))
     where
       old : (k : ℕ) → k ≢ n → at c k .place ≡ at b k .place
       old k d = ap (λ (p : Order). p .place) (there k d)
 
-      new : k ≡ n → at c k .place ≡ o .place
-      new q = rw (q, here)
-
-      new′ : m ≡ n → at c m .place ≡ o .place
-      new′ q = rw (q, here)
+      new : (k : ℕ) → k ≡ n → at c k .place ≡ o .place
+      new k q = rw (q, here)
 
   uncrossed : Uncrossed c n
   uncrossed i j hi hj bi bj oi oj =
@@ -112,7 +111,7 @@ module _ (listed : ℕ → Bool) (next : ℕ) (b c : Book) (n : ℕ) (o : Order)
         sound = λ k j. each Sound k sound (λ d. h .sound k (back k d j));
         owned = λ k j. each (λ p. (eqb (p .mpid) 0 || listed (p .mpid)) ≡ true) k owned (λ d. h .owned k (back k d j));
         places-apart = apart;
-        places-below = λ k j. each (λ p. p .place < next + 1) k (omega (arith, newest)) (λ d. omega (arith, h .places-below k (back k d j)));
+        places-below = λ k j. each (λ p. p .place < next + 1) k (omega (arith, placed)) (λ d. omega (arith, h .places-below k (back k d j)));
         no-ioc = λ k d e. rw (there k d) (closed k (rw (there k d) at e));
         uncrossed = uncrossed;
         next-high = omega (arith, numbered);
@@ -133,7 +132,8 @@ module _ (listed : ℕ → Bool) (next : ℕ) (b : Book) (n : ℕ) (o : Order) (
       (after-there b (Accepted n o) (omega (arith, a .number)) (omega (arith, a .number)))
       (record { low = omega (arith, a .number); high = omega (arith, a .number, length-new) })
       (λ k d j. record { low = j .low; high = less k d (j .high) })
-      (a .sound) (a .owned) (a .newest)
+      (a .sound) (a .owned)
+      (omega (arith, a .newest)) (λ k d j e. omega (arith, h .places-below k j, a .newest))
       (omega (arith, length-new, a .free)) (a .numbered)
     where
       less : (k : ℕ) → k ≢ n → k ≤ length (after b (Accepted n o)) → k ≤ length b
@@ -178,8 +178,19 @@ module _ (listed : ℕ → Bool) (next : ℕ) (b : Book) (n l q p : ℕ) (h : He
         dead = λ z. omega (arith, uncanceled);
         sum-low = s .sum-low;
         sum-high = s .sum-high;
-        place-low = a .place-low;
+        place-low = place-either (λ x. 0 < x) (at b n) l q p (s .place-low) (a .place-low);
       }
+
+  -- the place that it has afterwards is at most the next number, and no other order's
+  replaced-placed : placeAfter (at b n) l q p ≤ next
+  replaced-placed =
+      place-either (λ x. x ≤ next) (at b n) l q p (omega (arith, h .places-below n (a .inside))) (omega (arith, a .newest))
+
+  replaced-unshared : (k : ℕ) → k ≢ n → In b k → at b k .place ≢ placeAfter (at b n) l q p
+  replaced-unshared k d j =
+      place-either (λ x. at b k .place ≢ x) (at b n) l q p
+      (λ e. d (h .places-apart k n j (a .inside) e))
+      (λ e. omega (arith, h .places-below k j, a .newest))
 
   length-same : length (after b (Replaced n l q p)) ≡ length b
   unfolding after
@@ -193,7 +204,7 @@ module _ (listed : ℕ → Bool) (next : ℕ) (b : Book) (n l q p : ℕ) (h : He
       (after-there b (Replaced n l q p) (a .inside .low) (omega (arith, a .inside .high)))
       (record { low = a .inside .low; high = rw length-same (a .inside .high) })
       (λ k d j. record { low = j .low; high = rw length-same at (j .high) })
-      replaced-sound (h .owned n (a .inside)) (a .newest)
+      replaced-sound (h .owned n (a .inside)) replaced-placed replaced-unshared
       (rw length-same (a .filled)) (a .numbered)
 
 -- ---- a withdrawal

@@ -3,13 +3,14 @@
 use mathlib.Core.Path.{_≡_, sym, _∙_}
 use mathlib.Core.Bool.{Bool, true, false}
 use mathlib.Core.List.{List, []}
+use mathlib.Core.Logic.{_≢_}
 use Prim.Native.Nat.{ℕ, suc, _+_, _*_, _≤_, _<_}
 use native.Mathlib.Omega.{arith}
 use lib.ListN.{length}
 use Rattle.matching.specs.declared.Order.{Order}
 use Rattle.matching.specs.declared.Event.{Event}
 use Rattle.matching.specs.declared.Event.the-variants.{Accepted, Replaced, Withdrawn}
-use Rattle.matching.specs.Matching.{Book, at, openOf, isBuy, buys, ahead, better, faces, partner, metBy, opposedTo, happens, bookAfter, workAfter, after, play, run}
+use Rattle.matching.specs.Matching.{Book, at, openOf, isBuy, buys, ahead, better, faces, partner, metBy, opposedTo, happens, bookAfter, workAfter, placeAfter, change, after, play, run}
 use Rattle.matching.specs.Accounts.{tally, trades, decrements, cancels, accepted, bought, sold, SelfTradeFree}
 use Rattle.matching.specs.Runs.{Ended, GoesOn}
 use Rattle.matching.specs.Held.{Covered, Sound, In, Uncrossed, Held, Enters, Renews}
@@ -24,7 +25,8 @@ use Rattle.matching.proofs.Ends.{left-most, run-ends, step-two, run-rep
 use Rattle.matching.proofs.Sounds.{run-sound}
 use Rattle.matching.proofs.Holding.{step-held, run-held}
 use Rattle.matching.proofs.Requests.{opened-held, accepted-held, replaced-held, withdrawn-held}
-use Rattle.matching.proofs.Best.{partner-best, run-on}
+use Rattle.matching.proofs.Best.{by-place, partner-best, run-on}
+use Rattle.matching.proofs.Placing.{place-kept, place-raised, place-elsewhere, turn-kept}
 use Rattle.matching.proofs.Levels.{standing-high, totals-add-up, orders-add-up, no-more, levels-ahead, best-level}
 
 -- ---- every run of n steps of order w of book b
@@ -124,6 +126,32 @@ withdrawn-holds = withdrawn-held
 
 pub opened-holds : (listed : ℕ → Bool) (next : ℕ) → next ≤ 1_000_000_000 → Held listed next [] 0
 opened-holds = opened-held
+
+-- ---- the place of an order o that is replaced as requested to a level and quantity, given being the place that it may take
+module _ (o : Order) (level quantity given : ℕ) where
+  -- kept with the same yield and a quantity not above the one in force, and so is its turn with every other order
+  pub reduction-keeps : level ≡ o .level → quantity ≤ o .qty → placeAfter o level quantity given ≡ o .place
+  reduction-keeps = place-kept o level quantity given
+
+  pub reduction-keeps-turn : (n : ℕ) (other : Order) → level ≡ o .level → quantity ≤ o .qty
+      → (better (change (Replaced n level quantity given) o) other ≡ better o other)
+      × (better other (change (Replaced n level quantity given) o) ≡ better other o)
+  reduction-keeps-turn = turn-kept o level quantity given
+
+  -- the one given with a greater quantity, and with another yield
+  pub raise-takes : o .qty < quantity → placeAfter o level quantity given ≡ given
+  raise-takes = place-raised o level quantity given
+
+  pub elsewhere-takes : level ≢ o .level → placeAfter o level quantity given ≡ given
+  elsewhere-takes = place-elsewhere o level quantity given
+
+-- who takes the place of its report goes behind every order of the level
+pub taken-behind : (listed : ℕ → Bool) (next : ℕ) (b : Book) (n l q p : ℕ) → Held listed next b 0 → Renews next b n l q p
+    → placeAfter (at b n) l q p ≡ p
+    → (k : ℕ) → In b k → at b k .level ≡ l → better (at b k) (change (Replaced n l q p) (at b n)) ≡ true
+unfolding change
+taken-behind listed next b n l q p h a e k i s =
+    by-place (at b k) _ s (rw e (omega (arith, h .places-below k i, a .newest)))
 
 -- ---- every list of events that can happen from an empty book on: acceptances, replacements, withdrawals and steps
 -- conserved: the quantity of the last acceptance or replacement of an order is what the events execute, decrement and cancel of

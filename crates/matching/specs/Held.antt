@@ -102,7 +102,8 @@ pub record Enters (listed : ℕ → Bool) (next : ℕ) (b : Book) (n : ℕ) (o :
   pub free : length b ≤ 254
   pub numbered : next ≤ 999_998_976
 
--- what it asks of a replacement: an order with something open, a quantity above what is executed and decremented
+-- what it asks of a replacement: an order with something open, a quantity above what is executed and decremented, and the next
+-- report number for the place that it may take
 pub record Renews (next : ℕ) (b : Book) (n l q p : ℕ) : Type 0 where
   pub inside : In b n
   pub live : 0 < openOf (at b n)

@@ -161,10 +161,10 @@ who (Decremented n q) = n
 who (Traded n m q l) = n
 who (Expired n q) = n
 
--- who takes a new place: the place of an order after a requested replacement to a level and quantity, new being the place
--- that it may take
-abbrev pub placeAfter : Order → ℕ → ℕ → ℕ → ℕ
-placeAfter o level quantity new = new
+-- who keeps its place: the place of an order after a requested replacement to a level and quantity. With the same yield and a
+-- quantity not above OrderQty before it the order keeps the place it has; any other replacement takes the place given
+unfoldable pub placeAfter : Order → ℕ → ℕ → ℕ → ℕ
+placeAfter o level quantity given = cond (eqb level (o .level) && leb quantity (o .qty)) (o .place) given
 
 -- an order with other amounts
 abbrev pub amounts : Order → ℕ → ℕ → ℕ → ℕ → Order

@@ -1,12 +1,12 @@
--- The rehearsed books (document 01, "Rehearsed books"): how their orders are written, and what is shown of each. Every case
--- is one statement over any book that is the printed one. Assumes nothing.
+-- The rehearsed books (document 01, "Rehearsed books") and two more on replacements: how their orders are written, and what is
+-- shown of each. Every case is one statement over any book that is the one written here. Assumes nothing.
 use mathlib.Core.Path.{_≡_}
 use mathlib.Core.List.{List, [], _∷_, map}
 use Prim.Native.Nat.{ℕ, _+_, _-_}
 use Rattle.decimal.specs.Writing.{fixed, meanOf}
 use Rattle.matching.specs.declared.Order.{Order}
 use Rattle.matching.specs.declared.Event.{Event}
-use Rattle.matching.specs.declared.Event.the-variants.{Traded, Canceled, Decremented, Expired}
+use Rattle.matching.specs.declared.Event.the-variants.{Accepted, Replaced, Traded, Canceled, Decremented, Expired}
 use Rattle.matching.specs.Matching.{Book, at, openOf, play, run}
 use Rattle.matching.specs.Accounts.{tally, trades, decrements, cancels}
 
@@ -111,6 +111,22 @@ book11 = sell 1 (yield 100) 1 11 ∷ sell 2 (yield 101) 2 11 ∷ buy 3 (yield 10
 -- its mirror: 1 at -0.100 and 2 at -0.101, and a buy of 3
 abbrev pub mirror11 : Book
 mirror11 = sell 1 (minus 100) 1 11 ∷ sell 2 (minus 101) 2 11 ∷ buy 3 (minus 101) 3 12 ∷ []
+
+-- ---- a replacement between two orders of one yield
+
+-- two sells of 200 at 0.100; the first is replaced to a quantity at the same yield and rests; then MPID 13 buys 250 there
+abbrev pub bookTurn : ℕ → Book
+bookTurn quantity =
+    play (sell 200 (yield 100) 1 11 ∷ sell 200 (yield 100) 2 12 ∷ [])
+    (Replaced 1 (yield 100) quantity 3 ∷ Accepted 3 (buy 250 (yield 100) 4 13) ∷ [])
+
+-- reduced to 150, it trades before the one that came after it
+abbrev pub eventsReduced : List Event
+eventsReduced = trade 1 3 150 (yield 100) (trade 2 3 100 (yield 100) [])
+
+-- raised to 300, it trades behind it
+abbrev pub eventsRaised : List Event
+eventsRaised = trade 2 3 200 (yield 100) (trade 1 3 50 (yield 100) [])
 
 -- ---- what is shown
 

@@ -7,7 +7,8 @@ ghost use Rattle.matching.specs.Depth.{onSide, stands, behind, nearer, o
 ghost use Rattle.matching.specs.Held.{Covered, Sound, May};
 
 // One order: the ten numbers that matching needs. Side 1 buys and 2 sells; time in force 0 is Day and 3 IOC; the level is
-// 1,000,000,000 and the yield in thousandths; the sum is that of executed quantity times level; MPID 0 is none.
+// 1,000,000,000 and the yield in thousandths; the sum is that of executed quantity times level; the place is the number of
+// the Accepted report, or of the last requested Replaced report that did not keep it; MPID 0 is none.
 pub struct Order {
     pub side: u64,
     pub tif: u64,
@@ -36,8 +37,8 @@ pub enum Outcome {
     Rests,
 }
 
-// What happens to one order, named by its number: it enters the book, is replaced or withdrawn as requested, is canceled or
-// decremented by prevention, trades with another, or expires (an IOC's rest).
+// What happens to one order, named by its number: it enters the book, is replaced (the place is the one it may take) or
+// withdrawn as requested, is canceled or decremented by prevention, trades with another, or expires (an IOC's rest).
 pub enum Event {
     Accepted {
         order: u64,
@@ -167,11 +168,14 @@ impl Order {
         Outcome::Rests
     }
 
-    // The place after a requested replacement to a level and quantity, new being the place that it may take.
-    pub fn place_after(self, level: u64, quantity: u64, new: u64) -> u64
-        ensures { λ r. ⌜ r ≡ placeAfter self level quantity new ⌝ }
+    // The place after a requested replacement to a level and quantity: the order's own or the one given.
+    pub fn place_after(self, level: u64, quantity: u64, given: u64) -> u64
+        ensures { λ r. ⌜ r ≡ placeAfter self level quantity given ⌝ }
     {
-        new
+        if (level == self.level) & (quantity <= self.qty) {
+            return self.place;
+        }
+        given
     }
 
     // The order after an event of it.

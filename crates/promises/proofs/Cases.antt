@@ -1,5 +1,6 @@
--- The rehearsed cases (document 01, "Rehearsed books"), each over any table that is a market, whose book is the printed one with its last
--- order in work, and whose modes are as said: which events the reports of Run are of, what is left open, and in how many steps.
+-- The rehearsed cases (document 01, "Rehearsed books") and two of replacements, each over any table that is a market, whose book is the one
+-- written down with its last order in work, and whose modes are as said: which events the reports of Run are of, what is left open, and in
+-- how many steps.
 use mathlib.Core.Path.{_≡_, refl, ap, _∙_}
 use mathlib.Core.Bool.{true}
 use mathlib.Core.List.{List, [], _∷_, map}
@@ -10,8 +11,8 @@ use Rattle.octets.specs.Characters.{bytes}
 use Rattle.matching.specs.declared.Event.{Event}
 use Rattle.matching.specs.declared.Depth.the-variants.{Level, NoLevel}
 use Rattle.matching.specs.Matching.{Book, at, openOf}
-use Rattle.matching.specs.Rehearsed.{yield, bookA, events1, events2, events3, book4, events4, book5, events5, book6, events6, book7, events7, book8, book9, events9, book10, book11, mirror11, Shows, Averages}
-use Rattle.matching.proofs.Cases.{case1, case2, case3, case4, case5, case6, case7, case8, case9, case10, case11, case11-mirror}
+use Rattle.matching.specs.Rehearsed.{yield, bookA, events1, events2, events3, book4, events4, book5, events5, book6, events6, book7, events7, book8, book9, events9, book10, book11, mirror11, bookTurn, eventsReduced, eventsRaised, Shows, Averages}
+use Rattle.matching.proofs.Cases.{case1, case2, case3, case4, case5, case6, case7, case8, case9, case10, case11, case11-mirror, reduced-first, raised-behind}
 use Rattle.table.specs.Heading.{workOf, modeOf}
 use Rattle.table.specs.Orders.{bookOf}
 use Rattle.table.specs.Market.{isMarket}
@@ -105,3 +106,11 @@ module _ (t : List ℕ) (m : isMarket t ≡ true) where
   pub table11-mirror : bookOf t ≡ mirror11 → workOf t ≡ 3
       → AveragesOn t 3 3 2_999_999_698 3 999_999_899_333 (bytes "-0.100667")
   table11-mirror b w = average-on-table t 3 3 m w (omega arith) (case11-mirror (modeOf t) (bookOf t) b)
+
+  -- two sells of 200 at one yield, and a buy of 250: the first, reduced to 150, trades before the second, which came after it
+  pub table-reduced : bookOf t ≡ bookTurn 150 → workOf t ≡ 3 → ShowsOn t eventsReduced (0 ∷ 100 ∷ 0 ∷ []) 3
+  table-reduced b w = on-table t 3 _ _ 3 m w (omega arith) (reduced-first (modeOf t) (bookOf t) b)
+
+  -- raised to 300, it trades behind the second
+  pub table-raised : bookOf t ≡ bookTurn 300 → workOf t ≡ 3 → ShowsOn t eventsRaised (250 ∷ 0 ∷ 0 ∷ []) 3
+  table-raised b w = on-table t 3 _ _ 3 m w (omega arith) (raised-behind (modeOf t) (bookOf t) b)

@@ -1,5 +1,5 @@
 -- The book after a request that is taken, before the next number and what is in work change, is the book after its event.
-use mathlib.Core.Path.{_≡_, refl, sym, ap, _∙_}
+use mathlib.Core.Path.{_≡_, refl, ap, _∙_}
 use mathlib.Core.Bool.{true}
 use mathlib.Core.List.{List}
 use Prim.Native.Nat.{ℕ, suc, _+_, _≤_, _<_}
@@ -25,7 +25,7 @@ use Rattle.table.proofs.Frames.{Formed, market-formed, framed-long}
 use Rattle.table.proofs.Applied.{sound-amounts, book-applied, framed-applied, book-terms, framed-terms, book-next, book-work}
 use Rattle.table.proofs.Naming.{named-formed, named-book, named-order, named-filled}
 use Rattle.table.proofs.Entering.{entered-formed, entered-book}
-use Rattle.table.proofs.Kept.{listed-small}
+use Rattle.table.proofs.Kept.{listed-small, renewed-terms}
 
 -- ---- the heading changes, the book does not
 pub long-numbered : (t : List ℕ) (n : ℕ) → length t ≡ tableBytes → length (numbered t n) ≡ tableBytes
@@ -116,8 +116,8 @@ module _ (t : List ℕ) (k : ℕ) (clOrdId : List ℕ) (m : Market t) (i : In (b
     changed = change (Replaced k l q p) (orderAt t k)
 
     widths : Terms changed
-    unfolding changed change
-    widths = record { level = omega (arith, a .level-high); qty = omega (arith, a .qty-high); place = omega (arith, a .newest, a .numbered) }
+    unfolding changed
+    widths = renewed-terms t k m i l q p a
 
     inside : k ≤ filled (putId t k clOrdId)
     inside = omega (arith, filled-there, high)
@@ -130,6 +130,4 @@ module _ (t : List ℕ) (k : ℕ) (clOrdId : List ℕ) (m : Market t) (i : In (b
 
     pub book-replaced : bookOf (replaced t clOrdId (Replaced k l q p)) ≡ after (bookOf t) (Replaced k l q p)
     unfolding replaced after change changed
-    book-replaced =
-        let o : orderAt (putId t k clOrdId) k ≡ at (bookOf t) k = order ∙ sym there in
-        book-terms (putId t k clOrdId) k changed (formed .long) (i .low) inside widths ∙ rw (book, o)
+    book-replaced = book-terms (putId t k clOrdId) k changed (formed .long) (i .low) inside widths ∙ rw (book, order, there)

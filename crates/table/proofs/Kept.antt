@@ -20,6 +20,7 @@ use Rattle.matching.specs.declared.Event.{Event}
 use Rattle.matching.specs.declared.Event.the-variants.{Accepted, Replaced, Withdrawn}
 use Rattle.matching.specs.Matching.{Book, at, put as putOrder, openOf, change, after, partner, happens, bookAfter, workAfter}
 use Rattle.matching.specs.Held.{In, Held, Ready, Enters, Renews}
+use Rattle.matching.proofs.Placing.{place-either}
 use Rattle.matching.proofs.Steps.{happens-fits}
 use Rattle.matching.proofs.Holding.{step-ready, step-held}
 use Rattle.matching.proofs.Requests.{later-held, accepted-held, replaced-held, withdrawn-fits, withdrawn-held}
@@ -136,6 +137,20 @@ numbered-kept t n m e h =
     rw e (later-held (isListed t) (nextOf t) (nextOf t + n) (bookOf t) held (omega arith) h) in
     renumbered t t (market-formed t m) (framed-self t) (m .work) (nextOf t + n) (omega (arith, m .next-low)) later
 
+-- ---- a replacement's terms are of their widths, whether it keeps its place or takes the one given
+
+pub renewed-terms : (t : List ℕ) (k : ℕ) → Market t → In (bookOf t) k → (l q p : ℕ) → Renews (nextOf t) (bookOf t) k l q p
+    → Terms (change (Replaced k l q p) (orderAt t k))
+unfolding change
+renewed-terms t k m i l q p a =
+    let there : at (bookOf t) k ≡ orderAt t k = at-book t k (i .low) (omega (arith, i .high, length-book t)) in
+    let own : orderAt t k .place < nextOf t = rw there at (m .held .places-below k i) in
+    record {
+      level = omega (arith, a .level-high);
+      qty = omega (arith, a .qty-high);
+      place = place-either (λ x. x < 4294967296) (orderAt t k) l q p (omega (arith, a .numbered)) (omega (arith, a .newest, a .numbered));
+    }
+
 -- ---- a requested cancel
 
 module _ (t : List ℕ) (k : ℕ) (clOrdId : List ℕ) (m : Market t) (e : workOf t ≡ 0) (i : In (bookOf t) k) (g : Named t clOrdId) where
@@ -198,13 +213,11 @@ module _ (t : List ℕ) (k : ℕ) (clOrdId : List ℕ) (m : Market t) (e : workO
       let c : Order = change v (orderAt t k) in
       let u : List ℕ = putTerms t1 k c in
       let long = formed .long in
-      let widths : Terms c =
-      record { level = omega (arith, a .level-high); qty = omega (arith, a .qty-high); place = omega (arith, a .newest, a .numbered) } in
+      let widths : Terms c = renewed-terms t k m i l q p a in
       let inside : k ≤ filled t1 = omega (arith, filled-there, high) in
       let f = framed-terms t1 k c long (i .low) inside in
       let s : Same u t1 0 128 = put-below t1 (128 * k + 48) (termBytes c) 0 128 (omega (arith, i .low)) in
-      let o : orderAt t1 k ≡ at (bookOf t) k = order ∙ sym there in
-      let b : bookOf u ≡ after (bookOf t) v = book-terms t1 k c long (i .low) inside widths ∙ rw (book, o) in
+      let b : bookOf u ≡ after (bookOf t) v = book-terms t1 k c long (i .low) inside widths ∙ rw (book, order, there) in
       let n : nextOf u ≡ nextOf t = next-same (same-in 28 32 (same-then s heading) (lit≤ tt) (lit≤ tt)) in
       let h : Held (isListed t1) (nextOf t + 1) (bookOf u) k =
       rw (b, named-listed t k clOrdId (market-formed t m) (i .low) high g) (replaced-held (isListed t) (nextOf t) (bookOf t) k l q p held a) in

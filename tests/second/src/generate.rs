@@ -10,7 +10,7 @@ use crate::damage::{damaged, damaged_report};
 use crate::market::{Market, Participant, LAST_SUBMIT_NUMBER};
 use crate::order::{Order, Side};
 use crate::random::Random;
-use crate::report::split_reports;
+use crate::report::{split_reports, yield_text};
 use crate::transcript::{Command, Desk, LONGEST_LINE};
 
 /// The command lines for a seed, with `count` messages submitted.
@@ -105,6 +105,18 @@ const PROFILES: &[Profile] = &[
         ioc: 10,
         with_mpid: 50,
         first_number: (1, 1_000_000),
+    },
+    Profile {
+        name: "turns within a level",
+        yields: DEEP,
+        quantities: ROUND,
+        messages: 100,
+        damage: 15,
+        new_orders: 50,
+        sells: 75,
+        ioc: 25,
+        with_mpid: 40,
+        first_number: (1, 1_000),
     },
     Profile {
         name: "numbers that run out",
@@ -377,7 +389,7 @@ impl Generator {
     fn good_message(&mut self) -> Draft {
         if self.market().orders().is_empty() || self.random.percent(self.profile.new_orders) {
             self.new_order()
-        } else if self.random.percent(55) {
+        } else if self.random.percent(62) {
             self.replace()
         } else {
             self.cancel()
@@ -519,18 +531,31 @@ impl Generator {
         (id, orig)
     }
 
+    /// An order for a G: often one that shares its level with another.
+    fn order_to_replace(&mut self) -> Order {
+        let orders = self.market().orders();
+        let open: Vec<&Order> = orders.iter().filter(|order| order.open() > 0).collect();
+        let level = |order: &Order| (order.side, order.yield_thousandths);
+        let shares = |order: &Order| open.iter().filter(|other| level(other) == level(order)).count() > 1;
+        let crowded: Vec<Order> = open.iter().filter(|order| shares(order)).map(|&order| order.clone()).collect();
+        if !crowded.is_empty() && self.random.percent(60) {
+            self.random.pick(&crowded)
+        } else {
+            self.some_order()
+        }
+    }
+
     fn replace(&mut self) -> Draft {
-        let order = self.some_order();
+        let order = self.order_to_replace();
         let (id, orig) = self.ids_of_change(&order);
         let side = [self.side_of(&order).code()];
         let mut draft = self.header("G");
         Self::add(&mut draft, "11", &id);
         Self::add(&mut draft, "21", b"1");
-        let quantity = self.new_quantity(&order);
+        let (quantity, at) = self.new_terms(&order);
         Self::add(&mut draft, "38", quantity.as_bytes());
         Self::add(&mut draft, "40", b"2");
         Self::add(&mut draft, "41", &orig);
-        let at = self.yield_for(if order.side == Side::Buy { "1" } else { "2" });
         Self::add(&mut draft, "44", at.as_bytes());
         Self::add(&mut draft, "54", &side);
         let code = self.code();
@@ -538,6 +563,23 @@ impl Generator {
         let time = self.time();
         Self::add(&mut draft, "60", time.as_bytes());
         draft
+    }
+
+    /// New OrderQty and yield: often the same yield with a quantity that keeps the place, sometimes with one just above
+    /// the one in force, else any.
+    fn new_terms(&mut self, order: &Order) -> (String, String) {
+        let same_yield = yield_text(order.yield_thousandths);
+        match self.random.below(100) {
+            0..=44 => {
+                let least = (order.executed + order.decremented + 1).min(order.order_qty);
+                (self.random.between(least, order.order_qty).to_string(), same_yield)
+            }
+            45..=57 => ((order.order_qty + 1).min(999_999_999).to_string(), same_yield),
+            _ => {
+                let at = self.yield_for(if order.side == Side::Buy { "1" } else { "2" });
+                (self.new_quantity(order), at)
+            }
+        }
     }
 
     /// A new OrderQty: one of the profile's, the old one, or just at what has executed and was decremented.

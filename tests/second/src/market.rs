@@ -321,13 +321,14 @@ impl Market {
         }
     }
 
-    /// Gives an order its new terms and a new place: it is in work.
+    /// Gives an order its new terms, and a new place unless these keep it: it is in work.
     fn replace(&mut self, message: &Message, position: usize, orig: &[u8], new: Replacement) -> Vec<u8> {
-        let place = self.next_number;
         let order = &mut self.orders[position];
+        if !new.keeps_place(order) {
+            order.place = self.next_number;
+        }
         order.yield_thousandths = new.yield_thousandths;
         order.order_qty = new.order_qty;
-        order.place = place;
         self.put_in_work(position, message.sending_time);
         self.write_replaced(message.sending_time, position, orig, None)
     }
@@ -455,6 +456,11 @@ impl Replacement {
     /// Whether the new OrderQty, a total, leaves something of `order` open.
     fn leaves_open(self, order: &Order) -> bool {
         self.order_qty > order.executed + order.decremented
+    }
+
+    /// Whether `order` keeps its place under these terms: the same yield, and an OrderQty not above the one in force.
+    fn keeps_place(self, order: &Order) -> bool {
+        self.yield_thousandths == order.yield_thousandths && self.order_qty <= order.order_qty
     }
 }
 

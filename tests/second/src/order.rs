@@ -60,7 +60,7 @@ impl TimeInForce {
 }
 
 /// One order, alive or dead. `sum` is the sum of quantity times yield in thousandths over its executions.
-/// `place` is the number of its Accepted or last requested Replaced report.
+/// `place` is the number of its Accepted report, or of the last requested Replaced that did not keep the place.
 #[derive(Clone, Debug, PartialEq, Eq)]
 pub struct Order {
     pub cl_ord_id: Vec<u8>,

@@ -96,6 +96,15 @@ fn assert_no_self_trade(reports: &[Report]) {
     }
 }
 
+/// An order that was replaced as requested has kept its place if the yield stayed and 38 did not rise; else its place
+/// is the report's number.
+fn assert_place_follows(before: &Market, after: &Market, report: &Report) {
+    let record = number(report, 37) as usize - 1;
+    let (old, new) = (&before.orders()[record], &after.orders()[record]);
+    let keeps = old.yield_thousandths == new.yield_thousandths && number(report, 38) <= old.order_qty;
+    assert_eq!(new.place, if keeps { old.place } else { number(report, 34) });
+}
+
 fn open_orders(market: &Market, side: Side) -> Vec<&Order> {
     market.orders().iter().filter(|order| order.side == side && order.open() > 0).collect()
 }
@@ -211,6 +220,10 @@ impl History {
         }
         if submitted.number == 0 && self.market().in_work().is_some() {
             self.steps_left = met(self.market()) + 1;
+            let report = read(&submitted.report).expect("what is written can be read");
+            if report.kind == Kind::Replaced {
+                assert_place_follows(before.expect("a market is open"), self.market(), &report);
+            }
         }
     }
 
@@ -310,6 +323,29 @@ fn a_generated_history_meets_every_outcome() {
     let taken = answers["s 0"];
     let all: u64 = (0..=8).filter_map(|number| answers.get(&format!("s {number}"))).sum();
     assert!((35..=65).contains(&(taken * 100 / all)), "about half of the messages are good: {taken} of {all}");
+}
+
+/// Whether an open order of the same side and yield stands behind this one.
+fn has_one_behind(market: &Market, order: &Order) -> bool {
+    let same_side = open_orders(market, order.side);
+    same_side.iter().any(|other| other.yield_thousandths == order.yield_thousandths && other.place > order.place)
+}
+
+#[test]
+fn generated_histories_reduce_and_raise_orders_that_others_stand_behind() {
+    let (mut kept, mut lost) = (0, 0);
+    let mut desk = Desk::new();
+    for command in HISTORIES.iter().flat_map(|&(seed, count)| commands(seed, count)) {
+        let before = desk.market().cloned();
+        let answer = desk.answer(&command);
+        let (Some(before), Some(after), true) = (before, desk.market(), answer.contains("|150=5|")) else { continue };
+        for (old, new) in before.orders().iter().zip(after.orders()) {
+            if old.cl_ord_id != new.cl_ord_id && has_one_behind(&before, old) {
+                *(if old.place == new.place { &mut kept } else { &mut lost }) += 1;
+            }
+        }
+    }
+    assert!(kept >= 50 && lost >= 50, "{kept} kept, {lost} lost");
 }
 
 #[test]

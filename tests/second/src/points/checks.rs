@@ -136,7 +136,7 @@ pub fn quantity_of_rejected_is_written_as_a_number(script: &mut Script) {
 }
 
 pub fn replace_keeps_everything_else(script: &mut Script) {
-    script.say("Order checks: G changes ClOrdID, yield, OrderQty and place; account, MPID, 47, 59, 8060 stay");
+    script.say("Order checks: G changes ClOrdID, yield and OrderQty; account, MPID, 47, 59, 8060 stay");
     script.open(1);
     script.rests(&order_of("12", "a", "2", "100", "0.5").adding("1", "acct").with("47", "P").with("8060", "4"));
     script.taken(
@@ -158,18 +158,6 @@ pub fn an_ioc_has_nothing_open_afterwards(script: &mut Script) {
     script.run(1, &[&["37=1", "39=4", "378=99"]]);
     script.cancel_reject(&cancel("a", "b", "1"), 0, &["37=1", "39=4"]);
     script.cancel_reject(&replace("a", "b", "1", "20", "0.5"), 0, &["37=1", "39=4"]);
-}
-
-pub fn a_replace_that_changes_nothing_takes_a_new_place(script: &mut Script) {
-    script.say("Order checks: a G that changes nothing but the id is taken, gets a new place and is in work");
-    script.open(1);
-    script.rests(&order("a", "2", "10", "0.5"));
-    script.rests(&order("b", "2", "10", "0.5"));
-    script.taken(&replace("a", "a1", "2", "10", "0.5"), &["150=5", "34=3"]);
-    script.depth_refused(2, 0, 3);
-    script.run(1, &[]);
-    script.taken(&order("c", "1", "10", "0.5"), &[]);
-    script.run(2, &[&["37=2", "851=1"], &["37=3", "851=2"]]);
 }
 
 pub fn replace_quantity_against_executed_and_decremented(script: &mut Script) {

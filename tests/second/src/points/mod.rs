@@ -25,6 +25,8 @@ pub mod running;
 
 pub mod session;
 
+pub mod turns;
+
 /// Lists the points in their order and makes a test of each.
 macro_rules! points {
     ($($module:ident { $($name:ident)* })*) => {
@@ -111,7 +113,6 @@ points! {
         quantity_of_rejected_is_written_as_a_number
         replace_keeps_everything_else
         an_ioc_has_nothing_open_afterwards
-        a_replace_that_changes_nothing_takes_a_new_place
         replace_quantity_against_executed_and_decremented
         rejected_and_cancel_reject_have_their_tags_alone
     }
@@ -130,6 +131,18 @@ points! {
         cancel_oldest_goes_on_to_the_next
         the_mode_is_that_of_the_mpid
         best_is_by_yield_then_by_place
+    }
+    turns {
+        a_reduced_order_trades_before_the_one_that_came_after_it
+        a_raised_order_trades_behind_the_one_that_came_after_it
+        a_replacement_that_changes_nothing_keeps_its_place
+        a_reduction_at_another_yield_takes_a_new_place
+        a_reduction_raised_back_takes_a_new_place
+        quantity_is_compared_with_the_one_in_force_not_with_what_is_open
+        quantity_in_force_is_not_lowered_by_a_decrement
+        yields_are_compared_as_numbers
+        a_rejected_replacement_leaves_the_place
+        places_kept_and_taken_among_many
     }
     opening {
         levels_past_the_last
