@@ -5,10 +5,10 @@ use Prim.Native.Nat.{ℕ}
 use Rattle.octets.specs.Characters.{bytes}
 use Rattle.decimal.specs.declared.Said.{Said}
 use Rattle.decimal.specs.declared.Said.the-variants.{Value, Wrong}
-use Rattle.decimal.specs.Reading.{isDigit, digitOf, runOf, numberAfter, isNumber, numOf, digitAt, isFraction, fractionOf, sizeOf, levelOf, isTimeLength, twoAt, timeShaped, timeRanged}
+use Rattle.decimal.specs.Reading.{isDigit, digitOf, runOf, numberAfter, isNumber, numOf, digitAt, isFraction, fractionOf, sizeOf, levelOf, isTimeLength, twoAt, timeShaped, timeRanged, isTime}
 
 opened : ℕ
-unfolding isDigit digitOf runOf numberAfter isNumber numOf digitAt isFraction fractionOf sizeOf levelOf isTimeLength twoAt timeShaped timeRanged
+unfolding isDigit digitOf runOf numberAfter isNumber numOf digitAt isFraction fractionOf sizeOf levelOf isTimeLength twoAt timeShaped timeRanged isTime
 opened = 0
 
 -- -0.005 (case 9) is five thousandths below the level of zero
@@ -42,3 +42,50 @@ nine-digits = refl
 pub ten-digits : numOf 9 (bytes "0000000001") ≡ Wrong
 unfolding opened
 ten-digits = refl
+
+-- ---- times: 20260105-09:00:00 and what stands behind it
+abbrev nineOClock : List ℕ → List ℕ
+nineOClock behind = 50 ∷ 48 ∷ 50 ∷ 54 ∷ 48 ∷ 49 ∷ 48 ∷ 53 ∷ 45 ∷ 48 ∷ 57 ∷ 58 ∷ 48 ∷ 48 ∷ 58 ∷ 48 ∷ 48 ∷ behind
+
+-- to the second, and with the first and the last millisecond
+pub to-the-second : isTime (nineOClock ([])) ≡ true
+unfolding opened
+to-the-second = refl
+
+pub first-millisecond : isTime (nineOClock (46 ∷ 48 ∷ 48 ∷ 48 ∷ [])) ≡ true
+unfolding opened
+first-millisecond = refl
+
+pub last-millisecond : isTime (nineOClock (46 ∷ 57 ∷ 57 ∷ 57 ∷ [])) ≡ true
+unfolding opened
+last-millisecond = refl
+
+-- a point that is not followed by exactly three digits is no time: 52 is garbled, and 60 has not the shape (373=6)
+pub bare-point-time : timeShaped (nineOClock (46 ∷ [])) ≡ false
+unfolding opened
+bare-point-time = refl
+
+pub one-digit-time : timeShaped (nineOClock (46 ∷ 49 ∷ [])) ≡ false
+unfolding opened
+one-digit-time = refl
+
+pub two-digits-time : timeShaped (nineOClock (46 ∷ 49 ∷ 50 ∷ [])) ≡ false
+unfolding opened
+two-digits-time = refl
+
+pub four-digits-time : timeShaped (nineOClock (46 ∷ 49 ∷ 50 ∷ 51 ∷ 52 ∷ [])) ≡ false
+unfolding opened
+four-digits-time = refl
+
+pub letter-time : timeShaped (nineOClock (46 ∷ 49 ∷ 50 ∷ 97 ∷ [])) ≡ false
+unfolding opened
+letter-time = refl
+
+-- nor are three digits behind another mark, or behind none
+pub comma-time : timeShaped (nineOClock (44 ∷ 49 ∷ 50 ∷ 51 ∷ [])) ≡ false
+unfolding opened
+comma-time = refl
+
+pub no-mark-time : timeShaped (nineOClock (48 ∷ 49 ∷ 50 ∷ 51 ∷ [])) ≡ false
+unfolding opened
+no-mark-time = refl
