@@ -44,48 +44,45 @@ unfolding opened
 ten-digits = refl
 
 -- ---- times: 20260105-09:00:00 and what stands behind it
-abbrev nineOClock : List ℕ → List ℕ
-nineOClock behind = 50 ∷ 48 ∷ 50 ∷ 54 ∷ 48 ∷ 49 ∷ 48 ∷ 53 ∷ 45 ∷ 48 ∷ 57 ∷ 58 ∷ 48 ∷ 48 ∷ 58 ∷ 48 ∷ 48 ∷ behind
-
 -- to the second, and with the first and the last millisecond
-pub to-the-second : isTime (nineOClock ([])) ≡ true
+pub to-the-second : isTime (bytes "20260105-09:00:00") ≡ true
 unfolding opened
 to-the-second = refl
 
-pub first-millisecond : isTime (nineOClock (46 ∷ 48 ∷ 48 ∷ 48 ∷ [])) ≡ true
+pub first-millisecond : isTime (bytes "20260105-09:00:00.000") ≡ true
 unfolding opened
 first-millisecond = refl
 
-pub last-millisecond : isTime (nineOClock (46 ∷ 57 ∷ 57 ∷ 57 ∷ [])) ≡ true
+pub last-millisecond : isTime (bytes "20260105-09:00:00.999") ≡ true
 unfolding opened
 last-millisecond = refl
 
 -- a point that is not followed by exactly three digits is no time: 52 is garbled, and 60 has not the shape (373=6)
-pub bare-point-time : timeShaped (nineOClock (46 ∷ [])) ≡ false
+pub bare-point-time : timeShaped (bytes "20260105-09:00:00.") ≡ false
 unfolding opened
 bare-point-time = refl
 
-pub one-digit-time : timeShaped (nineOClock (46 ∷ 49 ∷ [])) ≡ false
+pub one-digit-time : timeShaped (bytes "20260105-09:00:00.1") ≡ false
 unfolding opened
 one-digit-time = refl
 
-pub two-digits-time : timeShaped (nineOClock (46 ∷ 49 ∷ 50 ∷ [])) ≡ false
+pub two-digits-time : timeShaped (bytes "20260105-09:00:00.12") ≡ false
 unfolding opened
 two-digits-time = refl
 
-pub four-digits-time : timeShaped (nineOClock (46 ∷ 49 ∷ 50 ∷ 51 ∷ 52 ∷ [])) ≡ false
+pub four-digits-time : timeShaped (bytes "20260105-09:00:00.1234") ≡ false
 unfolding opened
 four-digits-time = refl
 
-pub letter-time : timeShaped (nineOClock (46 ∷ 49 ∷ 50 ∷ 97 ∷ [])) ≡ false
+pub letter-time : timeShaped (bytes "20260105-09:00:00.12a") ≡ false
 unfolding opened
 letter-time = refl
 
 -- nor are three digits behind another mark, or behind none
-pub comma-time : timeShaped (nineOClock (44 ∷ 49 ∷ 50 ∷ 51 ∷ [])) ≡ false
+pub comma-time : timeShaped (bytes "20260105-09:00:00,123") ≡ false
 unfolding opened
 comma-time = refl
 
-pub no-mark-time : timeShaped (nineOClock (48 ∷ 49 ∷ 50 ∷ 51 ∷ [])) ≡ false
+pub no-mark-time : timeShaped (bytes "20260105-09:00:000123") ≡ false
 unfolding opened
 no-mark-time = refl
