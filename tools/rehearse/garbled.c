@@ -167,7 +167,13 @@ static bool untrue_sum(struct walk *walk)
     return true;
 }
 
-/* YYYYMMDD-HH:MM:SS; the parts of a time, where each begins and the numbers that it takes. */
+/* Behind the seconds stands nothing, or a point and three digits. */
+static bool good_end(const uint8_t *time, size_t length)
+{
+    return length == 17 || (length == 21 && time[17] == '.' && all_digits(time + 18, 3));
+}
+
+/* YYYYMMDD-HH:MM:SS or YYYYMMDD-HH:MM:SS.sss; the parts of a time, where each begins and the numbers that it takes. */
 static bool bad_time(struct walk *walk)
 {
     static const struct {
@@ -176,13 +182,13 @@ static bool bad_time(struct walk *walk)
     } parts[] = {{4, 1, 12}, {6, 1, 31}, {9, 0, 23}, {12, 0, 59}, {15, 0, 59}};
     const struct field *field = &walk->fields[SENDING_TIME];
     const uint8_t *time = walk->bytes + field->value;
-    bool good = value_length(field) == 17 && all_digits(time, 8) && time[8] == '-' && time[11] == ':' && time[14] == ':';
+    bool good = good_end(time, value_length(field)) && all_digits(time, 8) && time[8] == '-' && time[11] == ':' && time[14] == ':';
     for (size_t i = 0; good && i < sizeof parts / sizeof *parts; i++) {
         const uint8_t *digits = time + parts[i].start;
         good = all_digits(digits, 2) && number(digits, 2) >= parts[i].least && number(digits, 2) <= parts[i].most;
     }
     if (!good)
-        printf("tag 52 is not a time, YYYYMMDD-HH:MM:SS");
+        printf("tag 52 is not a time, YYYYMMDD-HH:MM:SS with or without .sss");
     return !good;
 }
 

@@ -6,6 +6,7 @@
 pub mod Scans
 pub mod Numbers
 pub mod Yields
+pub mod Times
 pub mod Rehearsed
 pub mod Digits
 pub mod Means

@@ -5,10 +5,10 @@ use Prim.Native.Nat.{ℕ}
 use Rattle.octets.specs.Characters.{bytes}
 use Rattle.decimal.specs.declared.Said.{Said}
 use Rattle.decimal.specs.declared.Said.the-variants.{Value, Wrong}
-use Rattle.decimal.specs.Reading.{isDigit, digitOf, runOf, numberAfter, isNumber, numOf, digitAt, isFraction, fractionOf, sizeOf, levelOf, isTimeLength, twoAt, timeShaped, timeRanged}
+use Rattle.decimal.specs.Reading.{isDigit, digitOf, runOf, numberAfter, isNumber, numOf, digitAt, isFraction, fractionOf, sizeOf, levelOf, isTimeLength, twoAt, timeShaped, timeRanged, isTime}
 
 opened : ℕ
-unfolding isDigit digitOf runOf numberAfter isNumber numOf digitAt isFraction fractionOf sizeOf levelOf isTimeLength twoAt timeShaped timeRanged
+unfolding isDigit digitOf runOf numberAfter isNumber numOf digitAt isFraction fractionOf sizeOf levelOf isTimeLength twoAt timeShaped timeRanged isTime
 opened = 0
 
 -- -0.005 (case 9) is five thousandths below the level of zero
@@ -42,3 +42,47 @@ nine-digits = refl
 pub ten-digits : numOf 9 (bytes "0000000001") ≡ Wrong
 unfolding opened
 ten-digits = refl
+
+-- ---- times: 20260105-09:00:00 and what stands behind it
+-- to the second, and with the first and the last millisecond
+pub to-the-second : isTime (bytes "20260105-09:00:00") ≡ true
+unfolding opened
+to-the-second = refl
+
+pub first-millisecond : isTime (bytes "20260105-09:00:00.000") ≡ true
+unfolding opened
+first-millisecond = refl
+
+pub last-millisecond : isTime (bytes "20260105-09:00:00.999") ≡ true
+unfolding opened
+last-millisecond = refl
+
+-- a point that is not followed by exactly three digits is no time: 52 is garbled, and 60 has not the shape (373=6)
+pub bare-point-time : timeShaped (bytes "20260105-09:00:00.") ≡ false
+unfolding opened
+bare-point-time = refl
+
+pub one-digit-time : timeShaped (bytes "20260105-09:00:00.1") ≡ false
+unfolding opened
+one-digit-time = refl
+
+pub two-digits-time : timeShaped (bytes "20260105-09:00:00.12") ≡ false
+unfolding opened
+two-digits-time = refl
+
+pub four-digits-time : timeShaped (bytes "20260105-09:00:00.1234") ≡ false
+unfolding opened
+four-digits-time = refl
+
+pub letter-time : timeShaped (bytes "20260105-09:00:00.12a") ≡ false
+unfolding opened
+letter-time = refl
+
+-- nor are three digits behind another mark, or behind none
+pub comma-time : timeShaped (bytes "20260105-09:00:00,123") ≡ false
+unfolding opened
+comma-time = refl
+
+pub no-mark-time : timeShaped (bytes "20260105-09:00:000123") ≡ false
+unfolding opened
+no-mark-time = refl

@@ -3,7 +3,7 @@
 -- that it is never below zero. Assumes nothing.
 use Prim.Native.Nat.{ℕ, zero, suc, _+_, _-_, _*_}
 use mathlib.Core.List.{List, [], _∷_}
-use mathlib.Core.Bool.{Bool, true, false, cond, not, _&&_}
+use mathlib.Core.Bool.{Bool, true, false, cond, not, _&&_, _||_}
 use lib.ListN.{length, getD, take, drop}
 use lib.Dec.{ltb, leb, eqb}
 use Rattle.octets.specs.Characters.{byte}
@@ -89,15 +89,19 @@ levelOf s =
     (mapSaid (λ t. even - t) (sizeOf (drop 1 s)))
     (mapSaid (λ t. even + t) (sizeOf s))
 
--- ---- times: YYYYMMDD-HH:MM:SS
+-- ---- times: YYYYMMDD-HH:MM:SS, or YYYYMMDD-HH:MM:SS.sss
 
--- the lengths that a time may have
+-- the lengths that a time may have: without milliseconds, and with a point and three digits of them
 unfoldable pub isTimeLength : ℕ → Bool
-isTimeLength n = eqb n 17
+isTimeLength n = eqb n 17 || eqb n 21
 
 -- the number that the two digits at place i say: below 100 exactly where both are digits
 unfoldable pub twoAt : List ℕ → ℕ → ℕ
 twoAt s i = digitOf (getD s i 0) * 10 + digitOf (getD s (i + 1) 0)
+
+-- behind the seconds stands nothing, or a point and three digits
+abbrev pub millisShaped : List ℕ → Bool
+millisShaped s = eqb (length s) 17 || (eqb (getD s 17 0) (byte ".") && ltb (twoAt s 18) 100 && isDigit (getD s 20 0))
 
 -- digits and marks stand where those of a time do
 unfoldable pub timeShaped : List ℕ → Bool
@@ -105,8 +109,9 @@ timeShaped s =
     isTimeLength (length s)
     && ltb (twoAt s 0) 100 && ltb (twoAt s 2) 100 && ltb (twoAt s 4) 100 && ltb (twoAt s 6) 100 && eqb (getD s 8 0) (byte "-")
     && ltb (twoAt s 9) 100 && eqb (getD s 11 0) (byte ":") && ltb (twoAt s 12) 100 && eqb (getD s 14 0) (byte ":") && ltb (twoAt s 15) 100
+    && millisShaped s
 
--- month 01 to 12, day 01 to 31, hour to 23, minute and second to 59
+-- month 01 to 12, day 01 to 31, hour to 23, minute and second to 59; milliseconds are in range whatever they are
 unfoldable pub timeRanged : List ℕ → Bool
 timeRanged s =
     leb 1 (twoAt s 4) && leb (twoAt s 4) 12 && leb 1 (twoAt s 6) && leb (twoAt s 6) 31

@@ -4,7 +4,7 @@ use crate::Said;
 ghost use mathlib.Core.Path.{_≡_};
 ghost use Prim.Native.Nat.{ℕ, _+_, _-_, _*_, _^_, _≤_, _<_};
 ghost use lib.ListN.{length, take, drop, getD};
-ghost use Rattle.decimal.specs.Reading.{isDigit, digitOf, digitRun, number, numOf, digitAt, fractionOf, sizeOf, levelOf, isTimeLength, twoAt, timeShaped, timeRanged, isTime};
+ghost use Rattle.decimal.specs.Reading.{isDigit, digitOf, digitRun, number, numOf, digitAt, fractionOf, sizeOf, levelOf, isTimeLength, twoAt, millisShaped, timeShaped, timeRanged, isTime};
 
 // Whether a byte is a digit.
 pub fn is_digit(b: u8) -> bool
@@ -152,7 +152,14 @@ fn two_at(s: &[u8], i: usize) -> u64
 pub fn is_time_length(n: usize) -> bool
     ensures { λ r. ⌜ r ≡ isTimeLength n ⌝ }
 {
-    n == 17
+    (n == 17) | (n == 21)
+}
+
+// Whether nothing stands behind the seconds of a time, or a point and three digits.
+fn millis_shaped(s: &[u8]) -> bool
+    ensures { λ r. ⌜ r ≡ millisShaped (now (s .entry)) ⌝ }
+{
+    (s.len() == 17) | ((byte_at(s, 17) == b'.') & (two_at(s, 18) < 100) & is_digit(byte_at(s, 20)))
 }
 
 // Whether the digits and marks of a time stand where they do in one.
@@ -170,6 +177,7 @@ pub fn time_shaped(s: &[u8]) -> bool
         & (two_at(s, 12) < 100)
         & (byte_at(s, 14) == b':')
         & (two_at(s, 15) < 100)
+        & millis_shaped(s)
 }
 
 // Whether month, day, hour, minute and second are in their ranges.

@@ -15,9 +15,10 @@ use Rattle.octets.proofs.Bools.{split, both-l, both-r}
 use Rattle.octets.proofs.Parts.{length-part, getD-part}
 use Rattle.decimal.specs.declared.Said.{Said}
 use Rattle.decimal.specs.declared.Said.the-variants.{Value, Wrong}
-use Rattle.decimal.specs.Reading.{numOf, isTimeLength, timeShaped, timeRanged, isTime}
+use Rattle.decimal.specs.Reading.{numOf, isTime}
 use Rattle.decimal.proofs.Scans.{run-below}
 use Rattle.decimal.proofs.Numbers.{num-below}
+use Rattle.decimal.proofs.Times.{time-long, time-short}
 use Rattle.fix.specs.declared.fields.Found.{Found}
 use Rattle.fix.specs.declared.fields.Found.the-variants.{At, Nothing}
 use Rattle.fix.specs.declared.frame.Part.{Part}
@@ -61,7 +62,7 @@ spelt-by s p least most low high h a b all =
 -- a time
 pub record Timed (s : List ℕ) (p : Part) : Type 0 where
   pub right : isTime (textOf s p) ≡ true
-  pub spelt : Spelt s p 17 17 32 126
+  pub spelt : Spelt s p 17 21 32 126
 
 -- ---- a value that was found stands behind its tag, and has nothing but characters
 pub text-low : (b : ℕ) → isText b ≡ true → (32 ≤ b) × (b ≤ 126)
@@ -135,14 +136,6 @@ pub value-spelt : (s : List ℕ) (t : ℕ) → 0 < t → (least most : ℕ) → 
 unfolding valueOf partOf
 value-spelt s t z least most a b = spelt-found s t (findTag t (fieldsOf s)) z refl least most a b
 
--- ---- a time has 17 characters
-pub time-length : (v : List ℕ) → isTime v ≡ true → length v ≡ 17
-unfolding isTime timeShaped isTimeLength
-time-length v h =
-    eqb-true (length v) 17
-    (both-l _ _ (both-l _ _ (both-l _ _ (both-l _ _ (both-l _ _ (both-l _ _ (both-l _ _ (both-l _ _ (both-l _ _ (both-l _ _
-    (both-l (timeShaped v) (timeRanged v) h)))))))))))
-
 -- ---- the header of a message that is not garbled
 pub clear-header : (s : List ℕ) → garbledMessage s ≡ false → headerRight s ≡ true
 unfolding garbledMessage
@@ -175,10 +168,9 @@ clear-head s h =
     let r3 = both-l (begins && some && short && numbered) sent (both-l (begins && some && short && numbered && sent) timed r2) in
     let n = both-r (begins && some && short) numbered r3 in
     let r4 = both-l (begins && some && short) numbered r3 in
-    let l = time-length (valueOf s 52) t in
     record {
       kind = value-spelt s 35 (omega arith) 1 2 (leb-true 1 _ (both-r begins some (both-l (begins && some) short r4))) (leb-true _ 2 (both-r (begins && some) short r4));
-      time = record { right = rw (value-part s 52) t; spelt = value-spelt s 52 (omega arith) 17 17 (omega arith) (omega arith) };
+      time = record { right = rw (value-part s 52) t; spelt = value-spelt s 52 (omega arith) 17 21 (time-long (valueOf s 52) t) (time-short (valueOf s 52) t) };
       number-low = ltb-true 0 _ n;
       number-high = said-below (numOf 9 (valueOf s 34)) 1000000000 (omega arith) (λ m e. num-below 9 (valueOf s 34) m e);
     }

@@ -6,17 +6,17 @@ use mathlib.Core.List.{List, [], _∷_, _++_}
 use native.Mathlib.Omega.{arith}
 use native.Mathlib.Nat.{pow-le-pow-right, div-le-self}
 use lib.Dec.{ltb, leb, eqb, lit<}
-use mathlib.Core.Logic.{_⊎_, inl, inr, ⊎-elim}
 use lib.ListN.{length, take, drop, getD, length-append}
-use borrow.Author.Tests.{eqb-true, ltb-true, ltb-false, eqb-false, leb-true}
+use borrow.Author.Tests.{eqb-true, ltb-false, eqb-false, leb-true}
 use Rattle.octets.specs.Octets.{partAt, sameBytes}
 use Rattle.octets.proofs.Bools.{split, both-l, both-r}
 use Rattle.decimal.specs.declared.Said.{Said}
 use Rattle.decimal.specs.declared.Said.the-variants.{Value as Says, Wrong as Says-not}
-use Rattle.decimal.specs.Reading.{isDigit, digitOf, digitRun, runOf, number, isNumber, numOf, isTime, twoAt, timeShaped, timeRanged, isTimeLength}
+use Rattle.decimal.specs.Reading.{digitRun, runOf, number, isNumber, numOf, isTime}
 use Rattle.decimal.specs.Writing.{decimal, places, plain, fixed, zeroOf}
 use Rattle.decimal.specs.Canonical.{bareOf, within, fixedOf}
-use Rattle.decimal.proofs.Numbers.{digit-low, digit-high, digit-is, digit-not, let-through}
+use Rattle.decimal.proofs.Numbers.{digit-low, let-through}
+use Rattle.decimal.proofs.Times.{time-short, time-low}
 use Rattle.decimal.proofs.Afters.{digits-head, digits-tail, digits-decimal, digits-places}
 use Rattle.decimal.proofs.Digits.{decimal-few}
 use Rattle.decimal.proofs.RoundTrip.{bare-only, bare-small, fixed-only, fixed-range, fixed-length}
@@ -94,7 +94,7 @@ widthOf (shape.Exact w x y z) = 4
 widthOf shape.Record = 9
 widthOf (shape.Text most low) = most
 widthOf shape.Digits = 9
-widthOf shape.Time = 17
+widthOf shape.Time = 21
 widthOf shape.Yield = 11
 widthOf shape.Average = 14
 
@@ -283,81 +283,16 @@ taken-average v from x q =
     })
 
 -- times
-eleven : (a b c d e f g h i j k : Bool) → (a && b && c && d && e && f && g && h && i && j && k) ≡ true → (a ≡ true) × (b ≡ true) × (c ≡ true) × (d ≡ true) × (e ≡ true) × (f ≡ true) × (g ≡ true) × (h ≡ true) × (i ≡ true) × (j ≡ true) × (k ≡ true)
-eleven a b c d e f g h i j k e10 =
-    let e9 = both-l (a && b && c && d && e && f && g && h && i && j) k e10 in
-    let e8 = both-l (a && b && c && d && e && f && g && h && i) j e9 in
-    let e7 = both-l (a && b && c && d && e && f && g && h) i e8 in
-    let e6 = both-l (a && b && c && d && e && f && g) h e7 in
-    let e5 = both-l (a && b && c && d && e && f) g e6 in
-    let e4 = both-l (a && b && c && d && e) f e5 in
-    let e3 = both-l (a && b && c && d) e e4 in
-    let e2 = both-l (a && b && c) d e3 in
-    let e1 = both-l (a && b) c e2 in
-    let e0 = both-l a b e1 in
-    (e0, both-r a b e1, both-r (a && b) c e2, both-r (a && b && c) d e3, both-r (a && b && c && d) e e4, both-r (a && b && c && d && e) f e5, both-r (a && b && c && d && e && f) g e6, both-r (a && b && c && d && e && f && g) h e7, both-r (a && b && c && d && e && f && g && h) i e8, both-r (a && b && c && d && e && f && g && h && i) j e9, both-r (a && b && c && d && e && f && g && h && i && j) k e10)
+clean-by : (s : List ℕ) → ((i : ℕ) → i < length s → 32 ≤ getD s i 0) → NoSoh s
+clean-by [] h = tt
+clean-by (b ∷ s) h = ((λ q. omega (arith, h 0 (omega arith))), clean-by s (λ i l. h (suc i) (omega arith)))
 
--- a digit, or 100
-digit-cases : (b : ℕ) → (digitOf b < 10) ⊎ (digitOf b ≡ 100)
-digit-cases b = split (isDigit b) (λ e. inl (omega (arith, digit-is b e, digit-high b e))) (λ e. inr (digit-not b e))
-
--- two digits
-digit-of : (b : ℕ) → digitOf b < 10 → b ≡ 1 → ⊥
-unfolding digitOf isDigit
-digit-of b h e = let z : digitOf 1 < 10 = rw e at h in omega (arith, z)
-
-two-first : (s : List ℕ) (i : ℕ) → ltb (twoAt s i) 100 ≡ true → getD s i 0 ≡ 1 → ⊥
-unfolding twoAt
-two-first s i t = digit-of (getD s i 0) (omega (arith, ltb-true (digitOf (getD s i 0) * 10 + digitOf (getD s (i + 1) 0)) 100 t))
-
-two-second : (s : List ℕ) (i : ℕ) → ltb (twoAt s i) 100 ≡ true → getD s (i + 1) 0 ≡ 1 → ⊥
-unfolding twoAt
-two-second s i t = digit-of (getD s (i + 1) 0) (small (digitOf (getD s i 0)) (digitOf (getD s (i + 1) 0)) (ltb-true (digitOf (getD s i 0) * 10 + digitOf (getD s (i + 1) 0)) 100 t) (digit-cases (getD s (i + 1) 0)))
-  where
-    small : (a b : ℕ) → a * 10 + b < 100 → (b < 10) ⊎ (b ≡ 100) → b < 10
-    small a b h c = ⊎-elim (λ (l : b < 10). l) (λ (q : b ≡ 100). absurd (omega (arith, h, q))) c
-
--- the bytes of a time
-time-tests : (s : List ℕ) → timeShaped s ≡ true → (isTimeLength (length s) ≡ true) × (ltb (twoAt s 0) 100 ≡ true) × (ltb (twoAt s 2) 100 ≡ true) × (ltb (twoAt s 4) 100 ≡ true) × (ltb (twoAt s 6) 100 ≡ true)
-    × (eqb (getD s 8 0) 45 ≡ true) × (ltb (twoAt s 9) 100 ≡ true) × (eqb (getD s 11 0) 58 ≡ true) × (ltb (twoAt s 12) 100 ≡ true) × (eqb (getD s 14 0) 58 ≡ true) × (ltb (twoAt s 15) 100 ≡ true)
-unfolding timeShaped
-time-tests s e = eleven (isTimeLength (length s)) (ltb (twoAt s 0) 100) (ltb (twoAt s 2) 100) (ltb (twoAt s 4) 100) (ltb (twoAt s 6) 100) (eqb (getD s 8 0) 45) (ltb (twoAt s 9) 100) (eqb (getD s 11 0) 58) (ltb (twoAt s 12) 100) (eqb (getD s 14 0) 58) (ltb (twoAt s 15) 100) e
-
-clean-seventeen : (x0 x1 x2 x3 x4 x5 x6 x7 x8 x9 x10 x11 x12 x13 x14 x15 x16 : ℕ) → timeShaped (x0 ∷ x1 ∷ x2 ∷ x3 ∷ x4 ∷ x5 ∷ x6 ∷ x7 ∷ x8 ∷ x9 ∷ x10 ∷ x11 ∷ x12 ∷ x13 ∷ x14 ∷ x15 ∷ x16 ∷ []) ≡ true → NoSoh (x0 ∷ x1 ∷ x2 ∷ x3 ∷ x4 ∷ x5 ∷ x6 ∷ x7 ∷ x8 ∷ x9 ∷ x10 ∷ x11 ∷ x12 ∷ x13 ∷ x14 ∷ x15 ∷ x16 ∷ [])
-clean-seventeen x0 x1 x2 x3 x4 x5 x6 x7 x8 x9 x10 x11 x12 x13 x14 x15 x16 e =
-    let s : List ℕ = x0 ∷ x1 ∷ x2 ∷ x3 ∷ x4 ∷ x5 ∷ x6 ∷ x7 ∷ x8 ∷ x9 ∷ x10 ∷ x11 ∷ x12 ∷ x13 ∷ x14 ∷ x15 ∷ x16 ∷ [] in
-    let t = time-tests s e in
-    ((two-first s 0 (t .1)), ((two-second s 0 (t .1)), ((two-first s 2 (t .2)), ((two-second s 2 (t .2)), ((two-first s 4 (t .3)), ((two-second s 4 (t .3)), ((two-first s 6 (t .4)), ((two-second s 6 (t .4)), ((λ (q : x8 ≡ 1). omega (arith, q, eqb-true x8 45 (t .5))), ((two-first s 9 (t .6)), ((two-second s 9 (t .6)), ((λ (q : x11 ≡ 1). omega (arith, q, eqb-true x11 58 (t .7))), ((two-first s 12 (t .8)), ((two-second s 12 (t .8)), ((λ (q : x14 ≡ 1). omega (arith, q, eqb-true x14 58 (t .9))), ((two-first s 15 (t .10)), ((two-second s 15 (t .10)), tt)))))))))))))))))
-
-seventeen : (s : List ℕ) → length s ≡ 17 → timeShaped s ≡ true → NoSoh s
-seventeen (x0 ∷ x1 ∷ x2 ∷ x3 ∷ x4 ∷ x5 ∷ x6 ∷ x7 ∷ x8 ∷ x9 ∷ x10 ∷ x11 ∷ x12 ∷ x13 ∷ x14 ∷ x15 ∷ x16 ∷ []) l e = clean-seventeen x0 x1 x2 x3 x4 x5 x6 x7 x8 x9 x10 x11 x12 x13 x14 x15 x16 e
-seventeen ([]) l e = absurd (omega (arith, l))
-seventeen (x0 ∷ []) l e = absurd (omega (arith, l))
-seventeen (x0 ∷ x1 ∷ []) l e = absurd (omega (arith, l))
-seventeen (x0 ∷ x1 ∷ x2 ∷ []) l e = absurd (omega (arith, l))
-seventeen (x0 ∷ x1 ∷ x2 ∷ x3 ∷ []) l e = absurd (omega (arith, l))
-seventeen (x0 ∷ x1 ∷ x2 ∷ x3 ∷ x4 ∷ []) l e = absurd (omega (arith, l))
-seventeen (x0 ∷ x1 ∷ x2 ∷ x3 ∷ x4 ∷ x5 ∷ []) l e = absurd (omega (arith, l))
-seventeen (x0 ∷ x1 ∷ x2 ∷ x3 ∷ x4 ∷ x5 ∷ x6 ∷ []) l e = absurd (omega (arith, l))
-seventeen (x0 ∷ x1 ∷ x2 ∷ x3 ∷ x4 ∷ x5 ∷ x6 ∷ x7 ∷ []) l e = absurd (omega (arith, l))
-seventeen (x0 ∷ x1 ∷ x2 ∷ x3 ∷ x4 ∷ x5 ∷ x6 ∷ x7 ∷ x8 ∷ []) l e = absurd (omega (arith, l))
-seventeen (x0 ∷ x1 ∷ x2 ∷ x3 ∷ x4 ∷ x5 ∷ x6 ∷ x7 ∷ x8 ∷ x9 ∷ []) l e = absurd (omega (arith, l))
-seventeen (x0 ∷ x1 ∷ x2 ∷ x3 ∷ x4 ∷ x5 ∷ x6 ∷ x7 ∷ x8 ∷ x9 ∷ x10 ∷ []) l e = absurd (omega (arith, l))
-seventeen (x0 ∷ x1 ∷ x2 ∷ x3 ∷ x4 ∷ x5 ∷ x6 ∷ x7 ∷ x8 ∷ x9 ∷ x10 ∷ x11 ∷ []) l e = absurd (omega (arith, l))
-seventeen (x0 ∷ x1 ∷ x2 ∷ x3 ∷ x4 ∷ x5 ∷ x6 ∷ x7 ∷ x8 ∷ x9 ∷ x10 ∷ x11 ∷ x12 ∷ []) l e = absurd (omega (arith, l))
-seventeen (x0 ∷ x1 ∷ x2 ∷ x3 ∷ x4 ∷ x5 ∷ x6 ∷ x7 ∷ x8 ∷ x9 ∷ x10 ∷ x11 ∷ x12 ∷ x13 ∷ []) l e = absurd (omega (arith, l))
-seventeen (x0 ∷ x1 ∷ x2 ∷ x3 ∷ x4 ∷ x5 ∷ x6 ∷ x7 ∷ x8 ∷ x9 ∷ x10 ∷ x11 ∷ x12 ∷ x13 ∷ x14 ∷ []) l e = absurd (omega (arith, l))
-seventeen (x0 ∷ x1 ∷ x2 ∷ x3 ∷ x4 ∷ x5 ∷ x6 ∷ x7 ∷ x8 ∷ x9 ∷ x10 ∷ x11 ∷ x12 ∷ x13 ∷ x14 ∷ x15 ∷ []) l e = absurd (omega (arith, l))
-seventeen (x0 ∷ x1 ∷ x2 ∷ x3 ∷ x4 ∷ x5 ∷ x6 ∷ x7 ∷ x8 ∷ x9 ∷ x10 ∷ x11 ∷ x12 ∷ x13 ∷ x14 ∷ x15 ∷ x16 ∷ y ∷ ys) l e = absurd (omega (arith, l))
-
-taken-time : (v : List ℕ) (from : ℕ) (x : Value) → timeIn from v ≡ Is x → Taken v 17 from x
-unfolding timeIn isTime isTimeLength
+taken-time : (v : List ℕ) (from : ℕ) (x : Value) → timeIn from v ≡ Is x → Taken v 21 from x
+unfolding timeIn
 taken-time v from x q =
     let p = cond-is (isTime v) (Sent from (length v)) x q in
-    let t = both-l (timeShaped v) (timeRanged v) (p .0) in
-    let l = eqb-true (length v) 17 (time-tests v t .0) in
-    subst (λ (y : Value). Taken v 17 from y) (p .1)
-    (record { clean = seventeen v l t; few = omega (arith, l); here = refl; bytes = λ s stored z. z })
+    subst (λ (y : Value). Taken v 21 from y) (p .1)
+    (record { clean = clean-by v (time-low v (p .0)); few = time-short v (p .0); here = refl; bytes = λ s stored z. z })
 
 -- ---- whatever the shape
 pub taken : (f : Shape) (from : ℕ) (v : List ℕ) (x : Value) → Proper f → valueIn f from v ≡ Is x → Taken v (widthOf f) from x

@@ -15,6 +15,7 @@ use Rattle.octets.proofs.Ranges.{all-at}
 use Rattle.octets.proofs.Places.{length-bytesOf}
 use Rattle.octets.proofs.Parts.{length-textBytes}
 use Rattle.decimal.specs.Reading.{isTime}
+use Rattle.decimal.proofs.Times.{time-short}
 use Rattle.matching.specs.declared.Order.{Order}
 use Rattle.matching.specs.declared.Event.{Event}
 use Rattle.matching.specs.declared.Event.the-variants.{Accepted, Replaced, Withdrawn}
@@ -38,7 +39,7 @@ use Rattle.table.proofs.Frames.{Framed, framed-long, framed-filled, fra
 use Rattle.table.proofs.Applied.{Played, all-played, fits-move, heading-applied, framed-applied, book-applied, framed-terms, book-terms, book-next, book-work, sound-amounts}
 use Rattle.table.proofs.Naming.{named-formed, named-heading, named-book, named-order, named-filled, named-listed}
 use Rattle.table.proofs.Entering.{entered-formed, entered-heading, entered-filled, entered-book, entered-listed}
-use Rattle.table.proofs.Working.{has-work-kept, has-work-put, has-work-end, time-short}
+use Rattle.table.proofs.Working.{has-work-kept, has-work-put, has-work-end}
 
 -- ---- the next number
 

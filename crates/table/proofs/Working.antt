@@ -13,7 +13,8 @@ use Rattle.octets.proofs.Bools.{split, both-i, both-l, both-r}
 use Rattle.octets.proofs.Places.{length-put, put-put}
 use Rattle.octets.proofs.Parts.{part-in}
 use Rattle.octets.proofs.Zeros.{zero-replicate}
-use Rattle.decimal.specs.Reading.{isTime, isTimeLength, timeShaped}
+use Rattle.decimal.specs.Reading.{isTime}
+use Rattle.decimal.proofs.Times.{time-short}
 use Rattle.table.specs.Places.{tableBytes}
 use Rattle.table.specs.Heading.{workOf, stampOf, putWork, endWork}
 use Rattle.table.specs.Orders.{filled}
@@ -22,12 +23,7 @@ use Rattle.table.proofs.Same.{Same, same-in, part-same, text-same, padd
 use Rattle.table.proofs.Stores.{work-got, stamp-got}
 use Rattle.table.proofs.Texts.{padded-put}
 
--- a time fits its room
-pub time-short : (s : List ℕ) → isTime s ≡ true → length s ≤ 21
-unfolding isTime timeShaped isTimeLength
-time-short s h = let e : length s ≡ 17 = eqb-true _ _ (search both-l depth 14) in omega arith
-
--- so the length byte of a stored time is small
+-- the length byte of a stored time is small, since a time has at most 21 bytes
 stamp-byte : (t : List ℕ) → length t ≡ tableBytes → isTime (stampOf t) ≡ true → getD t 33 0 ≤ 21
 unfolding textAt partAt
 stamp-byte t long h =

@@ -10,12 +10,12 @@ use lib.ListN.{length, getD}
 use borrow.Author.Tests.{eqb-true}
 use Rattle.octets.specs.Octets.{textAt}
 use Rattle.octets.proofs.Bools.{split}
+use Rattle.decimal.proofs.Times.{time-short}
 use Rattle.matching.specs.declared.Event.{Event}
 use Rattle.matching.specs.declared.Event.the-variants.{Accepted, Replaced, Withdrawn, Canceled, Decremented, Traded, Expired}
 use Rattle.table.specs.Heading.{workOf}
 use Rattle.table.specs.Orders.{orderAt}
 use Rattle.table.specs.Market.{isPrintable}
-use Rattle.table.proofs.Working.{time-short}
 use Rattle.report.specs.declared.Place.{Place}
 use Rattle.report.specs.declared.Value.the-variants.{Absent, Number}
 use Rattle.report.specs.Fields.{rowBytes}

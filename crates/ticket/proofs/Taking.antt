@@ -14,6 +14,7 @@ use Rattle.octets.proofs.Bools.{split}
 use Rattle.octets.proofs.Places.{length-bytesOf, length-put}
 use Rattle.octets.proofs.Parts.{length-textBytes}
 use Rattle.decimal.specs.Reading.{isTime}
+use Rattle.decimal.proofs.Times.{time-short}
 use Rattle.matching.specs.declared.Order.{Order}
 use Rattle.matching.specs.declared.Event.{Event}
 use Rattle.matching.specs.declared.Event.the-variants.{Accepted, Replaced, Withdrawn}
@@ -31,7 +32,6 @@ use Rattle.table.proofs.Books.{length-book, at-book}
 use Rattle.table.proofs.Frames.{Framed, framed-long, framed-filled, framed-listed, framed-heading, framed-then, framed-formed, market-formed}
 use Rattle.table.proofs.Applied.{book-next, book-work, framed-amounts}
 use Rattle.table.proofs.Naming.{named-formed, named-filled}
-use Rattle.table.proofs.Working.{time-short}
 use Rattle.table.proofs.Kept.{taken-kept, renewed-kept, entered-kept}
 use Rattle.report.specs.declared.Place.{Place}
 use Rattle.rows.specs.Rows.{text, statusOf}

@@ -396,11 +396,17 @@ impl Generator {
         }
     }
 
-    /// The time of the next message, a little later than the last, with the date turning over.
+    /// The time of the next message, a little later than the last, with the date turning over; about as often with
+    /// milliseconds as without.
     fn time(&mut self) -> String {
         self.seconds += self.random.between(0, 700);
         let (seconds, minutes, hours) = (self.seconds % 60, self.seconds / 60 % 60, self.seconds / 3600 % 24);
-        format!("202611{:02}-{hours:02}:{minutes:02}:{seconds:02}", 1 + self.seconds / 86_400 % 30)
+        let time = format!("202611{:02}-{hours:02}:{minutes:02}:{seconds:02}", 1 + self.seconds / 86_400 % 30);
+        if self.random.percent(50) {
+            time
+        } else {
+            format!("{time}.{:03}", self.random.below(1000))
+        }
     }
 
     fn header(&mut self, msg_type: &str) -> Draft {

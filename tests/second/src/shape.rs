@@ -48,17 +48,19 @@ fn decimals(digits: &[u8]) -> Option<u64> {
     })
 }
 
-/// The digits and marks of a time, YYYYMMDD-HH:MM:SS, whatever the digits say.
+/// The digits and marks of a time, YYYYMMDD-HH:MM:SS or YYYYMMDD-HH:MM:SS.sss, whatever the digits say.
 pub fn has_time_shape(text: &[u8]) -> bool {
-    text.len() == 17
+    (text.len() == 17 || text.len() == 21)
         && text.iter().enumerate().all(|(place, &byte)| match place {
             8 => byte == b'-',
             11 | 14 => byte == b':',
+            17 => byte == b'.',
             _ => byte.is_ascii_digit(),
         })
 }
 
-/// Whether the digits of a text with the shape of a time are in their ranges. Any year is; any month has 31 days.
+/// Whether the digits of a text with the shape of a time are in their ranges. Any year is; any month has 31 days; any
+/// three digits are milliseconds.
 pub fn has_time_ranges(text: &[u8]) -> bool {
     let two = |at: usize| u32::from(text[at] - b'0') * 10 + u32::from(text[at + 1] - b'0');
     (1..=12).contains(&two(4)) && (1..=31).contains(&two(6)) && two(9) <= 23 && two(12) <= 59 && two(15) <= 59

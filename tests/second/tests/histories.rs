@@ -325,6 +325,23 @@ fn a_generated_history_meets_every_outcome() {
     assert!((35..=65).contains(&(taken * 100 / all)), "about half of the messages are good: {taken} of {all}");
 }
 
+#[test]
+fn generated_messages_have_both_lengths_of_time_in_52_and_60() {
+    let mut desk = Desk::new();
+    let mut lengths = BTreeSet::new();
+    for command in commands(1, 300) {
+        let is_taken = desk.answer(&command).starts_with("s 0 ");
+        if let Command::Submit { message, .. } = &command {
+            let length = |tag: &[u8]| {
+                let mut fields = message.split(|&byte| byte == 1);
+                fields.find_map(|field| field.strip_prefix(tag)).map_or(0, <[u8]>::len)
+            };
+            lengths.extend(is_taken.then(|| (length(b"52="), length(b"60="))));
+        }
+    }
+    assert_eq!(lengths, BTreeSet::from([(17, 17), (17, 21), (21, 17), (21, 21)]));
+}
+
 /// Whether an open order of the same side and yield stands behind this one.
 fn has_one_behind(market: &Market, order: &Order) -> bool {
     let same_side = open_orders(market, order.side);

@@ -11,6 +11,8 @@ pub mod cases;
 
 pub mod checks;
 
+pub mod clock;
+
 pub mod messages;
 
 pub mod opening;
@@ -100,6 +102,16 @@ points! {
         smallest_missing_tag
         values_are_compared_in_their_case
         sequence_numbers_and_times_are_not_compared
+    }
+    clock {
+        sending_time_has_17_or_21_characters
+        transact_time_has_17_or_21_characters
+        milliseconds_are_a_point_and_three_digits
+        ranges_of_a_time_with_milliseconds
+        reports_have_the_length_of_the_sending_time
+        every_kind_of_report_says_the_milliseconds
+        stored_time_keeps_its_milliseconds
+        whole_bytes_with_milliseconds
     }
     checks {
         mpids_are_compared_as_numbers
@@ -192,6 +204,7 @@ points! {
         read_yields_and_averages
         read_restatement_reasons_stand_alone
         read_texts_and_times
+        read_takes_both_lengths_of_time
         read_one_report_and_nothing_after_it
         read_seven_kinds
         read_body_length_is_canonical_and_true

@@ -306,8 +306,32 @@ pub fn read_texts_and_times(script: &mut Script) {
             script,
             &accepted(),
             tag,
-            &["20261301-09:00:00", "20261116-24:00:00", "20261116-09:00:60", "20261116-09:00:00.000", ""],
+            &["20261301-09:00:00", "20261116-24:00:00", "20261116-09:00:60", "20261116-09:00:000", ""],
         );
+    }
+}
+
+pub fn read_takes_both_lengths_of_time(script: &mut Script) {
+    let (short, long) = (TIME, "20261116-09:00:00.123");
+    script.say("Read: 52 and 60 with milliseconds or without, the two not compared, on every kind");
+    for (report, kind) in one_of_each() {
+        script.read_as(&report.clone().with("52", long), kind);
+        if report.position("60").is_some() {
+            script.read_as(&report.clone().with("60", long), kind);
+            script.read_as(&report.clone().with("52", long).with("60", long), kind);
+            script.read_as(&report.clone().with("52", "20261116-09:00:00.000").with("60", short), kind);
+        }
+    }
+    script.say("Read: other lengths, a point without three digits, another mark, and ranges as ever");
+    for tag in ["52", "60"] {
+        all_read(script, &accepted(), ACCEPTED, tag, &["00000101-00:00:00.000", "99991231-23:59:59.999"]);
+        let bad: &[&str] = &[
+            "20261116-09:00:0", "20261116-09:00:00.", "20261116-09:00:00.1", "20261116-09:00:00.12",
+            "20261116-09:00:00.1234", "20261116-09:00:00,123", "20261116-09:00:000123", "20261116-09:00:00.12x",
+            "20261116-09:00:00.-12", "20261116-09:00:0.0123", "20261301-09:00:00.123", "20261116-09:00:60.000",
+            "20261116-24:00:00.123",
+        ];
+        none_read(script, &accepted(), tag, bad);
     }
 }
 
@@ -339,6 +363,8 @@ pub fn read_one_report_and_nothing_after_it(script: &mut Script) {
         .with("44", "-999999.999")
         .with("55", "123456789")
         .with("37", "255")
+        .with("52", "20261116-09:00:00.123")
+        .with("60", "20261116-09:00:00.123")
         .inserting("150", "109", "999999");
     script.read_as(&draft, REPLACED);
     script.say("Read: the longest Trade");
@@ -358,6 +384,8 @@ pub fn read_one_report_and_nothing_after_it(script: &mut Script) {
         .with("44", "-999999.999")
         .with("55", "123456789")
         .with("37", "255")
+        .with("52", "20261116-09:00:00.123")
+        .with("60", "20261116-09:00:00.123")
         .with("109", "999999")
         .with("375", "999999")
         .with("880", "999999999");

@@ -1,4 +1,4 @@
--- The one length of a time.
+-- The two lengths of a time.
 use Rattle.decimal.specs.Reading.{isTimeLength}
 use mathlib.Core.Path.{refl}
 use Rattle.decimal.proofs.read.is_time_length.Statement.{statement}

@@ -37,6 +37,9 @@ byte-at-requires-3 c κs = search needs
 two-at-requires-7 : tie.Need-two-at-requires-7
 two-at-requires-7 c κs = search needs
 
+millis-shaped-requires : tie.Need-millis-shaped-requires
+millis-shaped-requires c κs = search needs
+
 returns : tie.Need-returns
 unfolding timeShaped
 returns c = cc
@@ -56,4 +59,5 @@ time-shaped-spec =
     two-at-requires-6
     byte-at-requires-3
     two-at-requires-7
+    millis-shaped-requires
     returns)
