@@ -76,7 +76,7 @@ static const struct {
     {"55", "Symbol", "the bond code, 1 to 9 digits"},
     {"56", "TargetCompID", "the venue"},
     {"59", "TimeInForce", "0, day, or 3, IOC"},
-    {"60", "TransactTime", "YYYYMMDD-HH:MM:SS"},
+    {"60", "TransactTime", "YYYYMMDD-HH:MM:SS with or without .sss"},
     {"109", "ClientID", "an MPID, 1 to 6 digits, not 0"},
     {"8060", "OrderClassification", "1, 3, 4, 5 or 6"},
 };
