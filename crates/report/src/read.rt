@@ -107,7 +107,7 @@ fn no_row() -> Row
 }
 
 // A report whose body has the slots.
-fn read_framed(s: &[u8], slots: [Slot; 36]) -> Row
+pub fn read_framed(s: &[u8], slots: [Slot; 36]) -> Row
     ensures { λ r. ⌜ r ≡ rowOf (readFramed (now (s .entry)) slots) ⌝ }
 {
     let frame = body_at(s);
@@ -168,7 +168,7 @@ fn execution_for(b: u8) -> Kind
 }
 
 // The kind that a report can be, by 35 and 150.
-fn kind_of(s: &[u8]) -> Kind
+pub fn kind_of(s: &[u8]) -> Kind
     ensures { λ r. ⌜ r ≡ kindOf (now (s .entry)) ⌝ }
 {
     let a = first_of(s, 35);
@@ -216,7 +216,7 @@ fn agrees(kind: Kind, fields: [Field; 36]) -> bool
 }
 
 // What a row comes to.
-fn reading(kind: Kind, row: Row) -> Reading
+pub fn reading(kind: Kind, row: Row) -> Reading
     ensures { λ r. ⌜ r ≡ readingFrom kind row ⌝ }
 {
     let fields = row.fields;
