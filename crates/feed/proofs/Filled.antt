@@ -34,7 +34,7 @@ use Rattle.report.proofs.Only.{AllProper, Valued, value-found, next-row}
 use Rattle.report.proofs.Back.{moved, Fit, Fits, fits-none, fits-some, fits-skip, fit-bytes}
 use Rattle.report.proofs.Firsts.{pass, hit, report-first}
 use Rattle.feed.specs.Kept.{atTag}
-use Rattle.feed.proofs.Shaped.{again, is-never}
+use Rattle.feed.proofs.Shaped.{again, is-never, is-same}
 
 -- fields slot by slot: one is the slot's, or may be missing and is
 pub data Filled (sent stored : List ℕ) : List Slot → List Field → Type 0 where
@@ -88,6 +88,71 @@ module _ (s stored : List ℕ) where
       subst (λ (l : List Field). Filled s stored (slot ∷ slots) l) (sym (c .all))
       (one-more slot (c .value) slots (c .rest) (field-told at slot (c .value) (c .next) (p .0) (c .found))
       (read-fills (c .next) slots (c .rest) n (field-within s (c .value) (c .next) at slot h (c .found)) (p .1) (c .left)))
+
+-- ---- what is read has its texts in the report
+abbrev isStored : Value → Bool
+isStored Absent = false
+isStored (Number n) = false
+isStored (Char c) = false
+isStored (Word w x y z) = false
+isStored (Sent from len) = false
+isStored (Stored from len) = true
+isStored (Level level) = false
+isStored (Mean mean) = false
+
+moved-sent : (s stored : List ℕ) (place : ℕ) (v : Value) → isStored (moved s stored place v) ≡ false
+moved-sent s stored place Absent = refl
+moved-sent s stored place (Number n) = refl
+moved-sent s stored place (Char c) = refl
+moved-sent s stored place (Word w x y z) = refl
+moved-sent s stored place (Sent from len) = refl
+moved-sent s stored place (Stored from len) = refl
+moved-sent s stored place (Level level) = refl
+moved-sent s stored place (Mean mean) = refl
+
+same-bytes : (s stored other : List ℕ) (v : Value) → isStored v ≡ false → valueBytes s stored v ≡ valueBytes s other v
+same-bytes s stored other Absent e = refl
+same-bytes s stored other (Number n) e = refl
+same-bytes s stored other (Char c) e = refl
+same-bytes s stored other (Word w x y z) e = refl
+same-bytes s stored other (Sent from len) e = refl
+same-bytes s stored other (Stored from len) e = absurd (false≢true (sym e))
+same-bytes s stored other (Level level) e = refl
+same-bytes s stored other (Mean mean) e = refl
+
+module _ (s : List ℕ) where
+  part-long : (p l : ℕ) → length (take l (drop p s)) ≡ l → length (partAt s p (length (take l (drop p s)))) ≡ length (take l (drop p s))
+  unfolding partAt
+  part-long p l e = ap (λ (k : ℕ). length (take k (drop p s))) e
+
+  there-sent : (p : ℕ) (slot : Slot) (x : Value) (n : ℕ) → Valued s p (slot .shape) x n → isStored x ≡ false
+  there-sent p slot x n v =
+      let l : ℕ = lenTo (drop p s) in
+      let val : List ℕ = take l (drop p s) in
+      let len : length val ≡ l = length-take-le l (drop p s) (omega (arith, v .within, length-drop p s)) in
+      let part : length (partAt s p (length val)) ≡ length val = part-long p l len in
+      ap isStored (is-same x (moved s [] p x) (sym (v .picked) ∙ again s [] p (slot .shape) p val x part (v .picked))) ∙ moved-sent s [] p x
+
+  skip-sent : (at : ℕ) (x : Value) (n : ℕ) (o : Bool) → cond o (Found Absent at) Wrong ≡ Found x n → isStored x ≡ false
+  skip-sent at x n true e = let z : x ≡ Absent = cc in rw z
+  skip-sent at x n false e = let z : _≡_ {A = ℕ} 0 1 = cc in absurd (omega arith)
+
+  field-sent : (at : ℕ) (slot : Slot) (x : Value) (n : ℕ) → fieldAt s at slot ≡ Found x n → isStored x ≡ false
+  unfolding fieldAt
+  field-sent at slot x n e =
+      split (starts (label (slot .tag)) (drop at s))
+      (λ t. there-sent (at + length (label (slot .tag))) slot x n (value-found s (at + length (label (slot .tag))) (slot .shape) x n (rw t at e)))
+      (λ t. skip-sent at x n (slot .optional) (rw t at e))
+
+  -- so its bytes do not depend on what is stored
+  pub read-says : (stored other : List ℕ) (g at : ℕ) (slots : List Slot) (fs : List Field) (n : ℕ) → readRow s at slots ≡ row fs n
+      → atTag (valueBytes s stored) [] g fs ≡ atTag (valueBytes s other) [] g fs
+  read-says stored other g at [] fs n e = let a : fs ≡ [] = cc in rw a
+  read-says stored other g at (slot ∷ slots) fs n e =
+      let c = next-row (slot .tag) (fieldAt s at slot) (λ m. readRow s m slots) fs n e in
+      let one = same-bytes s stored other (c .value) (field-sent at slot (c .value) (c .next) (c .found)) in
+      let more = read-says stored other g (c .next) slots (c .rest) n (c .left) in
+      rw (c .all) (ap (λ (v : List ℕ). cond (eqb (slot .tag) g) v (atTag (valueBytes s stored) [] g (c .rest))) one ∙ ap (cond (eqb (slot .tag) g) (valueBytes s other (c .value))) more)
 
 -- ---- the front of a row
 pub filled-front : (sent stored : List ℕ) (n : ℕ) (slots : List Slot) (fs : List Field) → Filled sent stored slots fs → Filled sent stored (take n slots) (take n fs)

@@ -36,8 +36,8 @@ use Rattle.feed.specs.Rows.{with797, copyValue, copyField, yes797, copyR
 use Rattle.feed.specs.Settings.{copiedBy}
 use Rattle.feed.specs.Copies.{isNone, copyBytes, copyKind, readCopyOf}
 use Rattle.feed.specs.Kept.{atTag, isKept}
-use Rattle.feed.proofs.Filled.{Filled, filled-none, filled-some, filled-skip, filled-front, filled-fits, read-fills, unused-never, firstByte, headIn, kind-in}
-use Rattle.feed.proofs.Copied.{Given, row-fills, row-fits, row-short, woven-kept, last-kept, woven-new, woven-797, report-distinct, last-unused, begins, Copyable, kinds-copyable, agreed-kept}
+use Rattle.feed.proofs.Filled.{Filled, filled-none, filled-some, filled-skip, filled-front, filled-fits, read-fills, read-says, unused-never, firstByte, headIn, kind-in}
+use Rattle.feed.proofs.Copied.{Given, row-fills, row-fits, row-short, woven-kept, last-kept, woven-new, woven-797, report-distinct, last-unused, begins, Tagged, filled-tagged, Copyable, kinds-copyable, agreed-kept}
 
 -- ---- what Read takes
 record Opened (k : Kind) (q : Rows) : Type 0 where
@@ -76,6 +76,16 @@ some-bytes s stored slots fs (filled-some {slot} {f} {fs = gs} p r) e =
       length-written (slot .tag) (valueBytes s stored (f .value)),
     )
 some-bytes s stored slots fs (filled-skip {slot} x o r) e = absurd (false≢true (sym (not-true (slot .optional) e) ∙ o))
+
+-- what the fields say of a tag where they are read back, if each says it
+back-says : (sent stored : List ℕ) {B : Type 0} (f h : Value → B) (none : B) (g at : ℕ) (fs : List Field)
+    → ((i : ℕ) → f (getD (backs sent stored at fs) i (field 0 Absent) .value) ≡ h (getD fs i (field 0 Absent) .value))
+    → atTag f none g (backs sent stored at fs) ≡ atTag h none g fs
+back-says sent stored f h none g at [] p = refl
+back-says sent stored f h none g at (x ∷ fs) p =
+    split (eqb (x .tag) g)
+    (λ t. rw t (p 0))
+    (λ t. rw t (back-says sent stored f h none g (at + length (fieldBytes sent stored x)) fs (λ i. p (suc i))))
 
 module _ (report : List ℕ) (some : isNone (readOf report .kind) ≡ false) where
   abbrev kind : Kind
@@ -166,3 +176,52 @@ module _ (report : List ℕ) (some : isNone (readOf report .kind) ≡ false) whe
           (some-bytes report client (copySlots (slotsOf kind)) copied (row-fills report client number given kind fields (fills client)) (table .first))
           row-few
           (agreed-kept report client number (length client) kind fields (fills client) ∙ agrees)
+
+      -- ---- its fields, tag by tag, as read_copy and Read give them
+      abbrev asRead : List Field
+      asRead = readCopyOf copy .fields
+
+      says : (g : ℕ) → atTag (valueBytes copy []) [] g asRead ≡ atTag (valueBytes report client) [] g copied
+      unfolding copyBytes
+      says g =
+          ap (λ (r : Reading). atTag (valueBytes copy []) [] g (r .fields)) is-read
+          ∙ back-says report client (valueBytes copy []) (valueBytes report client) [] g (start (rowBytes report client copied)) copied (λ i. read-there report client [] copied i)
+
+      -- every field but 34, 17, 109 and 797 has the report's own bytes
+      pub all-else-kept : (g : ℕ) → isKept g ≡ true → atTag (valueBytes copy []) [] g asRead ≡ atTag (valueBytes report []) [] g fields
+      all-else-kept g k =
+          let f = framed-found report (slotsOf kind) fields (opened .next) framed in
+          says g ∙ row-kept (valueBytes report client) [] g k ∙ read-says report client [] g (f .from) (slotsOf kind) fields (opened .next) (f .fields)
+
+      -- and these four are the feed's
+      tagged : Tagged (take 35 (slotsOf kind)) (take 35 fields)
+      tagged = filled-tagged report client (take 35 (slotsOf kind)) (take 35 fields) (filled-front report client 35 (slotsOf kind) fields (fills client))
+
+      pub row-34 : {B : Type 0} (h : Value → B) (none : B) → atTag h none 34 copied ≡ h (Number number)
+      unfolding copyRow copyValue
+      row-34 h none = woven-new h none number (length client) 34 (Number number) (λ old. refl) (take 35 (slotsOf kind)) (take 35 fields) tagged (table .has-34)
+
+      pub row-17 : {B : Type 0} (h : Value → B) (none : B) → atTag h none 17 copied ≡ h (Number number)
+      unfolding copyRow copyValue
+      row-17 h none = woven-new h none number (length client) 17 (Number number) (λ old. refl) (take 35 (slotsOf kind)) (take 35 fields) tagged (table .has-17)
+
+      row-109 : atTag (valueBytes report client) [] 109 copied ≡ valueBytes report client (Stored 0 (length client))
+      unfolding copyRow copyValue
+      row-109 = woven-new (valueBytes report client) [] number (length client) 109 (Stored 0 (length client)) (λ old. refl) (take 35 (slotsOf kind)) (take 35 fields) tagged (table .has-109)
+
+      row-797 : atTag (valueBytes report client) [] 797 copied ≡ 89 ∷ []
+      unfolding copyRow
+      row-797 = woven-797 (valueBytes report client) [] number (length client) (take 35 (slotsOf kind)) (take 35 fields) tagged (table .not-797)
+
+      pub number-34 : atTag (valueBytes copy []) [] 34 asRead ≡ decimal number
+      number-34 = says 34 ∙ row-34 (valueBytes report client) []
+
+      pub number-17 : atTag (valueBytes copy []) [] 17 asRead ≡ decimal number
+      number-17 = says 17 ∙ row-17 (valueBytes report client) []
+
+      pub client-109 : atTag (valueBytes copy []) [] 109 asRead ≡ client
+      unfolding partAt
+      client-109 = says 109 ∙ row-109 ∙ take-length client
+
+      pub yes-797 : atTag (valueBytes copy []) [] 797 asRead ≡ 89 ∷ []
+      yes-797 = says 797 ∙ row-797
