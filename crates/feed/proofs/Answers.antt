@@ -16,13 +16,11 @@ use Rattle.octets.proofs.Bools.{neither-l, neither-r}
 use Rattle.report.specs.declared.Field.{Field}
 use Rattle.report.specs.declared.Slot.{Slot}
 use Rattle.report.specs.declared.Kind.{Kind}
-use Rattle.report.specs.declared.Row.{Row}
 use Rattle.report.specs.declared.Reading.{Reading}
 use Rattle.report.specs.Fields.{rowBytes}
 use Rattle.report.specs.Frame.{reportBytes}
-use Rattle.report.specs.Parse.{Rows, row, bad, rowOf}
 use Rattle.report.specs.Slots.{slotsOf}
-use Rattle.report.specs.Reports.{kindOf, readFramed, readingOf, readingFrom, readOf}
+use Rattle.report.specs.Reports.{kindOf, readFramed, readingOf, readOf}
 use Rattle.feed.specs.declared.CopyAnswer.{CopyAnswer}
 use Rattle.feed.specs.declared.CopyAnswer.the-variants as answer
 use Rattle.feed.specs.Rows.{copyRow, copySlots}
@@ -157,14 +155,10 @@ module _ (report : List ℕ) (subscription shows : ℕ) (port group : List ℕ) 
               )
 
 -- ---- reading a copy
-reading-row : (k : Kind) (q : Rows) → readingFrom k (rowOf q) ≡ readingOf k q
-reading-row k (row fs n) = refl
-reading-row k bad = refl
-
-pub read-copy-is : (s : List ℕ) (j k : Kind) (slots copied : List Slot) (r : Row) (x : Reading) → j ≡ kindOf s → k ≡ copyKind j → slots ≡ slotsOf k → copied ≡ copySlots slots
-    → r ≡ rowOf (readFramed s copied) → x ≡ readingFrom k r → x ≡ readCopyOf s
+pub read-copy-is : (s : List ℕ) (j k : Kind) (slots copied : List Slot) (x : Reading) → j ≡ kindOf s → k ≡ copyKind j → slots ≡ slotsOf k → copied ≡ copySlots slots
+    → x ≡ readingOf k (readFramed s copied) → x ≡ readCopyOf s
 unfolding readCopyOf
-read-copy-is s j k slots copied r x je ke se ce re xe =
-    xe ∙ ap (readingFrom k) re ∙ reading-row k (readFramed s copied)
+read-copy-is s j k slots copied x je ke se ce xe =
+    xe
     ∙ ap (λ (l : List Slot). readingOf k (readFramed s l)) (ce ∙ ap copySlots se)
     ∙ ap (λ (i : Kind). readingOf i (readFramed s (copySlots (slotsOf i)))) (ke ∙ ap copyKind je)

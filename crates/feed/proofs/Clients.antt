@@ -13,40 +13,26 @@ use mir.Val.{Fits}
 use Rattle.octets.specs.Written.{Room, Wrote}
 use Rattle.octets.proofs.Runs.{room-first, room-then, then}
 use Rattle.octets.proofs.Bools.{split, both-l, both-r, both-i, both-not-l, both-not-r, or-r}
-use Rattle.report.specs.declared.Value.{Value}
-use Rattle.report.specs.declared.Value.the-variants.{Sent}
-use Rattle.report.specs.declared.Pick.{Pick}
-use Rattle.report.specs.declared.Pick.the-variants.{Is, No}
-use Rattle.report.specs.Shapes.{allFrom, textIn}
+use Rattle.report.specs.Shapes.{allFrom}
 use Rattle.feed.specs.Settings.{clientOf, isIdentifier, areIdentifiers, isSetting}
 
 -- ---- one identifier
-abbrev isSome : Pick → Bool
-isSome (Is v) = true
-isSome No = false
+and-true : (a : Bool) → (a && true) ≡ a
+and-true true = refl
+and-true false = refl
 
-some-tests : (a b c : Bool) (y : Value) → isSome (cond a No (cond b No (cond c (Is y) No))) ≡ (not a && c && not b)
-some-tests true b c y = refl
-some-tests false true true y = refl
-some-tests false true false y = refl
-some-tests false false true y = refl
-some-tests false false false y = refl
+module _ (v : List ℕ) where
+  pub none-not : length v ≡ 0 → false ≡ (isIdentifier v && leb (length v) 30)
+  unfolding isIdentifier
+  none-not e = rw (eq-eqb (length v) 0 e)
 
-most : (n : ℕ) → leb n 30 ≡ not (ltb 30 n)
-most n = split (ltb 30 n) (λ e. rw e (lt-leb n 30 (ltb-true 30 n e))) (λ e. rw e (le-leb n 30 (ltb-false 30 n e)))
+  module _ (some : length v ≡ 0 → ⊥) where
+    pub long-not : 30 < length v → false ≡ (isIdentifier v && leb (length v) 30)
+    long-not h = rw (lt-leb (length v) 30 h) (sym (and-false (isIdentifier v)))
 
-text-some : (v : List ℕ) → isSome (textIn 30 33 0 v) ≡ (isIdentifier v && leb (length v) 30)
-unfolding textIn isIdentifier
-text-some v =
-    some-tests (eqb (length v) 0) (ltb 30 (length v)) (allFrom 33 v) (Sent 0 (length v))
-    ∙ ap (λ (b : Bool). not (eqb (length v) 0) && allFrom 33 v && b) (sym (most (length v)))
-
-module _ (v : List ℕ) (p : Pick) (e : p ≡ textIn 30 33 0 v) where
-  pub pick-some : (x : Value) → p ≡ Is x → true ≡ (isIdentifier v && leb (length v) 30)
-  pick-some x i = sym (ap isSome i) ∙ ap isSome e ∙ text-some v
-
-  pub pick-none : p ≡ No → false ≡ (isIdentifier v && leb (length v) 30)
-  pick-none i = sym (ap isSome i) ∙ ap isSome e ∙ text-some v
+    pub all-so : length v ≤ 30 → (r : Bool) → r ≡ allFrom 33 v → r ≡ (isIdentifier v && leb (length v) 30)
+    unfolding isIdentifier
+    all-so h r e = rw (ne-eqb (length v) 0 some, le-leb (length v) 30 h) (e ∙ sym (and-true (allFrom 33 v)))
 
 -- ---- those that are shown
 module _ (shows : ℕ) (port group : List ℕ) where

@@ -5,10 +5,12 @@ use mathlib.Core.Bool.{Bool, true, false, cond, _||_, false≢true}
 use mathlib.Core.List.{List, [], _∷_, _++_}
 use native.Mathlib.Omega.{arith}
 use native.Mathlib.Numerals.{add-one}
-use lib.Dec.{ltb}
+use lib.Dec.{eqb, ltb}
 use lib.ListN.{length, take, drop, getD, set, length-set, drop-of-length-le}
-use lib.Seq.{take-suc-set, drop-set-lt, drop-cons, append-snoc, set-split}
-use Rattle.feed.specs.Rows.{with797}
+use lib.Seq.{take-suc-set, drop-set-lt, drop-cons, append-snoc, set-split, set-getD}
+use Rattle.octets.proofs.Bools.{neither-l, neither-r}
+use Rattle.report.specs.declared.Field.{Field}
+use Rattle.feed.specs.Rows.{with797, copyValue, copyField}
 
 module _ {A : Type 0} (tagOf : A → ℕ) (change : A → A) (indicator : A) where
   -- what is still to do of the entries xs: the one that is held stands in front of them, or 797's is put among them
@@ -94,6 +96,10 @@ module _ {A : Type 0} (tagOf : A → ℕ) (change : A → A) (indicator : A) whe
               ∙ w .left;
         })
 
+    -- or left as it is, where that is what the change comes to
+    pub weave-still : change x ≡ x → (behind || ltb 797 (tagOf x)) ≡ false → Weaving all row held (behind || ltb 797 (tagOf x)) (i + 1)
+    weave-still k e = subst (λ (l : List A). Weaving all l held (behind || ltb 797 (tagOf x)) (i + 1)) (set-getD row i d) (weave-before x (sym k) e)
+
   -- after all: what is held is the last
   last-held : (b : Bool) (held : A) → (b ≡ false → held ≡ indicator) → toDo b held [] ≡ held ∷ []
   unfolding with797
@@ -110,3 +116,15 @@ module _ {A : Type 0} (tagOf : A → ℕ) (change : A → A) (indicator : A) whe
       ∙ ap (λ (k : ℕ). take k row ++ held ∷ []) (sym e)
       ∙ ap (λ (l : List A). take i row ++ l) (sym (ap (toDo behind held) none ∙ last-held behind held (w .first)))
       ∙ w .left
+
+-- ---- the fields that a copy leaves as they are
+pub kept-field : (n w : ℕ) (f : Field) (t : Bool) → t ≡ (eqb (f .tag) 34 || eqb (f .tag) 17 || eqb (f .tag) 109) → t ≡ false → copyField n w f ≡ f
+unfolding copyField copyValue
+kept-field n w f t e k =
+    let all = sym e ∙ k in
+    let two = neither-l (eqb (f .tag) 34 || eqb (f .tag) 17) (eqb (f .tag) 109) all in
+    rw (
+      neither-l (eqb (f .tag) 34) (eqb (f .tag) 17) two,
+      neither-r (eqb (f .tag) 34) (eqb (f .tag) 17) two,
+      neither-r (eqb (f .tag) 34 || eqb (f .tag) 17) (eqb (f .tag) 109) all,
+    )

@@ -15,8 +15,7 @@ use report::Field;
 use report::Reading;
 use report::read::kind_of;
 use report::read::read;
-use report::read::read_framed;
-use report::read::reading;
+use report::read::read_as;
 use report::slots::slots_of;
 use report::write::write_report;
 ghost use mathlib.Core.Path.{_≡_};
@@ -108,6 +107,5 @@ pub fn read_copy(s: &[u8]) -> Reading
     ensures { λ r. ⌜ r ≡ readCopyOf (now (s .entry)) ⌝ }
 {
     let kind = copy_kind(kind_of(s));
-    let row = read_framed(s, copy_slots(slots_of(kind)));
-    reading(kind, row)
+    read_as(s, kind, copy_slots(slots_of(kind)))
 }

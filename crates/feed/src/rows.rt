@@ -5,6 +5,8 @@ use report::Shape;
 use report::Slot;
 use report::Value;
 ghost use mathlib.Core.Path.{_≡_};
+ghost use mathlib.Core.Bool.{_||_};
+ghost use lib.Dec.{eqb};
 ghost use Rattle.feed.specs.Rows.{copyValue, copyField, copyRow, copySlot, copySlots};
 
 // The value of a field of a copy.
@@ -24,6 +26,13 @@ fn copy_value(value: Value, tag: u64, number: u64, width: usize) -> Value
         };
     }
     value
+}
+
+// Whether a field of this tag is another in a copy.
+fn is_new(tag: u64) -> bool
+    ensures { λ r. ⌜ r ≡ (eqb tag 34 || eqb tag 17 || eqb tag 109) ⌝ }
+{
+    (tag == 34) | (tag == 17) | (tag == 109)
 }
 
 // A field of a copy.
@@ -50,13 +59,16 @@ pub fn copy_row(fields: [Field; 36], number: u64, width: usize) -> [Field; 36]
     while i < 35 {
         let at = i;
         let field = row[at];
-        behind = behind | (field.tag > 797);
+        let tag = field.tag;
+        behind = behind | (tag > 797);
         i += 1;
         if behind {
             row[at] = held;
             held = field;
         } else {
-            row[at] = copy_field(field, number, width);
+            if is_new(tag) {
+                row[at] = copy_field(field, number, width);
+            }
         }
     }
     row[35] = held;

@@ -2,9 +2,7 @@
 use decimal::write::put_byte;
 use octets::part::copy_into;
 use report::Kind;
-use report::Pick;
-use report::Shape;
-use report::values::pick_value;
+use report::values::all_from;
 ghost use mathlib.Core.Path.{_≡_};
 ghost use mathlib.Core.Bool.{_&&_};
 ghost use Prim.Native.Nat.{_≤_};
@@ -18,11 +16,13 @@ ghost use Rattle.feed.specs.Copies.{isNone, copyKind};
 fn is_identifier(v: &[u8]) -> bool
     ensures { λ r. ⌜ r ≡ (isIdentifier (now (v .entry)) && leb (length (now (v .entry))) 30) ⌝ }
 {
-    let pick = pick_value(v, Shape::Text { most: 30, low: 33 }, 0);
-    match pick {
-        Pick::Is(_) => true,
-        Pick::No => false,
+    if v.len() == 0 {
+        return false;
     }
+    if v.len() > 30 {
+        return false;
+    }
+    all_from(v, 33)
 }
 
 // Whether the identifiers that 109 shows are some, and 109 is not too long.

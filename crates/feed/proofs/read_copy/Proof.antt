@@ -16,11 +16,8 @@ slots-of-requires c κs = search needs
 copy-slots-requires : tie.Need-copy-slots-requires
 copy-slots-requires c κs = search needs
 
-read-framed-requires : tie.Need-read-framed-requires
-read-framed-requires c κs = search needs
-
-reading-requires : tie.Need-reading-requires
-reading-requires c κs = search needs
+read-as-requires : tie.Need-read-as-requires
+read-as-requires c κs = search needs
 
 returns : tie.Need-returns
 returns c = search (needs, read-copy-is)
@@ -33,6 +30,5 @@ read-copy-spec =
     copy-kind-requires
     slots-of-requires
     copy-slots-requires
-    read-framed-requires
-    reading-requires
+    read-as-requires
     returns)

@@ -2,7 +2,7 @@
 use Prim.Native.Nat.{_-_}
 use borrow.Author.Needs.{needs}
 use Rattle.feed.specs.Rows.{copyField, yes797, copyRow}
-use Rattle.feed.proofs.Weaving.{Weaving, weave-first, weave-behind, weave-before, weave-end}
+use Rattle.feed.proofs.Weaving.{Weaving, weave-first, weave-behind, weave-before, weave-still, weave-end, kept-field}
 use Rattle.feed.proofs.rows.copy_row.Statement.{statement}
 use Rattle.feed.proofs.rows.copy_row.Tie as tie
 
@@ -34,7 +34,10 @@ loop-less : tie.Need-loop-less Inv-loop μ-loop
 loop-less c = search needs
 
 loop-again : tie.Need-loop-again Inv-loop μ-loop
-loop-again c = weave-behind _ _ _ _ _ _ _ _ (c .before .before .before .before .loop .inv) (c .before .before .before .loop-test .taken) _ (c .if1 .taken)
+loop-again c = weave-behind _ _ _ _ _ _ _ _ (c .before .before .before .loop .inv) (c .before .before .loop-test .taken) _ (c .if1 .taken)
+
+is-new-requires : tie.Need-is-new-requires Inv-loop μ-loop
+is-new-requires c κs = search needs
 
 copy-field-requires : tie.Need-copy-field-requires Inv-loop μ-loop
 copy-field-requires c κs = search needs
@@ -49,7 +52,13 @@ loop-less-2 : tie.Need-loop-less-2 Inv-loop μ-loop
 loop-less-2 c = search needs
 
 loop-again-2 : tie.Need-loop-again-2 Inv-loop μ-loop
-loop-again-2 c = weave-before _ _ _ _ _ _ _ _ (c .before .before .before .before .before .loop .inv) (c .before .before .before .before .loop-test .taken) _ _ (c .copy-field .ensures) (c .before .if1 .left)
+loop-again-2 c = weave-before _ _ _ _ _ _ _ _ (c .before .before .before .before .before .before .loop .inv) (c .before .before .before .before .before .loop-test .taken) _ _ (c .copy-field .ensures) (c .before .before .before .if1 .left)
+
+loop-less-3 : tie.Need-loop-less-3 Inv-loop μ-loop
+loop-less-3 c = search needs
+
+loop-again-3 : tie.Need-loop-again-3 Inv-loop μ-loop
+loop-again-3 c = weave-still _ _ _ _ _ _ _ _ (c .before .before .before .before .before .loop .inv) (c .before .before .before .before .loop-test .taken) _ (kept-field _ _ _ _ (c .before .is-new .ensures) (c .if2 .left)) (c .before .before .if1 .left)
 
 array-set-from-row-3 : tie.Need-array-set-from-row-3 Inv-loop μ-loop
 array-set-from-row-3 c = search needs
@@ -72,10 +81,13 @@ copy-row-spec =
     array-set-from-row
     loop-less
     loop-again
+    is-new-requires
     copy-field-requires
     mul-row-2
     array-set-from-row-2
     loop-less-2
     loop-again-2
+    loop-less-3
+    loop-again-3
     array-set-from-row-3
     returns)
