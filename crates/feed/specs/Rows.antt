@@ -6,13 +6,14 @@ use mathlib.Core.Bool.{cond}
 use mathlib.Core.List.{List, [], _∷_}
 use lib.Dec.{eqb, ltb}
 use lib.ListN.{take}
+use Rattle.octets.specs.Characters.{byte}
 use Rattle.report.specs.declared.Value.{Value}
 use Rattle.report.specs.declared.Value.the-variants.{Absent, Number, Char, Word, Sent, Stored, Level, Mean}
 use Rattle.report.specs.declared.Field.{Field}
 use Rattle.report.specs.declared.Shape.the-variants as shape
 use Rattle.report.specs.declared.Slot.{Slot}
 use Rattle.report.specs.Fields.{field}
-use Rattle.report.specs.Slots.{always}
+use Rattle.report.specs.Slots.{always, oneOf}
 
 -- ---- 797 among fields or slots: each is changed, up to the first of a higher tag, and 797's stands in front of that one
 unfoldable pub with797 : {A : Type 0} → (A → ℕ) → (A → A) → A → List A → List A
@@ -32,7 +33,7 @@ copyField number width f = field (f .tag) (copyValue number width (f .tag) (f .v
 
 -- 797=Y
 abbrev pub yes797 : Field
-yes797 = field 797 (Char 89)
+yes797 = field 797 (Char (byte "Y"))
 
 -- 36 fields, as a report's row has; no report uses its last one
 unfoldable pub copyRow : ℕ → ℕ → List Field → List Field
@@ -46,11 +47,11 @@ longest = 30
 
 -- 109 is always there: 1 to 30 characters from 21 to 7E hex
 unfoldable pub copySlot : Slot → Slot
-copySlot slot = cond (eqb (slot .tag) 109) (always 109 (shape.Text longest 33)) slot
+copySlot slot = cond (eqb (slot .tag) 109) (always 109 (shape.Text longest 0x21)) slot
 
 -- 797 is always there: Y
 abbrev pub slot797 : Slot
-slot797 = always 797 (shape.OneOf 89 89 89 89 89)
+slot797 = always 797 (oneOf "Y")
 
 unfoldable pub copySlots : List Slot → List Slot
 copySlots slots = with797 (λ s. s .tag) copySlot slot797 (take 35 slots)

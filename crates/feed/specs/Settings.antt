@@ -5,6 +5,7 @@ use mathlib.Core.Bool.{Bool, true, false, cond, not, _&&_, _||_}
 use mathlib.Core.List.{List, _∷_, _++_}
 use lib.Dec.{eqb, leb}
 use lib.ListN.{length}
+use Rattle.octets.specs.Characters.{byte}
 use Rattle.report.specs.declared.Kind.{Kind}
 use Rattle.report.specs.declared.Kind.the-variants.{Accepted, Replaced, Canceled, Trade, Rejected, CancelReject, SessionReject, Refused}
 use Rattle.report.specs.Shapes.{allFrom}
@@ -12,11 +13,11 @@ use Rattle.feed.specs.Rows.{longest}
 
 -- the text of 109: the port's identifier, the group's, or both with a hyphen between
 unfoldable pub clientOf : ℕ → List ℕ → List ℕ → List ℕ
-clientOf shows port group = cond (eqb shows 1) port (cond (eqb shows 2) group (port ++ (45 ∷ group)))
+clientOf shows port group = cond (eqb shows 1) port (cond (eqb shows 2) group (port ++ (byte "-" ∷ group)))
 
 -- an identifier: some characters, each from 21 to 7E hex
 unfoldable pub isIdentifier : List ℕ → Bool
-isIdentifier v = not (eqb (length v) 0) && allFrom 33 v
+isIdentifier v = not (eqb (length v) 0) && allFrom 0x21 v
 
 -- those that 109 shows are identifiers; one that it does not show is not looked at
 unfoldable pub areIdentifiers : ℕ → List ℕ → List ℕ → Bool
