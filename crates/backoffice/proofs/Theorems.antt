@@ -7,6 +7,8 @@ use mathlib.Core.List.{List, [], _∷_, _++_}
 use Prim.Native.Nat.{ℕ, _+_, _≤_}
 use native.Mathlib.Omega.{arith}
 use lib.ListN.{length, length-append}
+use Rattle.octets.specs.Octets.{put}
+use Rattle.report.specs.declared.Reading.{Reading}
 use Rattle.table.specs.Heading.{nextOf}
 use Rattle.table.specs.Market.{isMarket}
 use Rattle.table.specs.Opened.{isOpening, opened}
@@ -18,9 +20,20 @@ use Rattle.promises.specs.History.{Call, Submit, Run, Depth, Read, tableOf, rep
 use Rattle.promises.specs.Tallies.{blank, accountOf}
 use Rattle.promises.proofs.Histories.{call-keeps, history-keeps}
 use Rattle.promises.proofs.Theorems.{all-read, balanced}
+use Rattle.feed.specs.declared.CopyAnswer.{CopyAnswer}
 use Rattle.feed.specs.Settings.{isSetting}
+use Rattle.feed.specs.Copies.{fed, readCopyOf}
 use Rattle.backoffice.specs.Feeds.{copiesFrom, copyAccountOf, copyTraded, NumberedFrom}
 use Rattle.backoffice.proofs.Feeding.{numbered, full-accounts, trades-copied}
+
+-- ---- two results that meet a contract are the same, down to every lent byte
+pub copy-is-one : (report : List ℕ) (subscription shows : ℕ) (port group : List ℕ) (next : ℕ) (area : List ℕ) (r s : CopyAnswer) (u v : List ℕ)
+    → let f = fed report subscription shows port group next (length area) in
+    r ≡ f .answer → s ≡ f .answer → u ≡ put area 0 (f .bytes) → v ≡ put area 0 (f .bytes) → (r ≡ s) × (u ≡ v)
+copy-is-one report subscription shows port group next area r s u v a b c d = (a ∙ sym b, c ∙ sym d)
+
+pub read-copy-is-one : (copy : List ℕ) (r s : Reading) → r ≡ readCopyOf copy → s ≡ readCopyOf copy → r ≡ s
+read-copy-is-one copy r s a b = a ∙ sym b
 
 -- ---- a market has at most 999,999,999 reports to write
 call-next : (t : List ℕ) (c : Call) → isMarket t ≡ true → nextOf (tableOf t c) ≡ nextOf t + length (reportsOf t c)
