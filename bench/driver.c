@@ -142,6 +142,19 @@ static void finding(int calls)
         must(kamurjesh_field(report, size, 8060, &start, &digits) == 1);
 }
 
+/* A full feed that shows both identifiers; its area is the shortest that it takes. */
+static void copying(int calls)
+{
+    static uint8_t copy[KAMURJESH_LEAST_AREA];
+    size_t size;
+    uint64_t after;
+    const uint8_t *report = trade_report(&size);
+    if (calls)
+        must(kamurjesh_copy(report, size, KAMURJESH_FULL, KAMURJESH_SHOWS_BOTH, (const uint8_t *)"PORT-1", 6,
+                            (const uint8_t *)"GROUP-7", 7, 1, copy, sizeof copy, &length, &after) == 0 &&
+             length > size && after == 2);
+}
+
 int main(int count, char **words)
 {
     if (count != 3)
@@ -164,6 +177,8 @@ int main(int count, char **words)
         reading(calls);
     else if (strcmp(name, "field") == 0)
         finding(calls);
+    else if (strcmp(name, "copy") == 0)
+        copying(calls);
     else
         return 2;
     return 0;

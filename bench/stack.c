@@ -64,7 +64,7 @@ static size_t run(void)
 int main(void)
 {
     size_t most = 0;
-    uint64_t found, total, orders, kind, start, digits;
+    uint64_t found, total, orders, kind, start, digits, next;
     int64_t yield;
     paint();
     must(open_market() == 0);
@@ -89,5 +89,10 @@ int main(void)
     paint();
     must(kamurjesh_read(area, size, &kind) == 0 && kind == KAMURJESH_IS_TRADE);
     row("Read", used());
+    paint();
+    must(kamurjesh_copy(area, size, KAMURJESH_FULL, KAMURJESH_SHOWS_BOTH, (const uint8_t *)"PORT-1", 6, (const uint8_t *)"GROUP-7", 7,
+                        1, area + bytes, sizeof area - bytes, &length, &next) == 0 &&
+         length > size);
+    row("Copy", used());
     return 0;
 }

@@ -29,24 +29,25 @@ extern "C" {
 
 enum {
     KAMURJESH_TABLE_BYTES = 32768, /* a table has exactly this length */
-    KAMURJESH_LEAST_AREA = 1024,   /* the shortest report area that Submit and Run take */
-    KAMURJESH_LONGEST_REPORT = 512 /* no report is longer */
+    KAMURJESH_LEAST_AREA = 1024,   /* the shortest area that Submit, Run and a feed take */
+    KAMURJESH_LONGEST_REPORT = 512 /* no report and no copy is longer */
 };
 
-/* Refusals. After 1 to 5 and 9 to 11 every lent byte is what it was. */
+/* Refusals. After 1 to 5, 9 to 11 and 17 every lent byte is what it was. */
 enum kamurjesh_refusal {
     KAMURJESH_TAKEN = 0,          /* not refused */
-    KAMURJESH_NO_ROOM = 1,        /* Submit, Run: the report area is shorter than KAMURJESH_LEAST_AREA */
+    KAMURJESH_NO_ROOM = 1,        /* Submit, Run, a feed: the area is shorter than KAMURJESH_LEAST_AREA */
     KAMURJESH_NO_MARKET = 2,      /* Submit, Run, Depth: the table is no market */
     KAMURJESH_IN_WORK = 3,        /* Submit, Depth: an order is in work; Run first */
-    KAMURJESH_NUMBERS_SPENT = 4,  /* Submit: the next report number is above 999,998,976 */
+    KAMURJESH_NUMBERS_SPENT = 4,  /* Submit: the next report number is above 999,998,976; a feed: its next number is 0 or above 999,999,999 */
     KAMURJESH_GARBLED = 5,        /* Submit: the message is garbled */
     KAMURJESH_SESSION_REJECT = 6, /* Submit: a Session Reject is written, the next number goes up by 1 */
     KAMURJESH_ORDER_REJECT = 7,   /* Submit: a Rejected is written, the next number goes up by 1 */
     KAMURJESH_CHANGE_REJECT = 8,  /* Submit: a Cancel reject is written, the next number goes up by 1 */
     KAMURJESH_BAD_SETTING = 9,    /* Open: the table's length or a setting is wrong */
     KAMURJESH_BAD_SIDE = 10,      /* Depth: the side is neither 1 nor 2 */
-    KAMURJESH_NO_REPORT = 11      /* Read: the bytes are no report */
+    KAMURJESH_NO_REPORT = 11,     /* Read, a feed: the bytes are no report; reading a copy: they are no copy */
+    KAMURJESH_BAD_FEED = 17       /* a feed: an identifier that it shows, or a number that sets it up, is wrong */
 };
 
 /* What happens when orders with the same MPID meet. */
@@ -117,6 +118,37 @@ uint64_t kamurjesh_read(const uint8_t *report, size_t report_length, uint64_t *k
 /* Where the value of a tag stands in a report: returns 1, and its first byte and its length in bytes; or 0 if no field of the
  * report has the tag. Works on any bytes, in which it finds the first such field; kamurjesh_read says if they are a report. */
 uint64_t kamurjesh_field(const uint8_t *report, size_t report_length, uint64_t tag, uint64_t *start, uint64_t *length);
+
+/* What a feed of drop copies is handed, and which identifiers 109 of its copies shows. */
+enum kamurjesh_subscription {
+    KAMURJESH_RECONCILIATION = 1, /* Trade alone */
+    KAMURJESH_FULL = 2            /* Accepted, Replaced, Canceled and Trade */
+};
+
+enum kamurjesh_shows {
+    KAMURJESH_SHOWS_PORT = 1,  /* the order entry port's */
+    KAMURJESH_SHOWS_GROUP = 2, /* the trade group's */
+    KAMURJESH_SHOWS_BOTH = 3   /* both, with a hyphen between */
+};
+
+/* Hands a feed one report. If its subscription has reports of that kind, the copy is written at the start of the area: the report
+ * with the feed's number in 34 and 17, the identifiers in 109, and 797=Y; the area's bytes behind it stay as they were. The feed
+ * keeps nothing: its next number, 1 at first, goes in with each report and comes out in next_after.
+ * port, group: those that are shown have 1 or more characters, 21 to 7E hex, and 109 at most 30; one not shown is not looked at.
+ * next: 1 to 999,999,999. length: of the copy. A report that is not copied gives 0 with length 0 and next_after = next.
+ * Refusals, in this order: 1, 11, 17, 4. */
+uint64_t kamurjesh_copy(const uint8_t *report, size_t report_length,
+                        uint64_t subscription, uint64_t shows,
+                        const uint8_t *port, size_t port_length,
+                        const uint8_t *group, size_t group_length,
+                        uint64_t next,
+                        uint8_t *area, size_t area_length,
+                        uint64_t *length, uint64_t *next_after);
+
+/* Whether the bytes are one copy, whole and nothing behind it, written as a feed writes; its kind as in kamurjesh_kind, 1 to 4,
+ * and 0 if refused. kamurjesh_field says where its values stand. Nothing is changed.
+ * Refusals: 11. */
+uint64_t kamurjesh_copy_read(const uint8_t *copy, size_t copy_length, uint64_t *kind);
 
 #ifdef __cplusplus
 }

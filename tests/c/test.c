@@ -1,5 +1,5 @@
-/* Tests of the C interface: every function with good and bad input, every refusal from 1 to 11, and around every call the bytes that it
- * must leave alone. Prints what failed and, last, how many checks there were; exit status 1 if any failed. */
+/* Tests of the C interface: every function with good and bad input, every refusal from 1 to 11 and 17, and around every call the bytes
+ * that it must leave alone. Prints what failed and, last, how many checks there were; exit status 1 if any failed. */
 #include <inttypes.h>
 #include <stdio.h>
 #include <stdlib.h>
@@ -628,6 +628,341 @@ static void test_read(void)
     EXPECT(field_is(NULL, 0, 8, NULL) && field_is(m.bytes, 1, 8, NULL));
 }
 
+/* ---- feeds of drop copies */
+
+/* An identifier, or some fields. */
+struct text {
+    uint8_t bytes[600];
+    size_t length;
+};
+
+static struct text text(const char *words)
+{
+    struct text t = {{0}, strlen(words)};
+    memcpy(t.bytes, words, t.length);
+    return t;
+}
+
+/* So many different characters, from ! on. */
+static struct text text_of(size_t length)
+{
+    struct text t = {{0}, length};
+    for (size_t i = 0; i < length; i++)
+        t.bytes[i] = (uint8_t)('!' + i);
+    return t;
+}
+
+static void add_bytes(struct text *t, const void *bytes, size_t length)
+{
+    memcpy(t->bytes + t->length, bytes, length);
+    t->length += length;
+}
+
+static void add_field(struct text *t, unsigned long tag, const void *value, size_t length)
+{
+    t->length += (size_t)snprintf((char *)t->bytes + t->length, 32, "%lu=", tag);
+    add_bytes(t, value, length);
+    t->bytes[t->length++] = SOH;
+}
+
+struct feed {
+    uint64_t subscription, shows;
+    struct text port, group;
+    uint64_t next;
+};
+
+static struct feed feed_of(uint64_t subscription, uint64_t shows)
+{
+    struct feed f = {subscription, shows, text("P1"), text("G-7"), 1};
+    return f;
+}
+
+/* The text of 109. */
+static struct text client_of(const struct feed *f)
+{
+    struct text t = {{0}, 0};
+    if (f->shows != KAMURJESH_SHOWS_GROUP)
+        add_bytes(&t, f->port.bytes, f->port.length);
+    if (f->shows == KAMURJESH_SHOWS_BOTH)
+        add_bytes(&t, "-", 1);
+    if (f->shows != KAMURJESH_SHOWS_PORT)
+        add_bytes(&t, f->group.bytes, f->group.length);
+    return t;
+}
+
+/* 8 and 9, the fields, and 10. */
+static struct message enclosed(const struct text *fields)
+{
+    struct message m = {{0}, 0};
+    unsigned sum = 0;
+    m.length = (size_t)snprintf((char *)m.bytes, 32, "8=FIX.4.2%c9=%zu%c", SOH, fields->length, SOH);
+    memcpy(m.bytes + m.length, fields->bytes, fields->length);
+    m.length += fields->length;
+    for (size_t i = 0; i < m.length; i++)
+        sum += m.bytes[i];
+    m.length += (size_t)snprintf((char *)m.bytes + m.length, 8, "10=%03u%c", sum % 256, SOH);
+    return m;
+}
+
+/* What a copy of a report is: 34 and 17 are the feed's number, 109 and 797 stand in front of the first higher tag, and a 109 that was
+ * there is gone; no tag of the header is that high. */
+static struct message copy_of(const struct message *report, const struct feed *f)
+{
+    struct text fields = {{0}, 0}, number = {{0}, 0}, client = client_of(f);
+    unsigned long before = 0;
+    number.length = (size_t)snprintf((char *)number.bytes, sizeof number.bytes, "%" PRIu64, f->next);
+    for (size_t at = 0; at < report->length - 7;) {
+        unsigned long tag = strtoul((const char *)report->bytes + at, NULL, 10);
+        const uint8_t *field = report->bytes + at, *value = (const uint8_t *)strchr((const char *)field, '=') + 1,
+                      *end = (const uint8_t *)strchr((const char *)value, SOH);
+        if (before < 109 && tag >= 109)
+            add_field(&fields, 109, client.bytes, client.length);
+        if (before < 797 && tag > 797)
+            add_field(&fields, 797, "Y", 1);
+        if (tag == 34 || tag == 17)
+            add_field(&fields, tag, number.bytes, number.length);
+        else if (tag != 8 && tag != 9 && tag != 109)
+            add_field(&fields, tag, value, (size_t)(end - value));
+        before = tag;
+        at += (size_t)(end - field) + 1;
+    }
+    return enclosed(&fields);
+}
+
+/* Lent bytes that no call may change, between guard bytes. */
+static struct lent lent_report, lent_port, lent_group;
+
+static const uint8_t *lend(struct lent *l, const uint8_t *bytes, size_t length)
+{
+    guard(l, length);
+    memcpy(l->all + GUARD, bytes, length);
+    return l->all + GUARD;
+}
+
+static int is_as_lent(const struct lent *l, const uint8_t *bytes, size_t length)
+{
+    return is_guarded(l, length) && memcmp(l->all + GUARD, bytes, length) == 0;
+}
+
+/* The kind of a copy, 0 if it is refused. */
+static uint64_t copy_kind_of(const uint8_t *copy, size_t length)
+{
+    struct out kind = fresh;
+    uint64_t number = kamurjesh_copy_read(copy, length, &kind.value);
+    EXPECT(is_fine(&kind));
+    EXPECT((number == 11) == (kind.value == 0));
+    EXPECT(number == 0 || number == 11);
+    EXPECT(kind.value <= KAMURJESH_IS_TRADE);
+    return kind.value;
+}
+
+static uint64_t copy_length;
+
+static uint64_t copy_in(const struct feed *f, const struct message *report, size_t area_length)
+{
+    struct out length = fresh, next = fresh;
+    const uint8_t *bytes = lend(&lent_report, report->bytes, report->length);
+    const uint8_t *port = lend(&lent_port, f->port.bytes, f->port.length);
+    const uint8_t *group = lend(&lent_group, f->group.bytes, f->group.length);
+    lend_area(area_length);
+    uint64_t number = kamurjesh_copy(bytes, report->length, f->subscription, f->shows, port, f->port.length, group, f->group.length,
+                                     f->next, area, area_length, &length.value, &next.value);
+    EXPECT(is_fine(&length) && is_fine(&next));
+    EXPECT(is_as_lent(&lent_report, report->bytes, report->length));
+    EXPECT(is_as_lent(&lent_port, f->port.bytes, f->port.length));
+    EXPECT(is_as_lent(&lent_group, f->group.bytes, f->group.length));
+    EXPECT(length.value <= KAMURJESH_LONGEST_REPORT);
+    EXPECT(area_is_untouched_from((size_t)length.value, area_length));
+    EXPECT(number == 0 || number == 1 || number == 11 || number == 17 || number == 4);
+    if (number != 0)
+        EXPECT(length.value == 0 && next.value == 0);
+    else
+        EXPECT(next.value == f->next + (length.value > 0));
+    if (length.value > 0) {
+        struct message copy = copy_of(report, f);
+        EXPECT(length.value == copy.length && memcmp(area, copy.bytes, copy.length) == 0);
+        EXPECT(copy_kind_of(area, copy.length) == kind_of(report->bytes, report->length));
+        EXPECT(kind_of(area, copy.length) == 0); /* a copy is no report */
+    }
+    copy_length = length.value;
+    return number;
+}
+
+static uint64_t copy(const struct feed *f, const struct message *report)
+{
+    return copy_in(f, report, 1024);
+}
+
+/* Reports of every kind: the first six by Submit, the others by Run. */
+enum { SAMPLES = 15, TRADE_SAMPLE = 6, SESSION_REJECT_SAMPLE = 5 };
+static struct message samples[SAMPLES];
+
+static struct message submitted(struct message m)
+{
+    struct message report = {{0}, 0};
+    submit(m);
+    memcpy(report.bytes, area, (size_t)report_length);
+    report.length = (size_t)report_length;
+    EXPECT(run() == 0);
+    return report;
+}
+
+static void take_samples(void)
+{
+    EXPECT(open_usual(1) == 0);
+    samples[0] = submitted(new_order("A-1", 1, 500, "-0.005", 0, '0'));
+    samples[1] = submitted(replacement("A-2", "A-1", 1, 700, "0.000"));
+    samples[2] = submitted(cancellation("A-3", "A-2", 1));
+    samples[3] = submitted(new_order("A-4", 1, 5, "0.100", 99, '0'));
+    samples[4] = submitted(cancellation("A-5", "A-9", 1));
+    samples[SESSION_REJECT_SAMPLE] = submitted(sent("A", "98=0|108=30|"));
+    enter_book_r(3);
+    EXPECT(submit(new_order("B-1", 1, 1200, "0.100", 10, '3')) == 0);
+    EXPECT(run() == 0 && ran.reports == SAMPLES - TRADE_SAMPLE);
+    for (unsigned i = TRADE_SAMPLE; i < SAMPLES; i++)
+        samples[i] = ran_report(i - TRADE_SAMPLE);
+    uint64_t kinds = 0;
+    for (unsigned i = 0; i < SAMPLES; i++)
+        kinds |= UINT64_C(1) << kind_of(samples[i].bytes, samples[i].length);
+    EXPECT(kinds == 0xfe); /* all of 1 to 7, and none refused */
+}
+
+static void test_copies(void)
+{
+    for (unsigned i = 0; i < SAMPLES; i++)
+        for (uint64_t subscription = 1; subscription <= 2; subscription++)
+            for (uint64_t shows = 1; shows <= 3; shows++) {
+                struct feed f = feed_of(subscription, shows);
+                uint64_t kind = kind_of(samples[i].bytes, samples[i].length);
+                int is_copied = kind == KAMURJESH_IS_TRADE || (subscription == KAMURJESH_FULL && kind < KAMURJESH_IS_TRADE);
+                EXPECT(copy(&f, &samples[i]) == 0 && (copy_length > 0) == is_copied);
+                f.next = 999999999;
+                EXPECT(copy_in(&f, &samples[i], AREA) == 0 && (copy_length > 0) == is_copied);
+            }
+    /* one of them as it stands */
+    struct feed f = feed_of(KAMURJESH_RECONCILIATION, KAMURJESH_SHOWS_BOTH);
+    f.next = 41;
+    EXPECT(copy(&f, &samples[TRADE_SAMPLE]) == 0);
+    EXPECT(field_is(area, copy_length, 34, "41") && field_is(area, copy_length, 17, "41") && field_is(area, copy_length, 880, "6"));
+    EXPECT(field_is(area, copy_length, 109, "P1-G-7") && field_is(area, copy_length, 797, "Y"));
+}
+
+static void test_copy_refused(void)
+{
+    struct feed good = feed_of(KAMURJESH_FULL, KAMURJESH_SHOWS_BOTH), bad = good, spent = good;
+    struct message trade = samples[TRADE_SAMPLE], reject = samples[SESSION_REJECT_SAMPLE], none = {{0}, 0}, broken = trade;
+    struct message order = new_order("A-1", 1, 500, "0.100", 10, '0');
+    spent.next = bad.next = 0;
+    bad.group.length = 0;
+    broken.bytes[broken.length - 2] ^= 1; /* CheckSum */
+    /* 1, 11, 17, 4 in this order, also for a report that is not copied */
+    const struct message *const whole[] = {&trade, &reject}, *const parts[] = {&broken, &none, &order};
+    for (size_t i = 0; i < 2; i++) {
+        EXPECT(copy_in(&bad, whole[i], 1023) == 1 && copy_in(&good, whole[i], 1023) == 1 && copy_in(&good, whole[i], 0) == 1);
+        EXPECT(copy(&bad, whole[i]) == 17);
+        EXPECT(copy(&spent, whole[i]) == 4);
+        EXPECT(copy(&good, whole[i]) == 0);
+    }
+    for (size_t i = 0; i < 3; i++) {
+        EXPECT(copy_in(&bad, parts[i], 1023) == 1);
+        EXPECT(copy(&bad, parts[i]) == 11 && copy(&spent, parts[i]) == 11 && copy(&good, parts[i]) == 11);
+    }
+    struct message copied = copy_of(&trade, &good);
+    EXPECT(copy(&good, &copied) == 11); /* copies are not copied */
+    /* lengths of 0 with no pointer */
+    struct out length = fresh, next = fresh;
+    EXPECT(kamurjesh_copy(NULL, 0, 2, 3, NULL, 0, NULL, 0, 1, NULL, 0, &length.value, &next.value) == 1);
+    EXPECT(is_fine(&length) && is_fine(&next) && length.value == 0 && next.value == 0);
+    lend_area(1024);
+    EXPECT(kamurjesh_copy(NULL, 0, 2, 3, NULL, 0, NULL, 0, 1, area, 1024, &length.value, &next.value) == 11);
+    EXPECT(kamurjesh_copy(trade.bytes, trade.length, 2, 3, NULL, 0, NULL, 0, 1, area, 1024, &length.value, &next.value) == 17);
+    EXPECT(length.value == 0 && next.value == 0 && area_is_untouched_from(0, 1024));
+}
+
+static void test_feed_settings(void)
+{
+    const uint64_t numbers[] = {0, 1, 2, 3, 4, 256 + 1, 256 + 2, (UINT64_C(1) << 32) + 1, UINT64_MAX};
+    for (size_t i = 0; i < sizeof numbers / sizeof *numbers; i++) {
+        struct feed by_subscription = feed_of(numbers[i], 3), by_shows = feed_of(2, numbers[i]);
+        EXPECT(copy(&by_subscription, &samples[TRADE_SAMPLE]) == (numbers[i] == 1 || numbers[i] == 2 ? 0 : 17));
+        EXPECT(copy(&by_shows, &samples[TRADE_SAMPLE]) == (numbers[i] >= 1 && numbers[i] <= 3 ? 0 : 17));
+    }
+    const uint64_t nexts[] = {0, 1, 9, 10, 999999999, 1000000000, (UINT64_C(1) << 32) + 1, UINT64_MAX};
+    for (size_t i = 0; i < sizeof nexts / sizeof *nexts; i++) {
+        struct feed f = feed_of(KAMURJESH_RECONCILIATION, KAMURJESH_SHOWS_PORT);
+        f.next = nexts[i];
+        EXPECT(copy(&f, &samples[TRADE_SAMPLE]) == (nexts[i] >= 1 && nexts[i] <= 999999999 ? 0 : 4));
+        EXPECT(copy(&f, &samples[0]) == (nexts[i] >= 1 && nexts[i] <= 999999999 ? 0 : 4)); /* though it is not copied */
+    }
+}
+
+static void test_identifier_lengths(void)
+{
+    const size_t lengths[] = {0, 1, 14, 15, 29, 30, 31};
+    for (size_t i = 0; i < 7; i++)
+        for (size_t j = 0; j < 7; j++)
+            for (uint64_t shows = 1; shows <= 3; shows++) {
+                struct feed f = feed_of(KAMURJESH_FULL, shows);
+                f.port = text_of(lengths[i]), f.group = text_of(lengths[j]);
+                size_t p = lengths[i], g = lengths[j];
+                int is_good = shows == KAMURJESH_SHOWS_PORT    ? p >= 1 && p <= 30
+                              : shows == KAMURJESH_SHOWS_GROUP ? g >= 1 && g <= 30
+                                                               : p >= 1 && g >= 1 && p + 1 + g <= 30;
+                EXPECT(copy(&f, &samples[TRADE_SAMPLE]) == (is_good ? 0 : 17));
+                EXPECT(copy(&f, &samples[SESSION_REJECT_SAMPLE]) == (is_good ? 0 : 17));
+            }
+}
+
+static void test_identifier_bytes(void)
+{
+    const size_t places[] = {0, 5, 13};
+    for (unsigned byte = 0; byte < 256; byte++)
+        for (size_t i = 0; i < 3; i++)
+            for (uint64_t shows = 1; shows <= 3; shows++) {
+                uint64_t expected = byte >= 0x21 && byte <= 0x7e ? 0 : 17;
+                struct feed f = feed_of(KAMURJESH_FULL, shows), g = f;
+                f.port = g.port = f.group = g.group = text_of(14);
+                f.port.bytes[places[i]] = g.group.bytes[places[i]] = (uint8_t)byte;
+                EXPECT(copy(&f, &samples[TRADE_SAMPLE]) == (shows == KAMURJESH_SHOWS_GROUP ? 0 : expected));
+                EXPECT(copy(&g, &samples[TRADE_SAMPLE]) == (shows == KAMURJESH_SHOWS_PORT ? 0 : expected));
+            }
+    /* one that is not shown is not looked at */
+    struct text rubbish = {{0, SOH, 0xff, ' ', '=', 0x7f}, 600};
+    struct feed by_port = feed_of(KAMURJESH_FULL, KAMURJESH_SHOWS_PORT), by_group = feed_of(KAMURJESH_FULL, KAMURJESH_SHOWS_GROUP);
+    by_port.group = by_group.port = rubbish;
+    EXPECT(copy(&by_port, &samples[TRADE_SAMPLE]) == 0 && field_is(area, copy_length, 109, "P1"));
+    EXPECT(copy(&by_group, &samples[TRADE_SAMPLE]) == 0 && field_is(area, copy_length, 109, "G-7"));
+}
+
+static void test_copy_read(void)
+{
+    struct feed f = feed_of(KAMURJESH_FULL, KAMURJESH_SHOWS_BOTH);
+    for (unsigned i = 0; i < SAMPLES; i++)
+        EXPECT(copy_kind_of(samples[i].bytes, samples[i].length) == 0); /* a report is no copy */
+    struct message m = copy_of(&samples[TRADE_SAMPLE], &f);
+    EXPECT(copy_kind_of(m.bytes, m.length) == KAMURJESH_IS_TRADE);
+    EXPECT(copy_kind_of(NULL, 0) == 0);
+    for (size_t n = 0; n < m.length; n++)
+        EXPECT(copy_kind_of(m.bytes, n) == 0);
+    EXPECT(copy_kind_of(m.bytes, m.length + 1) == 0);
+    for (size_t i = 0; i < m.length; i++) {
+        m.bytes[i] ^= 1;
+        EXPECT(copy_kind_of(m.bytes, m.length) == 0); /* the CheckSum sees one changed byte, and is seen if it changes */
+        m.bytes[i] ^= 1;
+    }
+    for (size_t n = 1; n <= 31; n++) {
+        f = feed_of(KAMURJESH_FULL, KAMURJESH_SHOWS_PORT);
+        f.port = text_of(n);
+        m = copy_of(&samples[0], &f);
+        EXPECT(copy_kind_of(m.bytes, m.length) == (n <= 30 ? KAMURJESH_IS_ACCEPTED : 0));
+    }
+    /* copied as if they were, rejects are no copies */
+    for (unsigned i = 3; i <= SESSION_REJECT_SAMPLE; i++) {
+        m = copy_of(&samples[i], &f);
+        EXPECT(copy_kind_of(m.bytes, m.length) == 0);
+    }
+}
+
 int main(void)
 {
     test_open();
@@ -641,6 +976,13 @@ int main(void)
     test_run_stops();
     test_depth();
     test_read();
+    take_samples();
+    test_copies();
+    test_copy_refused();
+    test_feed_settings();
+    test_identifier_lengths();
+    test_identifier_bytes();
+    test_copy_read();
     printf("%u checks, %u failed\n", checks, failures);
     return failures > 0;
 }

@@ -1,7 +1,7 @@
 /* transcript < COMMANDS > TRANSCRIPT: does the commands of tests/vectors/README.md through the C interface and writes the answer to
  * each. It also looks at what no transcript shows: the area's bytes behind those written are as they were, and kamurjesh_field
- * finds every field of a report where it stands. Exit status 1 and a word on standard error where that fails or a line is no
- * command. */
+ * finds every field of a report or a copy where it stands. Exit status 1 and a word on standard error where that fails or a line is
+ * no command. */
 #include <inttypes.h>
 #include <stdio.h>
 #include <stdlib.h>
@@ -217,14 +217,17 @@ static size_t say_field(const struct text *report, size_t at)
     return (size_t)(start + length + 1);
 }
 
-static void read_report(const char *at)
+/* Reading, of a report or of a copy, and its letter. */
+typedef uint64_t reader(const uint8_t *bytes, size_t length, uint64_t *kind);
+
+static void read_by(reader *read, char letter, const char *at)
 {
     static struct text report;
     take_text(&at, &report);
     take_end(&at);
     uint64_t kind = UINT64_MAX, start, length;
-    uint64_t number = kamurjesh_read(report.bytes, report.length, &kind);
-    printf("x %" PRIu64 " %" PRIu64, number, kind);
+    uint64_t number = read(report.bytes, report.length, &kind);
+    printf("%c %" PRIu64 " %" PRIu64, letter, number, kind);
     if (number == 0) {
         putchar(' ');
         for (size_t i = 0; i < report.length;)
@@ -233,6 +236,32 @@ static void read_report(const char *at)
             fail("a field was found that is not there");
     }
     putchar('\n');
+}
+
+static void copy(const char *at)
+{
+    static struct text port, group, report;
+    uint64_t subscription = take_number(&at);
+    take_mark(&at, ';');
+    uint64_t shows = take_number(&at);
+    take_mark(&at, ';');
+    take_text(&at, &port);
+    take_mark(&at, ';');
+    take_text(&at, &group);
+    take_mark(&at, ';');
+    uint64_t next = take_number(&at);
+    take_mark(&at, ';');
+    size_t area_length = take_area(&at);
+    take_mark(&at, ';');
+    take_text(&at, &report);
+    take_end(&at);
+    uint64_t length = UINT64_MAX, next_after = UINT64_MAX;
+    memset(area, UNTOUCHED, sizeof area);
+    uint64_t number = kamurjesh_copy(report.bytes, report.length, subscription, shows, port.bytes, port.length, group.bytes,
+                                     group.length, next, area, area_length, &length, &next_after);
+    check_rest(area_length, length);
+    printf("c %" PRIu64 " %" PRIu64 " %" PRIu64, number, length, next_after);
+    say_written(length);
 }
 
 static void answer(const char *line)
@@ -249,7 +278,9 @@ static void answer(const char *line)
     case 's': submit(line + 2); break;
     case 'r': run(line + 2); break;
     case 'd': depth(line + 2); break;
-    case 'x': read_report(line + 2); break;
+    case 'x': read_by(kamurjesh_read, 'x', line + 2); break;
+    case 'c': copy(line + 2); break;
+    case 'y': read_by(kamurjesh_copy_read, 'y', line + 2); break;
     default: fail("no command");
     }
 }

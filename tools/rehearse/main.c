@@ -1,4 +1,5 @@
 /* rehearse [FILE]: takes a file of messages into a market and says of each line what the market answers, and why. */
+#include "feed.h"
 #include "lines.h"
 #include "market.h"
 #include "options.h"
@@ -23,6 +24,7 @@ int main(int count, char **words)
     if (asked != ASKED_TO_REHEARSE)
         return asked == ASKED_FOR_HELP ? 0 : 2;
     open_market();
+    open_feed(options.feed);
     if (!take_lines(options.input)) {
         complain_of_input(&options);
         return 2;

@@ -12,8 +12,7 @@
 static uint8_t table[KAMURJESH_TABLE_BYTES];
 static uint8_t area[65536];
 
-/* Stops with a word where the market refuses what this program never gives it. */
-static void expect_taken(const char *call, uint64_t refusal)
+void expect_taken(const char *call, uint64_t refusal)
 {
     if (refusal == KAMURJESH_TAKEN)
         return;

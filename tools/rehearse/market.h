@@ -4,6 +4,9 @@
 
 #include "lines.h"
 
+/* Stops with a word where the market refuses what this program never gives it. */
+void expect_taken(const char *call, uint64_t refusal);
+
 /* Opens the market that ./book has. */
 void open_market(void);
 

@@ -4,23 +4,66 @@
 #include <errno.h>
 #include <string.h>
 
+#include "kamurjesh.h"
+
 static const char help_before[] =
     "usage: ./rehearse [OPTION].. [FILE]\n"
     "\n"
     "Takes the messages of FILE into a market, one a line with | for SOH, and says of each line what the market answers:\n"
     "taken, or why not. The reports follow, with | for SOH, and in the end the depth, buys then sells, best first.\n"
-    "With no FILE, or with -, it reads standard input.\n"
+    "With no FILE, or with -, it reads standard input. With --feed, each report that the feed copies has its copy behind it.\n"
     "\n";
 static const char help_after[] =
     "\n"
     "The market is that of ./book: venue V, port P, bond code 350, MPIDs 10 to 14, all Cancel Newest, first report number 1.\n"
     "A line ends with LF. Every other byte belongs to its message: a CR at the end makes it garbled, as ./book takes it, and\n"
     "the answer says so. A last line needs no LF.\n"
+    "109 of the copies shows what is given of --port and --group, with a hyphen between; copies are numbered from 1.\n"
     "Exit status: 0, whatever the market answers; 1 if the output cannot be written; 2 for bad usage or an unreadable input.\n";
 
 /* Takes an option, words[0], and its values, if it has any, behind it (the list ends with NULL). Gives how many words that were, or
  * 0 after saying on standard error what is wrong. */
 typedef int taker(struct options *options, char **words);
+
+static int complain(const char *what, const char *word)
+{
+    fprintf(stderr, "rehearse: %s: %s; --help tells more\n", what, word);
+    return 0;
+}
+
+/* Takes the one value of an option. */
+static int take_value(const char **value, char **words)
+{
+    if (words[1] == NULL)
+        return complain("it needs a value", words[0]);
+    *value = words[1];
+    return 2;
+}
+
+static int take_feed(struct options *options, char **words)
+{
+    const char *subscription = NULL;
+    int taken = take_value(&subscription, words);
+    if (taken == 0)
+        return 0;
+    if (strcmp(subscription, "full") == 0)
+        options->feed.subscription = KAMURJESH_FULL;
+    else if (strcmp(subscription, "reconciliation") == 0)
+        options->feed.subscription = KAMURJESH_RECONCILIATION;
+    else
+        return complain("neither full nor reconciliation", subscription);
+    return taken;
+}
+
+static int take_port(struct options *options, char **words)
+{
+    return take_value(&options->feed.port, words);
+}
+
+static int take_group(struct options *options, char **words)
+{
+    return take_value(&options->feed.group, words);
+}
 
 static int take_help(struct options *options, char **words)
 {
@@ -34,6 +77,9 @@ static const struct row {
     const char *help;
     taker *take;
 } rows[] = {
+    {"--feed SUBSCRIPTION", "print the copies of a feed: full, or reconciliation for trades alone", take_feed},
+    {"--port ID", "the order entry port that 109 of the copies shows", take_port},
+    {"--group ID", "the trade group that it shows", take_group},
     {"--help", "print this", take_help},
 };
 enum { ROWS = sizeof rows / sizeof *rows };
@@ -44,12 +90,6 @@ static void print_help(void)
     for (size_t i = 0; i < ROWS; i++)
         printf("  %-20s %s\n", rows[i].option, rows[i].help);
     fputs(help_after, stdout);
-}
-
-static int complain(const char *what, const char *word)
-{
-    fprintf(stderr, "rehearse: %s: %s; --help tells more\n", what, word);
-    return 0;
 }
 
 static int take_option(struct options *options, char **words)
@@ -76,6 +116,17 @@ static int take_words(struct options *options, char **words)
     return is_option ? take_option(options, words) : take_file(options, words[0]);
 }
 
+/* A feed shows something in 109, and an identifier is for a feed. */
+static bool is_feed_whole(const struct feed *feed)
+{
+    bool shows = feed->port != NULL || feed->group != NULL;
+    if (feed->subscription != 0 && !shows)
+        return complain("a feed needs one or both of", "--port, --group");
+    if (feed->subscription == 0 && shows)
+        return complain("there is no --feed for", feed->port != NULL ? "--port" : "--group");
+    return true;
+}
+
 static bool is_standard_input(const struct options *options)
 {
     return options->file == NULL || strcmp(options->file, "-") == 0;
@@ -96,6 +147,8 @@ enum asked ask(struct options *options, int count, char **words)
         print_help();
         return ASKED_FOR_HELP;
     }
+    if (!is_feed_whole(&options->feed))
+        return ASKED_BADLY;
     options->input = is_standard_input(options) ? stdin : fopen(options->file, "rb");
     if (options->input == NULL) {
         complain_of_input(options);

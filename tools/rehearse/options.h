@@ -5,8 +5,11 @@
 #include <stdbool.h>
 #include <stdio.h>
 
+#include "feed.h"
+
 struct options {
     bool help;
+    struct feed feed;
     const char *file; /* NULL, or -, for standard input */
     FILE *input;
 };

@@ -4,6 +4,7 @@
 #include <stdio.h>
 #include <string.h>
 
+#include "feed.h"
 #include "kamurjesh.h"
 #include "lines.h"
 #include "meanings.h"
@@ -65,6 +66,7 @@ void print_reports(struct part reports)
         printf(": ");
         print_part(report);
         putchar('\n');
+        print_copy(report);
         reports.bytes += report.length;
         reports.length -= report.length;
     }

@@ -18,7 +18,8 @@ struct part value_of(struct part report, uint64_t tag);
 bool part_is(struct part part, const char *text);
 void print_part(struct part part);
 
-/* Prints each of the reports that stand one behind the other: a line with a few words, a colon, and its bytes with | for SOH. */
+/* Prints each of the reports that stand one behind the other: a line with a few words, a colon, and its bytes with | for SOH; and
+ * behind it what the feed makes of it. */
 void print_reports(struct part reports);
 
 #endif

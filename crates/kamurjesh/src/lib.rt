@@ -11,10 +11,15 @@ ghost use Rattle.calls.specs.Run.{ran, runNumber, runBytes, runReports, runStep
 ghost use Rattle.market.specs.Depth.{depthAnswer, depthNumber, hasLevel};
 ghost use Rattle.report.specs.Reports.{readOf, partOf};
 ghost use Rattle.calls.specs.Read.{readNumber, kindNumber};
+ghost use Rattle.octets.specs.Octets.{put};
+ghost use Rattle.feed.specs.Copies.{fed, copyNumber, copyLength, copyNext, readCopyOf};
 ghost use Rattle.kamurjesh.specs.Numbers.{levelIn, yieldOf, isThere, startOf, lenOf};
 
 pub mod numbers;
 
+use crate::numbers::copy_length;
+use crate::numbers::copy_next;
+use crate::numbers::copy_number;
 use crate::numbers::depth_number;
 use crate::numbers::has_level;
 use crate::numbers::is_there;
@@ -33,6 +38,8 @@ use crate::numbers::submit_length;
 use crate::numbers::submit_number;
 use crate::numbers::total_of;
 use crate::numbers::yield_of;
+use feed::copy;
+use feed::read_copy;
 use market::depth;
 use market::open;
 use market::read;
@@ -147,4 +154,39 @@ pub extern "C" fn kamurjesh_field(report: &[u8], tag: u64, start: &mut u64, len:
     *start = start_of(part);
     *len = len_of(part);
     is_there(part)
+}
+
+// Hands a feed one report: 0 with the length of its copy, 0 where it is not copied, and the feed's next number; or a refusal.
+#[no_mangle]
+pub extern "C" fn kamurjesh_copy(
+    report: &[u8],
+    subscription: u64,
+    shows: u64,
+    port: &[u8],
+    group: &[u8],
+    next: u64,
+    area: &mut [u8],
+    len: &mut u64,
+    after: &mut u64,
+) -> u64
+    ensures { λ r. ⌜ (r ≡ copyNumber (fed (now (report .entry)) subscription shows (now (port .entry)) (now (group .entry)) next (length (now (area .entry))) .answer))
+        × (now (len .exit) ≡ copyLength (fed (now (report .entry)) subscription shows (now (port .entry)) (now (group .entry)) next (length (now (area .entry))) .answer))
+        × (now (after .exit) ≡ copyNext (fed (now (report .entry)) subscription shows (now (port .entry)) (now (group .entry)) next (length (now (area .entry))) .answer))
+        × (now (area .exit) ≡ put (now (area .entry)) 0 (fed (now (report .entry)) subscription shows (now (port .entry)) (now (group .entry)) next (length (now (area .entry))) .bytes)) ⌝ }
+{
+    let answer = copy(report, subscription, shows, port, group, next, area);
+    *len = copy_length(answer);
+    *after = copy_next(answer);
+    copy_number(answer)
+}
+
+// The kind of a copy: 0 and the kind, or refusal 11.
+#[no_mangle]
+pub extern "C" fn kamurjesh_copy_read(copy: &[u8], kind: &mut u64) -> u64
+    ensures { λ r. ⌜ (r ≡ readNumber (readCopyOf (now (copy .entry)) .kind)) × (now (kind .exit) ≡ kindNumber (readCopyOf (now (copy .entry)) .kind)) ⌝ }
+{
+    let reading = read_copy(copy);
+    let is = reading.kind;
+    *kind = kind_number(is);
+    read_number(is)
 }

@@ -8,10 +8,12 @@ ghost use Rattle.calls.specs.Open.{openNumberOf};
 ghost use Rattle.calls.specs.Submit.{submitNumber, submitLength};
 ghost use Rattle.calls.specs.Run.{runNumber, runBytes, runReports, runSteps};
 ghost use Rattle.calls.specs.Read.{readNumber, kindNumber};
+ghost use Rattle.feed.specs.Copies.{copyNumber, copyLength, copyNext};
 ghost use Rattle.kamurjesh.specs.Numbers.{levelIn, yieldOf, isThere, startOf, lenOf};
 use calls::OpenAnswer;
 use calls::RunAnswer;
 use calls::SubmitAnswer;
+use feed::CopyAnswer;
 use market::DepthAnswer;
 use matching::Depth;
 use report::Kind;
@@ -269,5 +271,47 @@ pub fn len_of(part: Part) -> u64
     match part {
         Part::At { start: _, len } => len as u64,
         Part::Nowhere => 0,
+    }
+}
+
+// The paper's number of a feed's answer.
+pub fn copy_number(answer: CopyAnswer) -> u64
+    ensures { λ r. ⌜ r ≡ copyNumber answer ⌝ }
+{
+    match answer {
+        CopyAnswer::NoRoom => 1,
+        CopyAnswer::NoReport => 11,
+        CopyAnswer::BadSetting => 17,
+        CopyAnswer::NumbersSpent => 4,
+        CopyAnswer::NotCopied(_) => 0,
+        CopyAnswer::Copied { len: _, next: _ } => 0,
+    }
+}
+
+// The length of the copy.
+pub fn copy_length(answer: CopyAnswer) -> u64
+    ensures { λ r. ⌜ r ≡ copyLength answer ⌝ }
+{
+    match answer {
+        CopyAnswer::NoRoom => 0,
+        CopyAnswer::NoReport => 0,
+        CopyAnswer::BadSetting => 0,
+        CopyAnswer::NumbersSpent => 0,
+        CopyAnswer::NotCopied(_) => 0,
+        CopyAnswer::Copied { len, next: _ } => len as u64,
+    }
+}
+
+// The feed's next number.
+pub fn copy_next(answer: CopyAnswer) -> u64
+    ensures { λ r. ⌜ r ≡ copyNext answer ⌝ }
+{
+    match answer {
+        CopyAnswer::NoRoom => 0,
+        CopyAnswer::NoReport => 0,
+        CopyAnswer::BadSetting => 0,
+        CopyAnswer::NumbersSpent => 0,
+        CopyAnswer::NotCopied(next) => next,
+        CopyAnswer::Copied { len: _, next } => next,
     }
 }

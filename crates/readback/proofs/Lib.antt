@@ -5,7 +5,6 @@
 pub mod Takes
 pub mod Rowed
 pub mod Fitting
-pub mod Firsts
 pub mod ReadBack
 pub mod Texts
 pub mod Said

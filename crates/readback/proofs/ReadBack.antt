@@ -1,55 +1,27 @@
 -- A written row is read back: its kind, and its fields, each text at its place in the report.
-use Prim.Native.Nat.{ℕ, zero, suc, _+_, _≤_}
+use Prim.Native.Nat.{ℕ, _≤_}
 use native.Mathlib.Omega.{arith}
 use mathlib.Core.Path.{_≡_, refl, ap, _∙_, subst}
 use mathlib.Core.Bool.{true}
 use mathlib.Core.List.{List, [], _∷_}
 use lib.ListN.{length, getD}
 use Rattle.decimal.specs.Writing.{decimal}
-use Rattle.report.specs.declared.Value.{Value}
-use Rattle.report.specs.declared.Value.the-variants.{Absent, Number, Char, Word, Sent, Stored, Level, Mean}
+use Rattle.report.specs.declared.Value.the-variants.{Absent, Char}
 use Rattle.report.specs.declared.Field.{Field}
 use Rattle.report.specs.declared.Kind.{Kind}
-use Rattle.report.specs.declared.Kind.the-variants.{Accepted, Replaced, Canceled, Trade, Rejected, CancelReject, SessionReject, Refused}
-use Rattle.report.specs.Fields.{field, isAbsent, label, written, fieldBytes, rowBytes}
-use Rattle.report.specs.Frame.{checkSum, front, trailer, reportBytes}
+use Rattle.report.specs.declared.Kind.the-variants.{CancelReject, SessionReject}
+use Rattle.report.specs.Fields.{field, label, written, fieldBytes, rowBytes}
+use Rattle.report.specs.Frame.{trailer, reportBytes}
 use Rattle.report.specs.Slots.{slotsOf}
-use Rattle.report.specs.Reports.{executionFor, kindOf, oneReason, agreed, readingOf, readOf}
-use Rattle.report.proofs.Back.{Fits, moved, backs, start, framed-back}
+use Rattle.report.specs.Reports.{executionFor, kindOf, agreed, readOf}
+use Rattle.report.proofs.Back.{Fits, backs, start, reading-back}
+use Rattle.report.proofs.Firsts.{fits-clean, before, kind-cancel-reject, kind-session-reject, kind-execution}
 use Rattle.report.proofs.Tables.{row-short}
 use Rattle.rows.specs.Rows.{padded}
 use Rattle.rows.proofs.Widths.{row-padded}
 use Rattle.readback.specs.AsRead.{asRead}
-use Rattle.readback.proofs.Firsts.{fits-clean, before, kind-cancel-reject, kind-session-reject, kind-execution}
-
--- ---- where a value is read back says nothing of whether it is there
-moved-absent : (sent stored : List ℕ) (place : ℕ) (v : Value) → isAbsent (moved sent stored place v) ≡ isAbsent v
-moved-absent sent stored place Absent = refl
-moved-absent sent stored place (Number n) = refl
-moved-absent sent stored place (Char c) = refl
-moved-absent sent stored place (Word w x y z) = refl
-moved-absent sent stored place (Sent from len) = refl
-moved-absent sent stored place (Stored from len) = refl
-moved-absent sent stored place (Level level) = refl
-moved-absent sent stored place (Mean mean) = refl
 
 module _ (sent stored : List ℕ) where
-  backs-absent : (at i : ℕ) (fs : List Field) → isAbsent (getD (backs sent stored at fs) i (field 0 Absent) .value) ≡ isAbsent (getD fs i (field 0 Absent) .value)
-  backs-absent at i [] = refl
-  backs-absent at zero (f ∷ fs) = moved-absent sent stored (at + length (label (f .tag))) (f .value)
-  backs-absent at (suc i) (f ∷ fs) = backs-absent (at + length (fieldBytes sent stored f)) i fs
-
-  agreed-back : (k : Kind) (at : ℕ) (fs : List Field) → agreed k (backs sent stored at fs) ≡ agreed k fs
-  unfolding oneReason
-  agreed-back Accepted at fs = refl
-  agreed-back Replaced at fs = refl
-  agreed-back Canceled at fs = rw (backs-absent at 16 fs, backs-absent at 26 fs)
-  agreed-back Trade at fs = refl
-  agreed-back Rejected at fs = refl
-  agreed-back CancelReject at fs = refl
-  agreed-back SessionReject at fs = refl
-  agreed-back Refused at fs = refl
-
   -- ---- a row that fits its kind's slots
   module _ (k : Kind) (fs : List Field) (f : (sum : ℕ) → Fits sent stored (trailer sum) (slotsOf k) fs) (some : 1 ≤ length (rowBytes sent stored fs)) where
     short : length (rowBytes sent stored fs) ≤ 489
@@ -59,10 +31,7 @@ module _ (sent stored : List ℕ) where
         → readOf (reportBytes (rowBytes sent stored fs)) ≡ record { kind = k; fields = backs sent stored (start (rowBytes sent stored fs)) fs }
     unfolding readOf
     whole-back e a =
-        let body = rowBytes sent stored fs in
-        rw e
-        (ap (readingOf k) (framed-back sent stored (slotsOf k) fs some short (f (checkSum (front body))))
-        ∙ rw (agreed-back k (start body) fs ∙ a))
+        rw e (reading-back sent stored k (slotsOf k) fs f some short a)
 
   -- what is read of a row that fits its kind's slots
   pub row-read : (k : Kind) (fs : List Field) → ((sum : ℕ) → Fits sent stored (trailer sum) (slotsOf k) (padded fs)) → 1 ≤ length (rowBytes sent stored (padded fs))

@@ -19,6 +19,7 @@ use Rattle.report.specs.Frame.{trailer}
 use Rattle.report.specs.Parse.{starts}
 use Rattle.report.specs.Slots.{unused}
 use Rattle.report.proofs.Bytes.{row-append}
+use Rattle.report.proofs.Labels.{differ, written-starts}
 use Rattle.report.proofs.Taken.{Proper}
 use Rattle.report.proofs.Only.{AllProper}
 use Rattle.report.proofs.Back.{Fits, fits-none, fits-some, fits-skip}
@@ -26,28 +27,10 @@ use Rattle.readback.proofs.Takes.{Takes}
 
 -- ---- labels
 
--- they have different bytes at one place
-abbrev pub differ : List ℕ → List ℕ → Bool
-differ [] q = false
-differ (a ∷ p) [] = false
-differ (a ∷ p) (b ∷ q) = cond (eqb b a) (differ p q) true
-
-pub differ-starts : (p q rest : List ℕ) → differ p q ≡ true → starts p (q ++ rest) ≡ false
-differ-starts [] q rest e = absurd (false≢true e)
-differ-starts (a ∷ p) [] rest e = absurd (false≢true e)
-differ-starts (a ∷ p) (b ∷ q) rest e =
-    split (eqb b a) (λ t. rw t (differ-starts p q rest (rw t at e))) (λ t. rw t)
-
 -- a tag is none of a row's
 abbrev pub allOther : ℕ → List Field → Bool
 allOther g [] = true
 allOther g (f ∷ fs) = differ (label g) (label (f .tag)) && allOther g fs
-
-pub written-starts : (g tag : ℕ) (v rest : List ℕ) → differ (label g) (label tag) ≡ true → starts (label g) (written tag v ++ rest) ≡ false
-unfolding written
-written-starts g tag v rest e =
-    let z : label tag ++ v ++ (1 ∷ []) ++ rest ≡ label tag ++ (v ++ (1 ∷ rest)) = simp append-assoc in
-    ap (starts (label g)) z ∙ differ-starts (label g) (label tag) (v ++ (1 ∷ rest)) e
 
 module _ (sent stored : List ℕ) where
   -- so no field of the row begins with its label

@@ -37,7 +37,7 @@ moved-number sent stored place (Level level) = refl
 moved-number sent stored place (Mean mean) = refl
 
 module _ (sent stored : List ℕ) where
-  backs-say : (tag at : ℕ) (fs : List Field) → saysIn tag (backs sent stored at fs) ≡ saysIn tag fs
+  pub backs-say : (tag at : ℕ) (fs : List Field) → saysIn tag (backs sent stored at fs) ≡ saysIn tag fs
   backs-say tag at [] = refl
   backs-say tag at (f ∷ fs) = rw (moved-number sent stored (at + length (label (f .tag))) (f .value), backs-say tag (at + length (fieldBytes sent stored f)) fs)
 

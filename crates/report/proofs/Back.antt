@@ -7,7 +7,7 @@ use mathlib.Core.List.{List, [], _∷_, _++_, append-assoc, append-nil}
 use native.Mathlib.Omega.{arith}
 use native.Mathlib.Nat.{add-zero}
 use lib.Dec.{ltb, leb, eqb}
-use lib.ListN.{length, take, drop, length-append, length-drop}
+use lib.ListN.{length, take, drop, getD, length-append, length-drop}
 use lib.Seq.{take-at, drop-at}
 use borrow.Author.Tests.{eq-eqb, ne-eqb, le-leb}
 use Rattle.octets.specs.Octets.{partAt, sameBytes}
@@ -25,11 +25,13 @@ use Rattle.report.specs.declared.Pick.the-variants.{Is, No}
 use Rattle.report.specs.declared.Got.{Got}
 use Rattle.report.specs.declared.Got.the-variants.{Value as Found, Wrong}
 use Rattle.report.specs.declared.Frame.the-variants.{Body, Not}
+use Rattle.report.specs.declared.Kind.{Kind}
+use Rattle.report.specs.declared.Kind.the-variants.{Accepted, Replaced, Canceled, Trade, Rejected, CancelReject, SessionReject, Refused}
 use Rattle.report.specs.Fields.{field, isAbsent, valueBytes, label, written, fieldBytes, rowBytes}
 use Rattle.report.specs.Frame.{checkSum, version, front, trailer, reportBytes}
 use Rattle.report.specs.Shapes.{numberIn, valueIn}
 use Rattle.report.specs.Parse.{starts, lenTo, gotOf, valueAt, fieldAt, Rows, row, bad, consRow, nextRows, readRow}
-use Rattle.report.specs.Reports.{lengthIn, lengthSlot, bodyAt, trailerAt, checked, readFramed}
+use Rattle.report.specs.Reports.{lengthIn, lengthSlot, bodyAt, trailerAt, checked, readFramed, oneReason, agreed, readingOf}
 use Rattle.report.proofs.Bytes.{field-some, field-none, length-written, report-length, trailer-length}
 use Rattle.report.proofs.Parses.{value-is}
 use Rattle.report.proofs.Taken.{NoSoh, Taken, Proper, taken, widthOf}
@@ -111,7 +113,7 @@ skip-back : (pre rest : List ℕ) (slot : Slot) → slot .optional ≡ true → 
 unfolding fieldAt
 skip-back pre rest slot o e = rw (ap (starts (label (slot .tag))) (drop-at pre rest (length pre) refl) ∙ e, o)
 
-fit-bytes : (sent stored : List ℕ) (slot : Slot) (f : Field) → Fit sent stored slot f → fieldBytes sent stored f ≡ written (slot .tag) (valueBytes sent stored (f .value))
+pub fit-bytes : (sent stored : List ℕ) (slot : Slot) (f : Field) → Fit sent stored slot f → fieldBytes sent stored f ≡ written (slot .tag) (valueBytes sent stored (f .value))
 unfolding fieldBytes
 fit-bytes sent stored slot f p = rw (p .here, p .tag-is)
 
@@ -246,3 +248,40 @@ framed-back sent stored slots fs l h f =
     framed-in s slots (start body) n (body-back body l h)
     ∙ ap (checked s (start body + n)) read
     ∙ simp (eq-eqb (start body + n) (start body + n) refl, sum)
+
+-- ---- where a value is read back says nothing of whether it is there
+moved-absent : (sent stored : List ℕ) (place : ℕ) (v : Value) → isAbsent (moved sent stored place v) ≡ isAbsent v
+moved-absent sent stored place Absent = refl
+moved-absent sent stored place (Number n) = refl
+moved-absent sent stored place (Char c) = refl
+moved-absent sent stored place (Word w x y z) = refl
+moved-absent sent stored place (Sent from len) = refl
+moved-absent sent stored place (Stored from len) = refl
+moved-absent sent stored place (Level level) = refl
+moved-absent sent stored place (Mean mean) = refl
+
+module _ (sent stored : List ℕ) where
+  backs-absent : (at i : ℕ) (fs : List Field) → isAbsent (getD (backs sent stored at fs) i (field 0 Absent) .value) ≡ isAbsent (getD fs i (field 0 Absent) .value)
+  backs-absent at i [] = refl
+  backs-absent at zero (f ∷ fs) = moved-absent sent stored (at + length (label (f .tag))) (f .value)
+  backs-absent at (suc i) (f ∷ fs) = backs-absent (at + length (fieldBytes sent stored f)) i fs
+
+  agreed-back : (k : Kind) (at : ℕ) (fs : List Field) → agreed k (backs sent stored at fs) ≡ agreed k fs
+  unfolding oneReason
+  agreed-back Accepted at fs = refl
+  agreed-back Replaced at fs = refl
+  agreed-back Canceled at fs = rw (backs-absent at 16 fs, backs-absent at 26 fs)
+  agreed-back Trade at fs = refl
+  agreed-back Rejected at fs = refl
+  agreed-back CancelReject at fs = refl
+  agreed-back SessionReject at fs = refl
+  agreed-back Refused at fs = refl
+
+  -- what is read of a row that fits the slots, as a report of a kind that its fields agree with
+  pub reading-back : (k : Kind) (slots : List Slot) (fs : List Field) → ((sum : ℕ) → Fits sent stored (trailer sum) slots fs)
+      → 1 ≤ length (rowBytes sent stored fs) → length (rowBytes sent stored fs) ≤ 489 → agreed k fs ≡ true
+      → readingOf k (readFramed (reportBytes (rowBytes sent stored fs)) slots) ≡ record { kind = k; fields = backs sent stored (start (rowBytes sent stored fs)) fs }
+  reading-back k slots fs f some short a =
+      let body = rowBytes sent stored fs in
+      ap (readingOf k) (framed-back sent stored slots fs some short (f (checkSum (front body))))
+      ∙ rw (agreed-back k (start body) fs ∙ a)

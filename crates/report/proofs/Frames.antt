@@ -24,11 +24,16 @@ use Rattle.report.specs.declared.Frame.{Frame}
 use Rattle.report.specs.declared.Frame.the-variants.{Body, Not}
 use Rattle.report.specs.Fields.{label, written}
 use Rattle.report.specs.Frame.{version, trailer, checkSum}
-use Rattle.report.specs.Parse.{starts, fieldAt, Rows, row, bad, readRow, rowOf}
+use Rattle.report.specs.Shapes.{numberIn}
+use Rattle.report.specs.Parse.{starts, lenTo, fieldAt, Rows, row, bad, readRow, rowOf}
 use Rattle.report.specs.Reports.{lengthIn, lengthSlot, bodyAt, trailerAt, checked, readFramed}
 use Rattle.report.proofs.Bytes.{version-bytes, trailer-length}
 use Rattle.report.proofs.Labels.{starts-length}
+use Rattle.report.proofs.Parses.{label-within, field-yes, field-wrong, value-none, value-yes, value-no}
 use Rattle.decimal.specs.Writing.{decimal}
+use Rattle.decimal.specs.Canonical.{bareOf, within}
+use Rattle.decimal.specs.declared.Said.{Said}
+use Rattle.decimal.specs.declared.Said.the-variants.{Value as Says, Wrong as Says-not}
 
 -- ---- 9
 module _ (g : Got) (len next n : ℕ) (e : g ≡ Found (Number len) next) where
@@ -59,6 +64,32 @@ length-within (Found (Stored f l) next) n from len e = let z : _≡_ {A = ℕ} 0
 length-within (Found (Level l) next) n from len e = let z : _≡_ {A = ℕ} 0 1 = cc in absurd (omega arith)
 length-within (Found (Mean l) next) n from len e = let z : _≡_ {A = ℕ} 0 1 = cc in absurd (omega arith)
 length-within Wrong n from len e = let z : _≡_ {A = ℕ} 0 1 = cc in absurd (omega arith)
+
+-- 9 as it stands behind 8
+pub one-digit : 1 ≡ length (decimal 9)
+unfolding decimal
+one-digit = refl
+
+module _ (s : List ℕ) (h : 10 ≤ length s) (t : Bool) (te : t ≡ starts (label 9) (drop 10 s)) where
+  pub nine-not : t ≡ false → Wrong ≡ fieldAt s 10 lengthSlot
+  nine-not n = field-wrong s 10 lengthSlot 1 one-digit h t te n refl
+
+  module _ (y : t ≡ true) where
+    pub nine-within : 12 ≤ length s
+    nine-within = label-within s 10 lengthSlot 1 one-digit h t te y
+
+    module _ (e : ℕ) (k : e ≡ 12 + lenTo (drop 12 s)) where
+      pub nine-none : length s ≤ e → Wrong ≡ fieldAt s 10 lengthSlot
+      nine-none l = field-yes s 10 lengthSlot 1 one-digit h t te y Wrong (value-none s 12 (lengthSlot .shape) e k l)
+
+      module _ (l : e < length s) (q : Said) (qe : q ≡ within 1 999 (bareOf 9 (take (e - 12) (drop 12 s)))) where
+        pub nine-yes : (n : ℕ) → q ≡ Says n → Found (Number n) (e + 1) ≡ fieldAt s 10 lengthSlot
+        nine-yes n i =
+            field-yes s 10 lengthSlot 1 one-digit h t te y (Found (Number n) (e + 1))
+            (value-yes s 12 (lengthSlot .shape) e k l (numberIn q) (ap numberIn qe) (Number n) (ap numberIn i))
+
+        pub nine-wrong : q ≡ Says-not → Wrong ≡ fieldAt s 10 lengthSlot
+        nine-wrong i = field-yes s 10 lengthSlot 1 one-digit h t te y Wrong (value-no s 12 (lengthSlot .shape) e k l (numberIn q) (ap numberIn qe) (ap numberIn i))
 
 -- ---- 8: the first bytes are the version's
 pub same-starts : (p s : List ℕ) → sameBytes (take (length p) s) p ≡ starts p s

@@ -1,8 +1,9 @@
--- Whether a label stands at a place: from its last byte to the first; and that it stands where it was written.
+-- Whether a label stands at a place: from its last byte to the first; that it stands where it was written; and that it does not where
+-- another is.
 use Prim.Native.Nat.{ℕ, zero, suc, _+_, _-_, _/_, _%_, _^_, _≤_, _<_, zero-le}
 use mathlib.Core.Path.{_≡_, refl, sym, ap, _∙_}
 use mathlib.Core.Bool.{Bool, true, false, cond, _&&_, and-true, and-false, false≢true}
-use mathlib.Core.List.{List, [], _∷_, _++_}
+use mathlib.Core.List.{List, [], _∷_, _++_, append-assoc}
 use native.Mathlib.Omega.{arith}
 use native.Mathlib.Nat.{not-suc-le-zero}
 use lib.Dec.{ltb, eqb}
@@ -14,7 +15,7 @@ use borrow.Author.Tests.{eq-eqb, ne-eqb}
 use Rattle.octets.proofs.Bools.{split}
 use Rattle.decimal.specs.Writing.{decimal, places}
 use Rattle.decimal.proofs.Digits.{decimal-is, length-places}
-use Rattle.report.specs.Fields.{label}
+use Rattle.report.specs.Fields.{label, written}
 use Rattle.report.specs.Parse.{starts}
 
 pub starts-length : (p s : List ℕ) → starts p s ≡ true → length p ≤ length s
@@ -107,3 +108,23 @@ module _ (s : List ℕ) (at tag k i m : ℕ) (c : Matching s at tag k i m) (h : 
 
   pub match-not : (getD s (at + (i - 1)) 0 ≡ 48 + m % 10 → ⊥) → false ≡ starts (label tag) (drop at s)
   match-not n = turn-other s at tag k (i - 1) m one-less n
+
+-- ---- labels of other tags
+
+-- they have different bytes at one place
+abbrev pub differ : List ℕ → List ℕ → Bool
+differ [] q = false
+differ (a ∷ p) [] = false
+differ (a ∷ p) (b ∷ q) = cond (eqb b a) (differ p q) true
+
+pub differ-starts : (p q rest : List ℕ) → differ p q ≡ true → starts p (q ++ rest) ≡ false
+differ-starts [] q rest e = absurd (false≢true e)
+differ-starts (a ∷ p) [] rest e = absurd (false≢true e)
+differ-starts (a ∷ p) (b ∷ q) rest e =
+    split (eqb b a) (λ t. rw t (differ-starts p q rest (rw t at e))) (λ t. rw t)
+
+pub written-starts : (g tag : ℕ) (v rest : List ℕ) → differ (label g) (label tag) ≡ true → starts (label g) (written tag v ++ rest) ≡ false
+unfolding written
+written-starts g tag v rest e =
+    let z : label tag ++ v ++ (1 ∷ []) ++ rest ≡ label tag ++ (v ++ (1 ∷ rest)) = simp append-assoc in
+    ap (starts (label g)) z ∙ differ-starts (label g) (label tag) (v ++ (1 ∷ rest)) e

@@ -12,5 +12,7 @@ pub mod Readings
 pub mod Taken
 pub mod Only
 pub mod Back
+pub mod Firsts
+pub mod Texts
 pub mod Tables
 pub mod ReadOnly

@@ -53,7 +53,7 @@ soh-split (b ∷ s) h =
     rw (t, d) (ap (λ (l : List ℕ). b ∷ l) (soh-split s (omega arith))))
 
 -- ---- a value
-record Valued (s : List ℕ) (v : ℕ) (shape : Shape) (x : Value) (n : ℕ) : Type 0 where
+pub record Valued (s : List ℕ) (v : ℕ) (shape : Shape) (x : Value) (n : ℕ) : Type 0 where
   pub within : v + lenTo (drop v s) < length s
   pub picked : valueIn shape v (take (lenTo (drop v s)) (drop v s)) ≡ Is x
   pub next : n ≡ v + lenTo (drop v s) + 1
@@ -62,7 +62,7 @@ got-found : (p : Pick) (m : ℕ) (x : Value) (n : ℕ) → gotOf p m ≡ Found x
 got-found (Is y) m x n e = (cc, cc)
 got-found No m x n e = let z : _≡_ {A = ℕ} 0 1 = cc in absurd (omega arith)
 
-value-found : (s : List ℕ) (v : ℕ) (shape : Shape) (x : Value) (n : ℕ) → valueAt s v shape ≡ Found x n → Valued s v shape x n
+pub value-found : (s : List ℕ) (v : ℕ) (shape : Shape) (x : Value) (n : ℕ) → valueAt s v shape ≡ Found x n → Valued s v shape x n
 unfolding valueAt
 value-found s v shape x n e =
     split (ltb (v + lenTo (drop v s)) (length s))
@@ -141,7 +141,7 @@ piece-then s at m n xs ys p q =
           ∙ ap (λ (w : List ℕ). w ++ take (n - m) (drop m s)) (p .stands) ∙ ap (λ (w : List ℕ). xs ++ w) (q .stands);
     }
 
-record Consed (tag : ℕ) (g : Got) (k : ℕ → Rows) (fs : List Field) (n : ℕ) : Type 0 where
+pub record Consed (tag : ℕ) (g : Got) (k : ℕ → Rows) (fs : List Field) (n : ℕ) : Type 0 where
   pub value : Value
   pub next : ℕ
   pub rest : List Field
@@ -153,7 +153,7 @@ cons-row : (f : Field) (r : Rows) (fs : List Field) (n : ℕ) → consRow f r �
 cons-row f (row gs m) fs n e = (gs, cc, cc)
 cons-row f bad fs n e = let z : _≡_ {A = ℕ} 0 1 = cc in absurd (omega arith)
 
-next-row : (tag : ℕ) (g : Got) (k : ℕ → Rows) (fs : List Field) (n : ℕ) → nextRows tag g k ≡ row fs n → Consed tag g k fs n
+pub next-row : (tag : ℕ) (g : Got) (k : ℕ → Rows) (fs : List Field) (n : ℕ) → nextRows tag g k ≡ row fs n → Consed tag g k fs n
 next-row tag (Found x m) k fs n e =
     let c = cons-row (field tag x) (k m) fs n e in
     record { value = x; next = m; rest = c .0; found = refl; left = c .1; all = c .2 }

@@ -23,7 +23,7 @@ use Rattle.report.proofs.Taken.{Proper}
 use Rattle.report.proofs.Only.{AllProper, framed-only}
 
 -- ---- no shape of a table takes an SOH
-abbrev properShape : Shape → Bool
+abbrev pub properShape : Shape → Bool
 properShape shape.Nothing = true
 properShape (shape.OneOf a b c d e) = not (eqb a 1) && not (eqb b 1) && not (eqb c 1) && not (eqb d 1) && not (eqb e 1)
 properShape (shape.Range least most) = true
@@ -64,11 +64,11 @@ proper-is shape.Time e = tt
 proper-is shape.Yield e = tt
 proper-is shape.Average e = tt
 
-abbrev properAll : List Slot → Bool
+abbrev pub properAll : List Slot → Bool
 properAll [] = true
 properAll (slot ∷ slots) = properShape (slot .shape) && properAll slots
 
-all-proper : (slots : List Slot) → properAll slots ≡ true → AllProper slots
+pub all-proper : (slots : List Slot) → properAll slots ≡ true → AllProper slots
 all-proper [] e = tt
 all-proper (slot ∷ slots) e =
     (proper-is (slot .shape) (both-l (properShape (slot .shape)) (properAll slots) e), all-proper slots (both-r (properShape (slot .shape)) (properAll slots) e))

@@ -82,8 +82,10 @@ reading-row : (k : Kind) (q : Rows) → readingFrom k (rowOf q) ≡ readingOf k 
 reading-row k (row fs n) = refl
 reading-row k bad = refl
 
-pub read-is : (s : List ℕ) (k : Kind) (slots : List Slot) (r : Row) (x : Reading) → k ≡ kindOf s → slots ≡ slotsOf k → r ≡ rowOf (readFramed s slots) → x ≡ readingFrom k r → x ≡ readOf s
+pub read-as-is : (s : List ℕ) (k : Kind) (slots : List Slot) (r : Row) (x : Reading) → r ≡ rowOf (readFramed s slots) → x ≡ readingFrom k r → x ≡ readingOf k (readFramed s slots)
+read-as-is s k slots r x re xe = xe ∙ ap (readingFrom k) re ∙ reading-row k (readFramed s slots)
+
+pub read-is : (s : List ℕ) (k : Kind) (slots : List Slot) (x : Reading) → k ≡ kindOf s → slots ≡ slotsOf k → x ≡ readingOf k (readFramed s slots) → x ≡ readOf s
 unfolding readOf
-read-is s k slots r x ke se re xe =
-    xe ∙ ap (readingFrom k) re ∙ reading-row k (readFramed s slots)
-    ∙ ap (λ (l : List Slot). readingOf k (readFramed s l)) se ∙ ap (λ (j : Kind). readingOf j (readFramed s (slotsOf j))) ke
+read-is s k slots x ke se xe =
+    xe ∙ ap (λ (l : List Slot). readingOf k (readFramed s l)) se ∙ ap (λ (j : Kind). readingOf j (readFramed s (slotsOf j))) ke

@@ -17,7 +17,7 @@ ghost use Rattle.report.specs.Fields.{label};
 ghost use Rattle.report.specs.Parse.{starts, lenTo, valueAt, fieldAt, rowOf, readRow, hop, placeOf};
 
 // Whether the tag of k digits and `=` stand at a place.
-fn label_at(s: &[u8], at: usize, tag: u64, k: usize) -> bool
+pub fn label_at(s: &[u8], at: usize, tag: u64, k: usize) -> bool
     requires { ⌜ (at ≤ length (now s)) × (k ≡ length (decimal tag)) ⌝ }
     ensures { λ r. ⌜ r ≡ starts (label tag) (drop at (now (s .entry))) ⌝ }
 {
@@ -70,7 +70,7 @@ fn value_at(s: &[u8], v: usize, shape: Shape) -> Got
 }
 
 // The field that stands at a place, as its slot says.
-pub fn field_at(s: &[u8], at: usize, slot: Slot) -> Got
+fn field_at(s: &[u8], at: usize, slot: Slot) -> Got
     requires { ⌜ at ≤ length (now s) ⌝ }
     ensures { λ r. ⌜ r ≡ fieldAt (now (s .entry)) at slot ⌝ }
 {

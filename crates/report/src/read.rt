@@ -6,16 +6,17 @@ use crate::Kind;
 use crate::Part;
 use crate::Reading;
 use crate::Row;
-use crate::Shape;
 use crate::Slot;
 use crate::Value;
-use crate::parse::field_at;
+use crate::parse::label_at;
 use crate::parse::place_of;
 use crate::parse::read_row;
 use crate::parse::value_end;
 use crate::slots::slots_of;
 use crate::write::is_absent;
 use crate::write::put_trailer;
+use decimal::Said;
+use decimal::canonical::read_within;
 use decimal::read::byte_at;
 use decimal::write::digits;
 use fix::frame::checksum;
@@ -24,8 +25,8 @@ use octets::same;
 ghost use mathlib.Core.Path.{_≡_};
 ghost use Prim.Native.Nat.{_≤_};
 ghost use lib.ListN.{length};
-ghost use Rattle.report.specs.Parse.{rowOf, bad};
-ghost use Rattle.report.specs.Reports.{lengthIn, bodyAt, trailerAt, readFramed, executionFor, firstOf, kindOf, oneReason, agreed, readingFrom, readOf, partOf};
+ghost use Rattle.report.specs.Parse.{fieldAt, rowOf, bad};
+ghost use Rattle.report.specs.Reports.{lengthIn, lengthSlot, bodyAt, trailerAt, readFramed, executionFor, firstOf, kindOf, oneReason, agreed, readingOf, readingFrom, readOf, partOf};
 
 // 9, where the body ends within the n bytes.
 fn length_in(got: Got, n: usize) -> Frame
@@ -62,21 +63,34 @@ fn length_in(got: Got, n: usize) -> Frame
     }
 }
 
+// 9, which stands behind the ten bytes of 8.
+fn length_at(s: &[u8]) -> Got
+    requires { ⌜ 10 ≤ length (now s) ⌝ }
+    ensures { λ r. ⌜ r ≡ fieldAt (now (s .entry)) 10 lengthSlot ⌝ }
+{
+    if label_at(s, 10, 9, 1) {
+        let e = value_end(s, 12);
+        if e < s.len() {
+            let from = 12;
+            return match read_within(&s[from..e], 9, 1, 999) {
+                Said::Value(n) => Got::Value {
+                    value: Value::Number(n),
+                    next: e + 1,
+                },
+                Said::Wrong => Got::Wrong,
+            };
+        }
+    }
+    Got::Wrong
+}
+
 // 8 and 9: where the body begins, and how long it is.
 fn body_at(s: &[u8]) -> Frame
     ensures { λ r. ⌜ r ≡ bodyAt (now (s .entry)) ⌝ }
 {
     let version = [56u8, 61, 70, 73, 88, 46, 52, 46, 50, 1];
     if same(part_at(s, 0, 10), &version) {
-        let slot = Slot {
-            tag: 9,
-            optional: false,
-            shape: Shape::Range {
-                least: 1,
-                most: 999,
-            },
-        };
-        let got = field_at(s, 10, slot);
+        let got = length_at(s);
         return length_in(got, s.len());
     }
     Frame::Not
@@ -168,7 +182,7 @@ fn execution_for(b: u8) -> Kind
 }
 
 // The kind that a report can be, by 35 and 150.
-fn kind_of(s: &[u8]) -> Kind
+pub fn kind_of(s: &[u8]) -> Kind
     ensures { λ r. ⌜ r ≡ kindOf (now (s .entry)) ⌝ }
 {
     let a = first_of(s, 35);
@@ -235,13 +249,20 @@ fn reading(kind: Kind, row: Row) -> Reading
     }
 }
 
+// A report of this kind, whose body has the slots, or none.
+pub fn read_as(s: &[u8], kind: Kind, slots: [Slot; 36]) -> Reading
+    ensures { λ r. ⌜ r ≡ readingOf kind (readFramed (now (s .entry)) slots) ⌝ }
+{
+    let row = read_framed(s, slots);
+    reading(kind, row)
+}
+
 // A report's kind and fields; what is none is refused, which is the paper's refusal 11.
 pub fn read(s: &[u8]) -> Reading
     ensures { λ r. ⌜ r ≡ readOf (now (s .entry)) ⌝ }
 {
     let kind = kind_of(s);
-    let row = read_framed(s, slots_of(kind));
-    reading(kind, row)
+    read_as(s, kind, slots_of(kind))
 }
 
 // Where the value of the first field with a tag stands.

@@ -91,7 +91,7 @@ fn pick_record(v: &[u8]) -> Pick
 }
 
 // Whether every byte lies from `low` to 7E hex.
-fn all_from(v: &[u8], low: u8) -> bool
+pub fn all_from(v: &[u8], low: u8) -> bool
     ensures { λ r. ⌜ r ≡ allFrom low (now (v .entry)) ⌝ }
 {
     let mut i = 0;

@@ -10,6 +10,8 @@ use crate::text::marks;
 use crate::text::next;
 use crate::text::number;
 use crate::text::part;
+use kamurjesh::kamurjesh_copy;
+use kamurjesh::kamurjesh_copy_read;
 use kamurjesh::kamurjesh_field;
 use kamurjesh::kamurjesh_open;
 use kamurjesh::kamurjesh_read;
@@ -185,6 +187,17 @@ fn fields(report: &[u8]) {
     }
 }
 
+// What was read: the number, the kind, and the fields if it was taken.
+fn read_as(report: &[u8], refusal: u64, kind: u64) {
+    say::number(refusal);
+    say::number(kind);
+    if refusal == 0 {
+        say::word(b" ");
+        fields(report);
+    }
+    say::word(b"\n");
+}
+
 // Read.
 fn read(s: &[u8]) {
     let mut bytes = [0u8; 8192];
@@ -193,13 +206,64 @@ fn read(s: &[u8]) {
     let report = part_at(&bytes, 0, n);
     let refusal = kamurjesh_read(report, &mut kind);
     say::word(b"x");
+    read_as(report, refusal, kind);
+}
+
+// Reading a copy.
+fn read_copy(s: &[u8]) {
+    let mut bytes = [0u8; 8192];
+    let mut kind = 0;
+    let n = bytes_of(part(s, 0), &mut bytes);
+    let copy = part_at(&bytes, 0, n);
+    let refusal = kamurjesh_copy_read(copy, &mut kind);
+    say::word(b"y");
+    read_as(copy, refusal, kind);
+}
+
+// A report handed to a feed, with as much of the area as the command lends.
+fn copy_in(report: &[u8], port: &[u8], group: &[u8], area: &mut [u8], s: &[u8]) {
+    let mut len = 0;
+    let mut after = 0;
+    let from = 0;
+    let subscription = number(part(s, 0));
+    let shows = number(part(s, 1));
+    let first = number(part(s, 4));
+    let room = at_most(number(part(s, 5)), area.len());
+    let refusal = kamurjesh_copy(
+        report,
+        subscription,
+        shows,
+        port,
+        group,
+        first,
+        &mut area[from..room],
+        &mut len,
+        &mut after,
+    );
+    say::word(b"c");
     say::number(refusal);
-    say::number(kind);
-    if refusal == 0 {
-        say::word(b" ");
-        fields(report);
-    }
-    say::word(b"\n");
+    say::number(len);
+    say::number(after);
+    say::rest(part_at(area, 0, len as usize));
+}
+
+// A copy. Of an identifier that is much too long, as much as is too long.
+fn copy(s: &[u8]) {
+    let mut port = [0u8; 64];
+    let mut group = [0u8; 64];
+    let mut report = [0u8; 8192];
+    let mut area = io::large_buffer();
+    let p = bytes_of(part(s, 2), &mut port);
+    let g = bytes_of(part(s, 3), &mut group);
+    let n = bytes_of(part(s, 6), &mut report);
+    let bytes = part_at(&report, 0, n);
+    copy_in(
+        bytes,
+        part_at(&port, 0, p),
+        part_at(&group, 0, g),
+        &mut area,
+        s,
+    );
 }
 
 // One command.
@@ -218,6 +282,12 @@ fn command(table: &mut [u8], letter: u8, s: &[u8]) {
     }
     if letter == b'x' {
         return read(s);
+    }
+    if letter == b'c' {
+        return copy(s);
+    }
+    if letter == b'y' {
+        return read_copy(s);
     }
 }
 

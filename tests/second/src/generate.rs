@@ -1,11 +1,13 @@
-//! Command files made from a seed: several markets, messages good and damaged, runs that stop and go on, depths, and
-//! reports read back whole and damaged. The same seed and count give the same commands everywhere.
+//! Command files made from a seed: several markets, messages good and damaged, runs that stop and go on, depths,
+//! reports handed to feeds, and reports and drop copies read back whole and damaged. The same seed and count give the
+//! same commands everywhere.
 //!
 //! The generator plays its own commands on a desk, so that it knows which orders are open and what was reported.
 
 use std::collections::VecDeque;
 
 use crate::compose::Draft;
+use crate::copy::{copy, Feed};
 use crate::damage::{damaged, damaged_report};
 use crate::market::{Market, Participant, LAST_SUBMIT_NUMBER};
 use crate::order::{Order, Side};
@@ -161,8 +163,16 @@ const FULL: Profile = Profile {
 /// How many messages must be left to be made for a table to be filled.
 const LONG: u64 = 1_000;
 
-/// Reports that are kept for reading.
+/// Reports, and copies, that are kept for reading.
 const KEPT: usize = 16;
+
+/// Adds texts to those that are kept, and lets go of the oldest.
+fn keep_last(kept: &mut VecDeque<Vec<u8>>, more: impl IntoIterator<Item = Vec<u8>>) {
+    kept.extend(more);
+    while kept.len() > KEPT {
+        kept.pop_front();
+    }
+}
 
 struct Generator {
     random: Random,
@@ -172,6 +182,8 @@ struct Generator {
     markets: u64,
     profile: Profile,
     reports: VecDeque<Vec<u8>>,
+    copies: VecDeque<Vec<u8>>,
+    feeds: Vec<Feed>,
     used_ids: Vec<Vec<u8>>,
     ids: u64,
     seconds: u64,
@@ -187,6 +199,8 @@ impl Generator {
             markets: 0,
             profile: PROFILES[0].clone(),
             reports: VecDeque::new(),
+            copies: VecDeque::new(),
+            feeds: Vec::new(),
             used_ids: Vec::new(),
             ids: 0,
             seconds: 0,
@@ -217,10 +231,8 @@ impl Generator {
                 Vec::new()
             }
         };
-        self.reports.extend(split_reports(&written).into_iter().map(<[u8]>::to_vec));
-        while self.reports.len() > KEPT {
-            self.reports.pop_front();
-        }
+        let reports = split_reports(&written).into_iter().map(<[u8]>::to_vec);
+        keep_last(&mut self.reports, reports);
     }
 
     /// Opens the next market; before that, sometimes one with a wrong setting.
@@ -233,6 +245,7 @@ impl Generator {
         };
         self.used_ids.clear();
         self.ids = 0;
+        self.feeds = vec![self.feed(1), self.feed(2)];
         self.lines.push(format!("# market {}: {}", self.markets, self.profile.name));
         if self.random.percent(50) {
             let wrong = self.wrong_open();
@@ -309,20 +322,24 @@ impl Generator {
                 0..=39 if self.market().next_number() > LAST_SUBMIT_NUMBER => self.submit(),
                 0..=71 => self.run(),
                 72..=81 => self.submit(),
-                82..=88 => self.depth(),
-                89..=95 => self.idle_run(),
-                _ => self.read(),
+                82..=87 => self.depth(),
+                88..=93 => self.idle_run(),
+                94..=96 => self.read(),
+                97..=98 => self.copy(),
+                _ => self.read_copy(),
             }
         } else {
             match draw {
-                0..=73 => self.submit(),
-                74..=83 => self.depth(),
-                84..=86 => self.idle_run(),
-                87 => {
+                0..=70 => self.submit(),
+                71..=78 => self.depth(),
+                79..=81 => self.idle_run(),
+                82 => {
                     let wrong = self.wrong_open();
                     self.say(&wrong);
                 }
-                _ => self.read(),
+                83..=90 => self.read(),
+                91..=96 => self.copy(),
+                _ => self.read_copy(),
             }
         }
     }
@@ -355,19 +372,84 @@ impl Generator {
 
     /// Read of a report that was written, whole or damaged, or of something else.
     fn read(&mut self) {
-        let draw = self.random.below(100);
+        let report = self.report_to_read(27);
+        self.say(&Command::Read { report });
+    }
+
+    /// A report that was written, so many of a hundred whole and the others damaged, or a message.
+    fn report_to_read(&mut self, whole: u64) -> Vec<u8> {
         let kept = self.reports.len();
-        let report = if draw < 4 || kept == 0 {
-            self.good_message().bytes()
+        if kept == 0 || self.random.percent(4) {
+            return self.good_message().bytes();
+        }
+        let report = self.reports[self.random.below(kept)].clone();
+        if self.random.percent(whole) {
+            report
         } else {
-            let report = self.reports[self.random.below(kept)].clone();
-            if draw < 30 {
-                report
+            damaged_report(&mut self.random, &report)
+        }
+    }
+
+    /// A feed of one subscription, set up well; sometimes its numbers are about to run out.
+    fn feed(&mut self, subscription: u64) -> Feed {
+        const IDS: [&str; 8] =
+            ["P", "PORT1", "port-with-14-c", "a-port-of-15-ch", "|;\\=#", "x-29-characters-x-29-charact!", "~", "10"];
+        let (port, group) = (self.random.pick(&IDS), self.random.pick(&IDS));
+        let shows = if port.len() + group.len() < 30 { self.random.between(1, 3) } else { self.random.between(1, 2) };
+        let next = self.random.pick(&[1, 1, 1, 98, 999_999_990]);
+        Feed { subscription, shows, port: port.as_bytes().to_vec(), group: group.as_bytes().to_vec(), next }
+    }
+
+    /// A report handed to one of the market's feeds, which counts on if it copies; sometimes with a setting, an area or
+    /// a report that is odd.
+    fn copy(&mut self) {
+        let which = self.random.below(self.feeds.len());
+        let mut feed = self.feeds[which].clone();
+        let is_odd = self.random.percent(20);
+        if is_odd {
+            self.make_odd(&mut feed);
+        }
+        let area = if self.random.percent(95) { 1024 } else { self.random.pick(&[0, 1023, 1025, 65_536]) };
+        let report = self.report_to_read(80);
+        let copied = copy(&feed, area, &report);
+        if copied.number == 0 && !is_odd {
+            self.feeds[which].next = copied.next_after;
+        }
+        if !copied.copy.is_empty() {
+            keep_last(&mut self.copies, [copied.copy]);
+        }
+        self.say(&Command::Copy { feed, area, report });
+    }
+
+    /// One setting at its limits, mostly just outside.
+    fn make_odd(&mut self, feed: &mut Feed) {
+        const IDS: [&[u8]; 8] = [
+            b"", b" ", b"a b", b"\x7f", b"x\x01", b"\xff", b"thirty-characters-30-thirty-ch",
+            b"31-characters-31-characters-31!",
+        ];
+        match self.random.below(5) {
+            0 => feed.subscription = self.random.pick(&[0, 3, 258, u64::MAX]),
+            1 => feed.shows = self.random.pick(&[0, 4, 1, 2, 3, 257, u64::MAX]),
+            2 => feed.port = self.random.pick(&IDS).to_vec(),
+            3 => feed.group = self.random.pick(&IDS).to_vec(),
+            _ => feed.next = self.random.pick(&[0, 1, 999_999_999, 1_000_000_000, u64::MAX]),
+        }
+    }
+
+    /// Read of a drop copy that was written, whole or damaged, or of a report.
+    fn read_copy(&mut self) {
+        let kept = self.copies.len();
+        let copy = if kept == 0 || self.random.percent(8) {
+            self.report_to_read(90)
+        } else {
+            let copy = self.copies[self.random.below(kept)].clone();
+            if self.random.percent(35) {
+                copy
             } else {
-                damaged_report(&mut self.random, &report)
+                damaged_report(&mut self.random, &copy)
             }
         };
-        self.say(&Command::Read { report });
+        self.say(&Command::ReadCopy { copy });
     }
 
     /// Submit of a message, good or damaged.

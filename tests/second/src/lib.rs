@@ -4,9 +4,9 @@
 //!
 //! Read in this order: `shape` (digits, yields, times), `message` (what is garbled), `session` (what a good message
 //! asks, or why it gets a Session Reject), `order`, `matching` (one step), `report` (what is written), `market`
-//! (the calls), `read` (reports read back). Above them stand `transcript` (command files), `compose`, `damage` and
-//! `generate` (messages made for comparison), `script`, `points` (the hand-written walk through the paper) and
-//! `samples` (messages published by others).
+//! (the calls), `read` (reports and drop copies read back), `copy` (drop copies written). Above them stand
+//! `transcript` (command files), `compose`, `damage` and `generate` (messages made for comparison), `script`, `points`
+//! (the hand-written walk through the paper) and `samples` (messages published by others).
 
 pub mod shape;
 
@@ -23,6 +23,8 @@ pub mod report;
 pub mod market;
 
 pub mod read;
+
+pub mod copy;
 
 pub mod escape;
 

@@ -33,6 +33,7 @@ pub enum Refusal {
     SettingWrong = 9,
     SideWrong = 10,
     NotAReport = 11,
+    FeedSettingWrong = 17,
 }
 
 impl Refusal {

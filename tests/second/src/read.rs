@@ -1,4 +1,4 @@
-//! Read: the bytes of one report, taken apart strictly ("The reports" of 01).
+//! Read: the bytes of one report, taken apart strictly ("The reports" of 01), and those of one drop copy (T-01 of 02).
 //!
 //! Nothing here asks the writer. A kind is a row of slots: the tags in the order in which they stand, which of them
 //! may be absent, and the shape and range of each value. But for 9 and 10, no field is compared with another.
@@ -19,7 +19,7 @@ pub enum Kind {
     SessionReject = 7,
 }
 
-/// A report that was read: its kind and all its fields in the order of the bytes.
+/// A report or a drop copy that was read: its kind and all its fields in the order of the bytes.
 #[derive(Debug)]
 pub struct Report<'a> {
     pub kind: Kind,
@@ -44,8 +44,8 @@ enum Shape {
     Fixed(usize),
     /// 1 to so many characters, 20 to 7E hex.
     Text(usize),
-    /// 1 to 8 characters, 21 to 7E hex.
-    CompId,
+    /// 1 to so many characters, 21 to 7E hex.
+    Id(usize),
     /// 1 to 9 digits, leading zeros kept.
     Code,
     Time,
@@ -76,6 +76,7 @@ const REPORT_NUMBER: Shape = Shape::Number(1, 999_999_999);
 const AVERAGE: Shape = Shape::Fixed(6);
 const YIELD: Shape = Shape::Fixed(3);
 const CL_ORD_ID: Shape = Shape::Text(32);
+const COMP_ID: Shape = Shape::Id(8);
 
 const ACCOUNT: Slot = may_have(1, Shape::Text(10));
 const AVG_PX: Slot = needs(6, AVERAGE);
@@ -95,6 +96,9 @@ const SYMBOL: Slot = needs(55, Shape::Code);
 const TIME_IN_FORCE: Slot = needs(59, Shape::OneOf(&["0", "3"]));
 const TRANSACT_TIME: Slot = needs(60, Shape::Time);
 const CLIENT_ID: Slot = may_have(109, Shape::Number(1, 999_999));
+/// 109 and 797 of a drop copy.
+const IDENTIFIERS: Slot = needs(109, Shape::Id(30));
+const COPY_MSG_INDICATOR: Slot = needs(797, Shape::OneOf(&["Y"]));
 const LEAVES_QTY: Slot = needs(151, QUANTITY);
 const PRICE_TYPE: Slot = needs(423, Shape::OneOf(&["9"]));
 const CLASSIFICATION: Slot = needs(8060, Shape::OneOf(&["1", "3", "4", "5", "6"]));
@@ -111,10 +115,10 @@ const fn exec_type(values: &'static [&'static str]) -> Slot {
 const HEADER: &[Slot] = &[
     needs(35, Shape::OneOf(&["3", "8", "9"])),
     needs(34, REPORT_NUMBER),
-    needs(49, Shape::CompId),
+    needs(49, COMP_ID),
     needs(50, Shape::OneOf(&["DJGB"])),
     needs(52, Shape::Time),
-    needs(56, Shape::CompId),
+    needs(56, COMP_ID),
 ];
 
 const ACCEPTED: &[Slot] = &[
@@ -258,13 +262,23 @@ const SESSION_REJECT: &[Slot] = &[
 
 /// Reads `bytes` as one report; `None` is refusal 11.
 pub fn read(bytes: &[u8]) -> Option<Report<'_>> {
+    read_by(bytes, |kind| Some(row_of(kind).to_vec()))
+}
+
+/// Reads `bytes` as one drop copy; `None` is refusal 11.
+pub fn read_copy(bytes: &[u8]) -> Option<Report<'_>> {
+    read_by(bytes, row_of_copy)
+}
+
+/// Reads `bytes` by the rows of the kinds that there may be.
+fn read_by(bytes: &[u8], row_of: impl Fn(Kind) -> Option<Vec<Slot>>) -> Option<Report<'_>> {
     if bytes.len() > LONGEST_REPORT {
         return None;
     }
     let fields = split_fields(bytes)?;
     let (header, body) = unframed(bytes, &fields)?.split_at_checked(HEADER.len())?;
     let kind = kind_of(header, body)?;
-    let good = fits(header, HEADER) && fits(body, row_of(kind)) && (kind != Kind::Canceled || has_one_cause(body));
+    let good = fits(header, HEADER) && fits(body, &row_of(kind)?) && (kind != Kind::Canceled || has_one_cause(body));
     good.then_some(Report { kind, fields })
 }
 
@@ -310,6 +324,18 @@ fn row_of(kind: Kind) -> &'static [Slot] {
     }
 }
 
+/// The row of a copy: 109 always stands and shows identifiers, and 797=Y stands where ascending tags put it. Rejects
+/// of any sort have no copy.
+fn row_of_copy(kind: Kind) -> Option<Vec<Slot>> {
+    if matches!(kind, Kind::Rejected | Kind::CancelReject | Kind::SessionReject) {
+        return None;
+    }
+    let but_109 = row_of(kind).iter().copied().filter(|slot| slot.tag != CLIENT_ID.tag);
+    let mut row: Vec<Slot> = but_109.chain([IDENTIFIERS, COPY_MSG_INDICATOR]).collect();
+    row.sort_by_key(|slot| slot.tag);
+    Some(row)
+}
+
 /// Whether `fields` are those of `row`, in its order, each with a value of its slot.
 fn fits(fields: &[Field], row: &[Slot]) -> bool {
     let mut rest = fields;
@@ -339,7 +365,7 @@ fn has_shape(value: &[u8], shape: Shape) -> bool {
         Shape::Number(least, most) => plain_number(value).is_some_and(|number| (least..=most).contains(&number)),
         Shape::Fixed(decimals) => is_fixed(value, decimals),
         Shape::Text(most) => (1..=most).contains(&value.len()) && value.iter().all(|&byte| is_character(byte)),
-        Shape::CompId => (1..=8).contains(&value.len()) && value.iter().all(|&byte| is_id_character(byte)),
+        Shape::Id(most) => (1..=most).contains(&value.len()) && value.iter().all(|&byte| is_id_character(byte)),
         Shape::Code => is_digits(value, 9),
         Shape::Time => is_time(value),
         Shape::OrderId => plain_number(value).is_some_and(|record| (1..=255).contains(&record)),

@@ -253,7 +253,7 @@ fn of_order(heading: Heading, record: usize, order: &Order) -> Body {
     body
 }
 
-/// Header, body and CheckSum.
+/// A report with this header and body.
 fn framed(heading: Heading, msg_type: &[u8], body: Body) -> Vec<u8> {
     let mut counted = Vec::new();
     push(&mut counted, 35, msg_type);
@@ -265,6 +265,11 @@ fn framed(heading: Heading, msg_type: &[u8], body: Body) -> Vec<u8> {
     for (tag, value) in &body.0 {
         push(&mut counted, *tag, value);
     }
+    enclosed(&counted)
+}
+
+/// 8 and 9, the bytes that 9 counts, and 10.
+pub fn enclosed(counted: &[u8]) -> Vec<u8> {
     let mut report = Vec::new();
     push(&mut report, 8, b"FIX.4.2");
     push(&mut report, 9, counted.len().to_string().as_bytes());
@@ -275,7 +280,7 @@ fn framed(heading: Heading, msg_type: &[u8], body: Body) -> Vec<u8> {
 }
 
 /// Adds one field.
-fn push(bytes: &mut Vec<u8>, tag: u32, value: &[u8]) {
+pub fn push(bytes: &mut Vec<u8>, tag: u32, value: &[u8]) {
     bytes.extend(tag.to_string().as_bytes());
     bytes.push(b'=');
     bytes.extend(value);

@@ -4,6 +4,7 @@
 //! every answer against what was expected.
 
 use crate::compose::Draft;
+use crate::copy::Feed;
 use crate::escape::unescaped;
 use crate::market::Participant;
 use crate::transcript::{Command, Desk};
@@ -17,8 +18,10 @@ enum Expected {
     Submitted { number: u64, fields: Vec<String> },
     /// `r 0 BYTES REPORTS STEPS ..`, each report having its fields.
     Ran { steps: u64, reports: Vec<Vec<String>> },
-    /// A report of this kind.
-    ReadAs(u64),
+    /// `c 0 LENGTH NEXT_AFTER COPY`, the copy having these fields.
+    Copied { next_after: u64, fields: Vec<String> },
+    /// A report (`x`) or a drop copy (`y`) of this kind.
+    ReadAs { letter: &'static str, kind: u64 },
 }
 
 /// Commands and comments in their order.
@@ -168,7 +171,7 @@ impl Script {
 
     /// Read answered by a kind.
     pub fn read_as(&mut self, report: &Draft, kind: u64) {
-        self.push(Command::Read { report: report.bytes() }, Expected::ReadAs(kind));
+        self.push(Command::Read { report: report.bytes() }, Expected::ReadAs { letter: "x", kind });
     }
 
     /// Read answered by refusal 11.
@@ -179,6 +182,58 @@ impl Script {
     /// Read of any bytes answered by refusal 11.
     pub fn bytes_not_read(&mut self, report: &[u8]) {
         self.push(Command::Read { report: report.to_vec() }, Expected::Whole("x 11 0".to_string()));
+    }
+
+    /// A report handed to a feed with any area.
+    fn push_copy(&mut self, feed: &Feed, area: usize, report: &[u8], expected: Expected) {
+        self.push(Command::Copy { feed: feed.clone(), area, report: report.to_vec() }, expected);
+    }
+
+    /// A report that a feed copies: a copy that has these fields, and the number after the feed's.
+    pub fn copied(&mut self, feed: &Feed, report: &Draft, fields: &[&str]) {
+        self.copied_in(AREA, feed, report, fields);
+    }
+
+    /// The same with any area.
+    pub fn copied_in(&mut self, area: usize, feed: &Feed, report: &Draft, fields: &[&str]) {
+        let expected = Expected::Copied { next_after: feed.next + 1, fields: owned(fields) };
+        self.push_copy(feed, area, &report.bytes(), expected);
+    }
+
+    /// A report that a feed copies into exactly these bytes.
+    pub fn copied_whole(&mut self, feed: &Feed, report: &Draft, copy: &str) {
+        let answer = format!("c 0 {} {} {copy}", copy.len(), feed.next + 1);
+        self.push_copy(feed, AREA, &report.bytes(), Expected::Whole(answer));
+    }
+
+    /// A report that a feed doesn't copy.
+    pub fn not_copied(&mut self, feed: &Feed, report: &Draft) {
+        self.push_copy(feed, AREA, &report.bytes(), Expected::Whole(format!("c 0 0 {}", feed.next)));
+    }
+
+    /// Any bytes handed to a feed with any area, answered by a refusal.
+    pub fn copy_refused_in(&mut self, area: usize, feed: &Feed, report: &[u8], number: u64) {
+        self.push_copy(feed, area, report, Expected::Whole(format!("c {number} 0 0")));
+    }
+
+    /// A report handed to a feed, answered by a refusal.
+    pub fn copy_refused(&mut self, feed: &Feed, report: &Draft, number: u64) {
+        self.copy_refused_in(AREA, feed, &report.bytes(), number);
+    }
+
+    /// A drop copy read, answered by a kind.
+    pub fn copy_read_as(&mut self, copy: &Draft, kind: u64) {
+        self.push(Command::ReadCopy { copy: copy.bytes() }, Expected::ReadAs { letter: "y", kind });
+    }
+
+    /// Something read as a drop copy, answered by refusal 11.
+    pub fn copy_not_read(&mut self, copy: &Draft) {
+        self.copy_bytes_not_read(&copy.bytes());
+    }
+
+    /// Any bytes read as a drop copy, answered by refusal 11.
+    pub fn copy_bytes_not_read(&mut self, copy: &[u8]) {
+        self.push(Command::ReadCopy { copy: copy.to_vec() }, Expected::Whole("y 11 0".to_string()));
     }
 
     /// Runs the whole script and gives the first answer that is not what was expected.
@@ -217,8 +272,14 @@ impl Expected {
                 let written = written.split(|field| field.starts_with("8=")).skip(1);
                 written.zip(reports).try_for_each(|(report, fields)| hold_fields(&report.concat(), fields))
             }
-            Expected::ReadAs(kind) => {
-                require(answer.starts_with(&format!("x 0 {kind} ")), format!("expected kind {kind}"))
+            Expected::Copied { next_after, fields } => {
+                let (head, copy) = cut_words(answer, 4);
+                let wanted = format!("c 0 {} {next_after}", copy.len());
+                require(head == wanted && !copy.is_empty(), format!("expected a copy, then {next_after}"))?;
+                hold_fields(&copy, fields)
+            }
+            Expected::ReadAs { letter, kind } => {
+                require(answer.starts_with(&format!("{letter} 0 {kind} ")), format!("expected kind {kind}"))
             }
         }
     }

@@ -2,9 +2,10 @@
 
 use std::fmt;
 
+use crate::copy::{copy, Copied, Feed};
 use crate::escape::{escaped, unescaped};
 use crate::market::{Market, Participant, Ran, Refusal, Submitted, FREE};
-use crate::read::read;
+use crate::read::{read, read_copy, Report};
 
 /// The longest line of a command file, in characters.
 pub const LONGEST_LINE: usize = 8192;
@@ -20,6 +21,8 @@ pub enum Command {
     Run { area: usize, budget: u64 },
     Depth { side: u64, k: u64 },
     Read { report: Vec<u8> },
+    Copy { feed: Feed, area: usize, report: Vec<u8> },
+    ReadCopy { copy: Vec<u8> },
 }
 
 impl Command {
@@ -42,6 +45,10 @@ impl Command {
             ("r", [size, budget]) => Ok(Command::Run { area: area(size)?, budget: decimal(budget)? }),
             ("d", [side, k]) => Ok(Command::Depth { side: decimal(side)?, k: decimal(k)? }),
             ("x", [report]) => Ok(Command::Read { report: bytes(report)? }),
+            ("c", [setting @ .., size, report]) => {
+                Ok(Command::Copy { feed: feed(setting)?, area: area(size)?, report: bytes(report)? })
+            }
+            ("y", [copy]) => Ok(Command::ReadCopy { copy: bytes(copy)? }),
             _ => Err("not a command".to_string()),
         }
     }
@@ -59,6 +66,11 @@ impl fmt::Display for Command {
             Command::Run { area, budget } => write!(out, "r {area};{budget}"),
             Command::Depth { side, k } => write!(out, "d {side};{k}"),
             Command::Read { report } => write!(out, "x {}", escaped(report)),
+            Command::Copy { feed: Feed { subscription, shows, port, group, next }, area, report } => {
+                write!(out, "c {subscription};{shows};{};{};", escaped(port), escaped(group))?;
+                write!(out, "{next};{area};{}", escaped(report))
+            }
+            Command::ReadCopy { copy } => write!(out, "y {}", escaped(copy)),
         }
     }
 }
@@ -80,6 +92,19 @@ fn area(text: &str) -> Result<usize, String> {
 fn participant(text: &str) -> Result<Participant, String> {
     let (mpid, mode) = text.split_once(':').ok_or_else(|| format!("not an MPID and its mode: {text}"))?;
     Ok(Participant { mpid: decimal(mpid)?, mode: decimal(mode)? })
+}
+
+fn feed(setting: &[&str]) -> Result<Feed, String> {
+    let [subscription, shows, port, group, next] = setting else {
+        return Err("not a feed".to_string());
+    };
+    Ok(Feed {
+        subscription: decimal(subscription)?,
+        shows: decimal(shows)?,
+        port: bytes(port)?,
+        group: bytes(group)?,
+        next: decimal(next)?,
+    })
 }
 
 /// The market in use. Before the first accepted Open there is none, which is answered like a table that is not a
@@ -108,7 +133,9 @@ impl Desk {
             Command::Submit { area, message } => submit_line(&self.submit(message, *area)),
             Command::Run { area, budget } => run_line(&self.run(*area, *budget)),
             Command::Depth { side, k } => self.depth_line(*side, *k),
-            Command::Read { report } => read_line(report),
+            Command::Read { report } => read_line("x", read(report)),
+            Command::Copy { feed, area, report } => copy_line(&copy(feed, *area, report)),
+            Command::ReadCopy { copy } => read_line("y", read_copy(copy)),
         }
     }
 
@@ -174,12 +201,17 @@ fn with_bytes(line: String, bytes: &[u8]) -> String {
     }
 }
 
-fn read_line(bytes: &[u8]) -> String {
-    match read(bytes) {
-        None => format!("x {} 0", Refusal::NotAReport.number()),
+fn copy_line(copied: &Copied) -> String {
+    with_bytes(format!("c {} {} {}", copied.number, copied.copy.len(), copied.next_after), &copied.copy)
+}
+
+/// The line of a report (`x`) or a drop copy (`y`) that was read, or was none.
+fn read_line(letter: &str, report: Option<Report>) -> String {
+    match report {
+        None => format!("{letter} {} 0", Refusal::NotAReport.number()),
         Some(report) => {
             let fields = report.fields.iter().map(|field| format!("{}={};", field.tag, escaped(field.value)));
-            format!("x 0 {} {}", report.kind as u64, fields.collect::<String>())
+            format!("{letter} 0 {} {}", report.kind as u64, fields.collect::<String>())
         }
     }
 }

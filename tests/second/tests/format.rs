@@ -28,7 +28,8 @@ fn loose_marks_and_other_escapes_are_no_text() {
 fn lines_that_are_no_command_are_errors() {
     for line in [
         "", "s", "s 1024", "s 65537;x", "s x;y", "s 1024;a;b", "r 1024", "r 1024;", "r 1024;18446744073709551616",
-        "d 1", "d 1;-1", "o V;P", "o V;P;350;1;10", "o V;P;350;1;10:", "q 1", " s 1;x", "x",
+        "d 1", "d 1;-1", "c 1;1;P;G;1;1024", "c 1;1;P;G;1;65537;x", "c 1;1;P;G;-1;1024;x", "c 2;1;P;G;1;1024;x;y",
+        "y a;b", "o V;P", "o V;P;350;1;10", "o V;P;350;1;10:", "q 1", " s 1;x", "x",
     ] {
         assert!(Command::parse(line).is_err(), "{line}");
     }
@@ -39,8 +40,19 @@ fn lines_that_are_no_command_are_errors() {
 #[test]
 fn a_command_is_its_line() {
     for line in [
-        "o V;P;350;1;10:1;11:2", "o ;;;0", "o a b;\\x7c;1;18446744073709551615;0:0", "s 65536;8=|\\x00", "s 0;",
-        "r 1024;18446744073709551615", "d 0;0", "x 8=FIX.4.2|", "x ",
+        "o V;P;350;1;10:1;11:2",
+        "o ;;;0",
+        "o a b;\\x7c;1;18446744073709551615;0:0",
+        "s 65536;8=|\\x00",
+        "s 0;",
+        "r 1024;18446744073709551615",
+        "d 0;0",
+        "x 8=FIX.4.2|",
+        "x ",
+        "c 2;3;P1;\\x7c;18446744073709551615;1024;8=|",
+        "c 0;0;;;0;0;",
+        "y 8=FIX.4.2|",
+        "y ",
     ] {
         assert_eq!(Command::parse(line).unwrap().to_string(), line);
     }

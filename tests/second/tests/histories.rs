@@ -2,14 +2,15 @@
 //! and what refusals leave alone.
 //!
 //! The tallies are taken from the reports as Read gives them, by tag 37, as the paper's paragraph on demand 3 says;
-//! what is open is the market's own.
+//! what is open is the market's own. Two feeds are handed the same reports, and their copies tallied in the same way.
 
 use std::collections::{BTreeMap, BTreeSet};
 
+use second::copy::{copy, Feed};
 use second::generate::generate;
 use second::market::Market;
 use second::order::{Order, Side, TimeInForce};
-use second::read::{read, Kind, Report};
+use second::read::{read, read_copy, Kind, Report};
 use second::report::{split_reports, LONGEST_REPORT};
 use second::transcript::{Command, Desk};
 
@@ -17,7 +18,7 @@ use second::transcript::{Command, Desk};
 const HISTORIES: [(u64, u64); 3] = [(1, 700), (2, 2_700), (3, 500)];
 
 /// What the reports have said about one order.
-#[derive(Clone, Debug, Default)]
+#[derive(Clone, Debug, Default, PartialEq, Eq)]
 struct Tally {
     accepted: u64,
     executed: u64,
@@ -27,7 +28,7 @@ struct Tally {
 }
 
 /// What the reports of one market have said.
-#[derive(Clone, Debug, Default)]
+#[derive(Clone, Debug, Default, PartialEq, Eq)]
 struct Book {
     tallies: BTreeMap<u64, Tally>,
     bought: u64,
@@ -78,6 +79,48 @@ impl Book {
         }
         assert_eq!(self.bought, self.sold);
     }
+}
+
+/// A back office: a feed from number 1 that is handed every report of a market, and what its copies have said.
+struct BackOffice {
+    feed: Feed,
+    book: Book,
+}
+
+impl BackOffice {
+    fn new(subscription: u64) -> BackOffice {
+        let feed = Feed { subscription, shows: 3, port: b"PORT1".to_vec(), group: b"DESK".to_vec(), next: 1 };
+        BackOffice { feed, book: Book::default() }
+    }
+
+    /// Hands over one report; its copy, if there is one, has the feed's number and is taken into the tallies.
+    fn hear(&mut self, text: &[u8], report: &Report) {
+        let copied = copy(&self.feed, 1024, text);
+        let is_wanted = match self.feed.subscription {
+            1 => report.kind == Kind::Trade,
+            _ => (report.kind as u64) <= Kind::Trade as u64,
+        };
+        assert_eq!((copied.number, copied.copy.is_empty()), (0, !is_wanted));
+        assert_eq!(copied.next_after, self.feed.next + u64::from(is_wanted));
+        if is_wanted {
+            assert!(copied.copy.len() <= LONGEST_REPORT);
+            let read = read_copy(&copied.copy).expect("what is written can be read");
+            assert_eq!((number(&read, 34), number(&read, 17)), (self.feed.next, self.feed.next));
+            assert_same_but_for_six_fields(&read, report);
+            self.book.tell(&read);
+        }
+        self.feed.next = copied.next_after;
+    }
+}
+
+/// A copy has the report's kind and fields, but for 9, 10, 17, 34, 109 and 797.
+fn assert_same_but_for_six_fields(copy: &Report, report: &Report) {
+    let others = |of: &Report| -> Vec<(u32, Vec<u8>)> {
+        let fields = of.fields.iter().filter(|field| ![9, 10, 17, 34, 109, 797].contains(&field.tag));
+        fields.map(|field| (field.tag, field.value.to_vec())).collect()
+    };
+    assert_eq!((copy.kind, others(copy)), (report.kind, others(report)));
+    assert_eq!((copy.value(109), copy.value(797)), (Some(&b"PORT1-DESK"[..]), Some(&b"Y"[..])));
 }
 
 /// The two reports of a trade follow each other, say the same of it, and are not of one MPID.
@@ -178,10 +221,22 @@ fn met(market: &Market) -> u64 {
 struct History {
     desk: Desk,
     book: Book,
+    reconciliation: BackOffice,
+    full: BackOffice,
     steps_left: u64,
 }
 
 impl History {
+    fn new() -> History {
+        History {
+            desk: Desk::new(),
+            book: Book::default(),
+            reconciliation: BackOffice::new(1),
+            full: BackOffice::new(2),
+            steps_left: 0,
+        }
+    }
+
     fn market(&self) -> &Market {
         self.desk.market().expect("a market is open")
     }
@@ -192,14 +247,14 @@ impl History {
         match command {
             Command::Open { .. } => {
                 if self.desk.answer(command) == "o 0" {
-                    self.book = Book::default();
+                    *self = History { desk: self.desk.clone(), ..History::new() };
                 } else {
                     assert_eq!(self.desk.market(), before.as_ref());
                 }
             }
             Command::Submit { area, message } => self.play_submit(before.as_ref(), message, *area),
             Command::Run { area, budget } => self.play_run(before.as_ref(), *area, *budget),
-            Command::Depth { .. } | Command::Read { .. } => {
+            Command::Depth { .. } | Command::Read { .. } | Command::Copy { .. } | Command::ReadCopy { .. } => {
                 self.desk.answer(command);
                 assert_eq!(self.desk.market(), before.as_ref());
             }
@@ -265,6 +320,8 @@ impl History {
             assert!(report.value(17).is_none() || number(report, 17) == number_before);
             number_before += 1;
             self.book.tell(report);
+            self.reconciliation.hear(text, report);
+            self.full.hear(text, report);
         }
         assert_eq!(self.market().next_number(), number_before);
         assert_no_self_trade(&reports);
@@ -274,6 +331,9 @@ impl History {
     fn look(&self) {
         assert_is_market(self.market());
         self.book.assert_conserved(self.market());
+        assert_eq!(self.full.book, self.book, "a full feed's copies say what the reports say");
+        assert_eq!(self.reconciliation.book.bought, self.reconciliation.book.sold);
+        assert_eq!(self.reconciliation.book.bought, self.book.bought);
         if self.market().in_work().is_none() {
             assert_depth_adds_up(self.market());
         }
@@ -286,9 +346,9 @@ fn commands(seed: u64, count: u64) -> Vec<Command> {
 }
 
 #[test]
-fn demand_3_holds_after_every_call_of_generated_histories() {
+fn demand_3_and_the_feeds_accounts_hold_after_every_call_of_generated_histories() {
     for (seed, count) in HISTORIES {
-        let mut history = History { desk: Desk::new(), book: Book::default(), steps_left: 0 };
+        let mut history = History::new();
         for command in commands(seed, count) {
             history.play(&command);
         }
@@ -302,7 +362,8 @@ fn a_generated_history_meets_every_outcome() {
     for (seed, count) in HISTORIES {
         for command in commands(seed, count) {
             let answer = desk.answer(&command);
-            let words: Vec<&str> = answer.split(' ').take(if answer.starts_with("x 0") { 3 } else { 2 }).collect();
+            let is_read = answer.starts_with("x 0") || answer.starts_with("y 0");
+            let words: Vec<&str> = answer.split(' ').take(if is_read { 3 } else { 2 }).collect();
             *answers.entry(words.join(" ")).or_default() += 1;
             let fields = answer
                 .split('|')
@@ -316,7 +377,7 @@ fn a_generated_history_meets_every_outcome() {
         "o 0", "o 9", "s 0", "s 1", "s 3", "s 4", "s 5", "s 6", "s 7", "s 8", "r 0", "r 1", "d 0", "d 3", "d 10",
         "x 11", "x 0 1", "x 0 2", "x 0 3", "x 0 4", "x 0 5", "x 0 6", "x 0 7", "103=0", "103=1", "103=6", "103=99",
         "102=0", "102=1", "102=2", "373=1", "373=2", "373=3", "373=4", "373=5", "373=6", "373=9", "373=11", "378=99",
-        "378=100",
+        "378=100", "c 0", "c 1", "c 4", "c 11", "c 17", "y 11", "y 0 1", "y 0 2", "y 0 3", "y 0 4",
     ] {
         assert!(answers.contains_key(outcome), "{outcome} never came up");
     }

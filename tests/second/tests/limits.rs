@@ -1,8 +1,9 @@
 //! Limits that are looked at through the library rather than through commands.
 
 use second::compose::{cancel, new_order, order, Draft};
+use second::copy::{copy, Feed};
 use second::market::{Market, Participant, Refusal};
-use second::read::read;
+use second::read::{read, read_copy};
 
 /// Venue V, port P, code 350 with one MPID.
 fn market_from(first_number: u64) -> Market {
@@ -68,12 +69,13 @@ fn refusals_have_the_papers_numbers() {
         Refusal::SettingWrong,
         Refusal::SideWrong,
         Refusal::NotAReport,
+        Refusal::FeedSettingWrong,
     ];
-    assert_eq!(in_order.map(Refusal::number), [1, 2, 3, 4, 5, 6, 7, 8, 9, 10, 11]);
+    assert_eq!(in_order.map(Refusal::number), [1, 2, 3, 4, 5, 6, 7, 8, 9, 10, 11, 17]);
 }
 
-#[test]
-fn the_longest_reports_are_402_bytes() {
+/// The longest Trade and the longest Replaced.
+fn longest_reports() -> [Vec<u8>; 2] {
     let id = "x".repeat(32);
     let head =
         "35=8|34=999999999|49=12345678|50=DJGB|52=20261116-09:00:00.000|56=12345678|1=0123456789|6=-999999.999999|";
@@ -86,10 +88,20 @@ fn the_longest_reports_are_402_bytes() {
         "{head}11={id}|14=999999999|17=999999999|20=0|37=255|38=999999999|39=1|40=2|41={id}|44=-999999.999|{tail}\
          150=5|151=999999999|378=100|423=9|8060=1|"
     );
-    let lengths = [trade, replaced].map(|text| {
-        let bytes = Draft::of_text(&text).bytes();
-        assert!(read(&bytes).is_some());
-        bytes.len()
-    });
-    assert_eq!(lengths.into_iter().max(), Some(402));
+    [trade, replaced].map(|text| Draft::of_text(&text).bytes())
+}
+
+#[test]
+fn the_longest_reports_are_402_bytes() {
+    let reports = longest_reports();
+    assert!(reports.iter().all(|report| read(report).is_some()));
+    assert_eq!(reports.map(|report| report.len()).into_iter().max(), Some(402));
+}
+
+#[test]
+fn the_longest_copies_are_432_bytes() {
+    let feed = Feed { subscription: 2, shows: 3, port: vec![b'p'; 15], group: vec![b'g'; 14], next: 999_999_999 };
+    let copies = longest_reports().map(|report| copy(&feed, 1024, &report).copy);
+    assert!(copies.iter().all(|copy| read_copy(copy).is_some()));
+    assert_eq!(copies.map(|copy| copy.len()).into_iter().max(), Some(432));
 }

@@ -13,6 +13,10 @@ pub mod checks;
 
 pub mod clock;
 
+pub mod copies;
+
+pub mod feeds;
+
 pub mod messages;
 
 pub mod opening;
@@ -210,6 +214,35 @@ points! {
         read_body_length_is_canonical_and_true
         read_account_and_mpid_on_the_execution_kinds_only
         read_wants_tags_in_their_order
+    }
+    feeds {
+        whole_bytes_of_each_copy
+        a_full_feed_copies_all_that_happens_to_an_order
+        a_reconciliation_feed_copies_trades_alone
+        a_feed_counts_its_copies
+        first_and_last_number_of_a_feed
+        lengths_of_one_identifier
+        lengths_of_two_identifiers
+        bytes_of_identifiers
+        an_identifier_that_is_not_shown_is_not_looked_at
+        settings_that_mean_nothing
+        areas_of_a_feed
+        refusals_of_a_feed_come_in_their_order
+        what_is_no_report_is_not_copied
+        a_copy_is_the_report_but_for_six_fields
+        fields_that_look_like_others_are_not_touched
+        the_longest_copies
+    }
+    copies {
+        copies_of_four_kinds_are_read
+        a_report_is_no_copy
+        copy_indicator_is_y_in_its_place
+        identifiers_of_a_copy
+        numbers_of_a_copy
+        ranges_and_sets_of_a_copy_are_those_of_a_report
+        forms_of_a_copy_are_those_of_a_report
+        one_copy_and_nothing_beside_it
+        tags_of_a_copy_stand_in_their_order
     }
 }
 

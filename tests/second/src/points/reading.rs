@@ -5,10 +5,10 @@ use crate::compose::{Draft, TIME};
 use crate::script::Script;
 
 /// The kinds by the numbers that Read gives.
-const ACCEPTED: u64 = 1;
-const REPLACED: u64 = 2;
-const CANCELED: u64 = 3;
-const TRADE: u64 = 4;
+pub(super) const ACCEPTED: u64 = 1;
+pub(super) const REPLACED: u64 = 2;
+pub(super) const CANCELED: u64 = 3;
+pub(super) const TRADE: u64 = 4;
 const REJECTED: u64 = 5;
 const CANCEL_REJECT: u64 = 6;
 const SESSION_REJECT: u64 = 7;
@@ -21,7 +21,7 @@ fn report(msg_type: &str, body: &str) -> Draft {
     ))
 }
 
-fn accepted() -> Draft {
+pub(super) fn accepted() -> Draft {
     report(
         "8",
         "1=acct|6=0.000000|11=a|14=0|17=7|20=0|37=3|38=100|39=0|40=2|44=0.100|47=A|54=1|55=350|59=0|60=|109=10|150=0|\
@@ -29,7 +29,7 @@ fn accepted() -> Draft {
     )
 }
 
-fn replaced() -> Draft {
+pub(super) fn replaced() -> Draft {
     report(
         "8",
         "6=0.000000|11=b|14=0|17=7|20=0|37=3|38=100|39=5|40=2|41=a|44=0.100|47=A|54=1|55=350|59=0|60=|150=5|151=100|\
@@ -38,12 +38,12 @@ fn replaced() -> Draft {
 }
 
 /// Replaced by a decrement.
-fn decremented() -> Draft {
+pub(super) fn decremented() -> Draft {
     replaced().with("11", "a").inserting("423", "378", "100")
 }
 
 /// Canceled with neither 41 nor 378, which is no report yet.
-fn canceled() -> Draft {
+pub(super) fn canceled() -> Draft {
     report(
         "8",
         "6=0.000000|11=a|14=0|17=7|20=0|37=3|38=100|39=4|40=2|44=0.100|47=A|54=1|55=350|59=0|60=|150=4|151=0|423=9|\
@@ -51,15 +51,15 @@ fn canceled() -> Draft {
     )
 }
 
-fn canceled_by_request() -> Draft {
+pub(super) fn canceled_by_request() -> Draft {
     canceled().inserting("44", "41", "old")
 }
 
-fn canceled_unrequested(reason: &str) -> Draft {
+pub(super) fn canceled_unrequested(reason: &str) -> Draft {
     canceled().inserting("423", "378", reason)
 }
 
-fn trade() -> Draft {
+pub(super) fn trade() -> Draft {
     report(
         "8",
         "1=acct|6=0.100000|11=a|14=60|17=7|20=0|31=0.100|32=60|37=3|38=100|39=1|40=2|44=0.100|47=P|54=2|55=350|59=3|\
@@ -67,20 +67,20 @@ fn trade() -> Draft {
     )
 }
 
-fn rejected() -> Draft {
+pub(super) fn rejected() -> Draft {
     report("8", "6=0.000000|11=a|14=0|17=7|20=0|37=NONE|38=100|39=8|54=1|55=351|103=1|150=8|151=0|")
 }
 
-fn cancel_reject() -> Draft {
+pub(super) fn cancel_reject() -> Draft {
     report("9", "11=a|37=NONE|39=8|41=x|102=1|434=1|")
 }
 
-fn session_reject() -> Draft {
+pub(super) fn session_reject() -> Draft {
     report("3", "45=1|371=54|372=D|373=5|")
 }
 
 /// One report of each kind, with the number of its kind.
-fn one_of_each() -> [(Draft, u64); 7] {
+pub(super) fn one_of_each() -> [(Draft, u64); 7] {
     [
         (accepted(), ACCEPTED),
         (replaced(), REPLACED),

@@ -13,8 +13,8 @@ slice-aggregate-same c = search needs
 same-requires : tie.Need-same-requires
 same-requires c κs = search needs
 
-field-at-requires : tie.Need-field-at-requires
-field-at-requires c κs = search (needs, ten-within)
+length-at-requires : tie.Need-length-at-requires
+length-at-requires c κs = search (needs, ten-within)
 
 length-in-requires : tie.Need-length-in-requires
 length-in-requires c κs = search needs
@@ -32,7 +32,7 @@ body-at-spec =
     part-at-requires
     slice-aggregate-same
     same-requires
-    field-at-requires
+    length-at-requires
     length-in-requires
     returns
     returns-2)

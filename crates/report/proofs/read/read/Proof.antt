@@ -10,16 +10,11 @@ kind-of-requires c κs = search needs
 slots-of-requires : tie.Need-slots-of-requires
 slots-of-requires c κs = search needs
 
-read-framed-requires : tie.Need-read-framed-requires
-read-framed-requires c κs = search needs
-
-reading-requires : tie.Need-reading-requires
-reading-requires c κs = search needs
+read-as-requires : tie.Need-read-as-requires
+read-as-requires c κs = search needs
 
 returns : tie.Need-returns
 returns c = search (needs, read-is)
 
 pub read-spec : {M : Type 1} → statement M
-read-spec =
-    tie.close
-    (tie.spec kind-of-requires slots-of-requires read-framed-requires reading-requires returns)
+read-spec = tie.close (tie.spec kind-of-requires slots-of-requires read-as-requires returns)

@@ -11,18 +11,18 @@ use borrow.Author.Tests.{ne-eqb, ltb-true}
 use Rattle.octets.proofs.Bools.{split, both-l, both-r}
 use Rattle.decimal.specs.Writing.{decimal}
 use Rattle.decimal.proofs.Afters.{digits-decimal}
 use Rattle.report.specs.declared.Value.the-variants.{Absent, Char}
 use Rattle.report.specs.declared.Field.{Field}
 use Rattle.report.specs.declared.Slot.{Slot}
 use Rattle.report.specs.declared.Kind.the-variants.{CancelReject, SessionReject}
 use Rattle.report.specs.Fields.{field, isAbsent, valueBytes, label, written, fieldBytes, rowBytes}
 use Rattle.report.specs.Frame.{checkSum, version, front, trailer, reportBytes}
 use Rattle.report.specs.Parse.{hop, placeOf}
 use Rattle.report.specs.Reports.{executionFor, kindFor, firstOf, kindOf}
+use Rattle.report.proofs.Labels.{differ, written-starts}
 use Rattle.report.proofs.Walks.{fresh, found}
 use Rattle.report.proofs.Taken.{NoSoh, taken, clean-append, clean-digits}
 use Rattle.report.proofs.Back.{Fits, fits-none, fits-some, fits-skip, moved, starts-back}
-use Rattle.readback.proofs.Rowed.{differ, written-starts}
 
 -- ---- passing a field
 hop-past : (x rest : List ℕ) → NoSoh x → hop (x ++ (1 ∷ rest)) ≡ suc (length x)
@@ -50,7 +50,7 @@ module _ (tag : ℕ) (v : List ℕ) where
       ∙ sym written-long
 
 -- the first character of a tag's value is looked for behind a field of another tag
-pass : (g tag : ℕ) (v rest : List ℕ) → NoSoh v → tag < 10000 → differ (label g) (label tag) ≡ true → firstOf (written tag v ++ rest) g ≡ firstOf rest g
+pub pass : (g tag : ℕ) (v rest : List ℕ) → NoSoh v → tag < 10000 → differ (label g) (label tag) ≡ true → firstOf (written tag v ++ rest) g ≡ firstOf rest g
 unfolding firstOf
 pass g tag v rest n h d =
     let lab = label g in
@@ -64,7 +64,7 @@ pass g tag v rest n h d =
     ap (λ (k : ℕ). getD (w ++ rest) k 0) at ∙ getD-append-add w rest (placeOf lab true rest + length lab) 0
 
 -- and found where it stands
-hit : (g c : ℕ) (rest : List ℕ) → firstOf (label g ++ (c ∷ rest)) g ≡ c
+pub hit : (g c : ℕ) (rest : List ℕ) → firstOf (label g ++ (c ∷ rest)) g ≡ c
 unfolding firstOf
 hit g c rest =
     let s = label g ++ (c ∷ rest) in
@@ -120,7 +120,7 @@ version-clean =
     ((λ q. omega (arith, q)), ((λ q. omega (arith, q)), ((λ q. omega (arith, q)), ((λ q. omega (arith, q)), ((λ q. omega (arith, q)), ((λ q. omega (arith, q)), ((λ q. omega (arith, q)), tt)))))))
 
 -- 8 and 9 stand in front
-report-first : (g : ℕ) (body : List ℕ) → length body ≤ 489 → differ (label g) (label 8) ≡ true → differ (label g) (label 9) ≡ true
+pub report-first : (g : ℕ) (body : List ℕ) → length body ≤ 489 → differ (label g) (label 8) ≡ true → differ (label g) (label 9) ≡ true
     → firstOf (reportBytes body) g ≡ firstOf (body ++ trailer (checkSum (front body))) g
 unfolding reportBytes front
 report-first g body h d e =

@@ -1,0 +1,74 @@
+-- A copy of a Trade and one of an Accepted without an MPID, worked out by hand and computed; and what comes of a Rejected. They rule out, byte for
+-- byte: 34 or 17 left as the report's, 109 kept or left out, 797 at another place, 9 or 10 not worked out anew; a Rejected copied, and a
+-- number raised for a report that is not copied.
+use mathlib.Core.Path.{_≡_, refl}
+use mathlib.Core.List.{List, []}
+use Prim.Native.Nat.{ℕ}
+use Rattle.octets.specs.Characters.{bytes, message}
+use Rattle.octets.specs.Octets.{partAt, sameBytes}
+use Rattle.decimal.specs.Writing.{decimal, places, plain, fixed}
+use Rattle.decimal.specs.Canonical.{bare, bareOf, exactlyOf, amountOf, fixedOf}
+use Rattle.decimal.specs.Reading.{isDigit, digitOf, runOf, numberAfter, isNumber, numOf, digitAt, isFraction, fractionOf, sizeOf, levelOf, isTimeLength, twoAt, timeShaped, timeRanged, isTime}
+use Rattle.fix.specs.Garbled.{sumOf, checkSum}
+use Rattle.report.specs.Fields.{label, written, fieldBytes}
+use Rattle.report.specs.Frame.{version, front, trailer, reportBytes}
+use Rattle.report.specs.Shapes.{oneIn, wordIn, recordIn, textIn, timeIn}
+use Rattle.report.specs.Parse.{valueAt, fieldAt, hop, placeOf}
+use Rattle.report.specs.Slots.{acceptedSlots, tradeSlots, rejectedSlots}
+use Rattle.report.specs.Reports.{bodyAt, trailerAt, readFramed, executionFor, kindFor, firstOf, kindOf, readOf}
+use Rattle.feed.specs.declared.CopyAnswer.the-variants.{BadSetting, NumbersSpent, NotCopied, Copied}
+use Rattle.feed.specs.Rows.{with797, copyValue, copyField, copyRow}
+use Rattle.feed.specs.Settings.{clientOf, isIdentifier, areIdentifiers, isSetting}
+use Rattle.feed.specs.Copies.{copyBytes, fed}
+
+-- open the definitions that a copy is computed with
+computes : ℕ
+unfolding partAt sameBytes decimal places plain fixed bare bareOf exactlyOf amountOf fixedOf isDigit digitOf runOf numberAfter isNumber numOf digitAt isFraction fractionOf sizeOf levelOf isTimeLength twoAt timeShaped timeRanged isTime sumOf checkSum label written fieldBytes version front trailer reportBytes oneIn wordIn recordIn textIn timeIn valueAt fieldAt hop placeOf acceptedSlots tradeSlots rejectedSlots bodyAt trailerAt readFramed executionFor kindFor firstOf kindOf readOf with797 copyValue copyField copyRow clientOf isIdentifier areIdentifiers isSetting copyBytes fed
+computes = 0
+
+-- the identifiers P1 and G
+abbrev p1 : List ℕ
+p1 = bytes "P1"
+
+abbrev g : List ℕ
+g = bytes "G"
+
+-- a Trade of an order with an MPID: report 9, 17=9, 109=10
+abbrev trade : List ℕ
+trade = message "8=FIX.4.2|9=243|35=8|34=9|49=V|50=DJGB|52=20260105-09:00:01|56=P|1=ACC-1|6=0.100666|11=BUY-1|14=300|17=9|20=0|31=0.100|32=200|37=7|38=1200|39=1|40=2|44=0.100|47=A|54=1|55=350|59=0|60=20260105-09:00:01|109=10|150=1|151=900|375=0|382=1|423=9|851=1|880=9|8060=1|10=115|"
+
+-- an Accepted of an order without one: report 999,999,999
+abbrev accepted : List ℕ
+accepted = message "8=FIX.4.2|9=204|35=8|34=999999999|49=V|50=DJGB|52=20260105-09:00:02|56=P|6=0.000000|11=BUY-1|14=0|17=999999999|20=0|37=255|38=500|39=0|40=2|44=-0.005|47=P|54=2|55=350|59=3|60=20260105-09:00:02|150=0|151=500|423=9|8060=6|10=054|"
+
+-- a Rejected: report 13
+abbrev rejected : List ℕ
+rejected = message "8=FIX.4.2|9=136|35=8|34=13|49=V|50=DJGB|52=20260105-09:00:02|56=P|6=0.000000|11=BUY-2|14=0|17=13|20=0|37=NONE|38=42|39=8|54=1|55=350|103=99|150=8|151=0|10=144|"
+
+-- a full feed that shows both, at number 5: 34=5, 17=5, 109=P1-G, and 797=Y between 423 and 851
+pub copy-of-trade : fed trade 2 3 p1 g 5 1024 ≡ record { answer = Copied 274 6; bytes = message "8=FIX.4.2|9=251|35=8|34=5|49=V|50=DJGB|52=20260105-09:00:01|56=P|1=ACC-1|6=0.100666|11=BUY-1|14=300|17=5|20=0|31=0.100|32=200|37=7|38=1200|39=1|40=2|44=0.100|47=A|54=1|55=350|59=0|60=20260105-09:00:01|109=P1-G|150=1|151=900|375=0|382=1|423=9|797=Y|851=1|880=9|8060=1|10=060|" }
+unfolding computes
+copy-of-trade = refl
+
+-- one that shows the group, at its last number: 109=G though the report has none, and 797=Y between 423 and 8060
+pub copy-of-accepted : fed accepted 2 2 [] g 999999999 1024 ≡ record { answer = Copied 239 1000000000; bytes = message "8=FIX.4.2|9=216|35=8|34=999999999|49=V|50=DJGB|52=20260105-09:00:02|56=P|6=0.000000|11=BUY-1|14=0|17=999999999|20=0|37=255|38=500|39=0|40=2|44=-0.005|47=P|54=2|55=350|59=3|60=20260105-09:00:02|109=G|150=0|151=500|423=9|797=Y|8060=6|10=150|" }
+unfolding computes
+copy-of-accepted = refl
+
+-- a Rejected is not copied and takes no number, nor is an Accepted by a reconciliation feed
+pub rejected-not : fed rejected 2 3 p1 g 5 1024 ≡ record { answer = NotCopied 5; bytes = [] }
+unfolding computes
+rejected-not = refl
+
+pub accepted-not : fed accepted 1 3 p1 g 5 1024 ≡ record { answer = NotCopied 5; bytes = [] }
+unfolding computes
+accepted-not = refl
+
+-- refusals come first: a Rejected with number 0, and one with an identifier that is shown and empty, though its number is 0 too
+pub rejected-spent : fed rejected 2 3 p1 g 0 1024 ≡ record { answer = NumbersSpent; bytes = [] }
+unfolding computes
+rejected-spent = refl
+
+pub rejected-unset : fed rejected 2 3 p1 [] 0 1024 ≡ record { answer = BadSetting; bytes = [] }
+unfolding computes
+rejected-unset = refl

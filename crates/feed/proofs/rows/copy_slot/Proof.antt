@@ -1,0 +1,16 @@
+-- `rows::copy_slot` meets its contract.
+use borrow.Author.Tests.{eq-eqb, ne-eqb}
+use Rattle.feed.specs.Rows.{copySlot}
+use Rattle.feed.proofs.rows.copy_slot.Statement.{statement}
+use Rattle.feed.proofs.rows.copy_slot.Tie as tie
+
+returns : tie.Need-returns
+unfolding copySlot
+returns c = rw (eq-eqb _ _ (c .if1 .taken))
+
+returns-2 : tie.Need-returns-2
+unfolding copySlot
+returns-2 c = rw (ne-eqb _ _ (c .if1 .left))
+
+pub copy-slot-spec : {M : Type 1} → statement M
+copy-slot-spec = tie.close (tie.spec returns returns-2)

@@ -1,0 +1,124 @@
+// The row of a copy from the row of its report, and the slots of a copy from those of the report's kind: each one changed up to the first
+// of a tag above 797, 797's own in front of that one, and those behind it moved on by one.
+use report::Field;
+use report::Shape;
+use report::Slot;
+use report::Value;
+ghost use mathlib.Core.Path.{_≡_};
+ghost use mathlib.Core.Bool.{_||_};
+ghost use lib.Dec.{eqb};
+ghost use Rattle.feed.specs.Rows.{copyValue, copyField, copyRow, copySlot, copySlots};
+
+// The value of a field of a copy.
+fn copy_value(value: Value, tag: u64, number: u64, width: usize) -> Value
+    ensures { λ r. ⌜ r ≡ copyValue number width tag value ⌝ }
+{
+    if tag == 34 {
+        return Value::Number(number);
+    }
+    if tag == 17 {
+        return Value::Number(number);
+    }
+    if tag == 109 {
+        return Value::Stored {
+            from: 0,
+            len: width,
+        };
+    }
+    value
+}
+
+// Whether a field of this tag is another in a copy.
+fn is_new(tag: u64) -> bool
+    ensures { λ r. ⌜ r ≡ (eqb tag 34 || eqb tag 17 || eqb tag 109) ⌝ }
+{
+    (tag == 34) | (tag == 17) | (tag == 109)
+}
+
+// A field of a copy.
+fn copy_field(field: Field, number: u64, width: usize) -> Field
+    ensures { λ r. ⌜ r ≡ copyField number width field ⌝ }
+{
+    let tag = field.tag;
+    let old = field.value;
+    let value = copy_value(old, tag, number, width);
+    Field { tag, value }
+}
+
+// The row of a copy.
+pub fn copy_row(fields: [Field; 36], number: u64, width: usize) -> [Field; 36]
+    ensures { λ r. ⌜ r ≡ copyRow number width fields ⌝ }
+{
+    let mut row = fields;
+    let mut held = Field {
+        tag: 797,
+        value: Value::Char(b'Y'),
+    };
+    let mut behind = false;
+    let mut i = 0;
+    while i < 35 {
+        let at = i;
+        let field = row[at];
+        let tag = field.tag;
+        behind = behind | (tag > 797);
+        i += 1;
+        if behind {
+            row[at] = held;
+            held = field;
+        } else {
+            if is_new(tag) {
+                row[at] = copy_field(field, number, width);
+            }
+        }
+    }
+    row[35] = held;
+    row
+}
+
+// A slot of a copy.
+fn copy_slot(slot: Slot) -> Slot
+    ensures { λ r. ⌜ r ≡ copySlot slot ⌝ }
+{
+    if slot.tag == 109 {
+        return Slot {
+            tag: 109,
+            optional: false,
+            shape: Shape::Text { most: 30, low: 33 },
+        };
+    }
+    slot
+}
+
+// The slots of a copy.
+pub fn copy_slots(slots: [Slot; 36]) -> [Slot; 36]
+    ensures { λ r. ⌜ r ≡ copySlots slots ⌝ }
+{
+    let mut all = slots;
+    let mut held = Slot {
+        tag: 797,
+        optional: false,
+        shape: Shape::OneOf {
+            a: 89,
+            b: 89,
+            c: 89,
+            d: 89,
+            e: 89,
+        },
+    };
+    let mut behind = false;
+    let mut i = 0;
+    while i < 35 {
+        let at = i;
+        let slot = all[at];
+        behind = behind | (slot.tag > 797);
+        i += 1;
+        if behind {
+            all[at] = held;
+            held = slot;
+        } else {
+            all[at] = copy_slot(slot);
+        }
+    }
+    all[35] = held;
+    all
+}
