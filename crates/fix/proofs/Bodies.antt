@@ -10,7 +10,7 @@ use native.Mathlib.Nat.{suc-ne-zero, not-suc-le-zero, pow-suc, pow-le-pow-right,
 use lib.Dec.{ltb, leb, eqb}
 use lib.ListN.{length, getD, take, drop}
 use lib.Seq.{getD-take, take-nil}
-use borrow.Author.Tests.{ne-eqb, eqb-true, eqb-false, leb-true, not-true, not-false}
+use borrow.Author.Tests.{ne-eqb, eqb-true, eqb-false, leb-true, ltb-true, not-true, not-false}
 use Rattle.octets.specs.Octets.{partAt}
 use Rattle.octets.proofs.Bools.{split, both-l, both-r, neither-l, neither-r, not-both}
 use Rattle.octets.proofs.Places.{below-or}
@@ -21,12 +21,12 @@ use Rattle.fix.specs.declared.fields.Tag.{Tag}
 use Rattle.fix.specs.declared.fields.Found.{Found}
 use Rattle.fix.specs.declared.fields.Found.the-variants.{At, Nothing}
 use Rattle.fix.specs.declared.frame.Part.{Part}
-use Rattle.fix.specs.declared.frame.Expected.{Expected}
-use Rattle.fix.specs.declared.frame.Expected.the-variants.{Stands, Other}
-use Rattle.fix.specs.Fields.{isText, startsTag, leading, tagOf, valueFrom, valueLen, fieldOf, fieldsAfter, fieldsFrom, fieldsOf, findTag, hasTag, cleanFields, lastTagOr}
+use Rattle.fix.specs.declared.fields.Field.{Field}
+use Rattle.fix.specs.declared.fields.Field.the-variants.{Good, Broken, End}
+use Rattle.fix.specs.Fields.{isText, startsTag, leading, tagOf, valueFrom, valueLen, fieldOf, stepOf, fieldsAfter, fieldsFrom, fieldsOf, findTag, hasTag, cleanFields, lastTagOr}
 use Rattle.fix.specs.Garbled.{headedBy, header, ordered, headerRight, partOf, endOf, tenAt, lengthTrue, sumTrue, garbledMessage, bodyPart}
-use Rattle.fix.specs.Steps.{expectOf, fld}
-use Rattle.fix.proofs.Opening.{Took, stands, other}
+use Rattle.fix.specs.Steps.{fld}
+use Rattle.fix.proofs.Walk.{Says, step-says}
 use Rattle.fix.proofs.Verdict.{plain-none}
 use Rattle.fix.proofs.Plain.{clear-unbroken}
 use Rattle.fix.proofs.Values.{found-behind}
@@ -60,6 +60,14 @@ module _ (s : List ℕ) (h : startsTag s ≡ true) where
       let c = not (eqb (getD s 0 0) 48) in
       leb-true (digitRun s) 4 (both-r a b (both-l (a && b) c (both-l (a && b && c) (eqb (getD s (digitRun s) 0) 61) h)))
 
+  tag-some : 0 < digitRun s
+  unfolding startsTag
+  tag-some =
+      let a = ltb 0 (digitRun s) in
+      let b = leb (digitRun s) 4 in
+      let c = not (eqb (getD s 0 0) 48) in
+      ltb-true 0 (digitRun s) (both-l a b (both-l (a && b) c (both-l (a && b && c) (eqb (getD s (digitRun s) 0) 61) h)))
+
   tag-first : getD s 0 0 ≡ 48 → ⊥
   unfolding startsTag
   tag-first =
@@ -72,7 +80,7 @@ module _ (s : List ℕ) (h : startsTag s ≡ true) where
       let l : leading 0 s < 10 ^ digitRun s = rw zero-add at (leading-below s 0 0 (omega arith)) in
       omega (arith, pow-le-pow-right {n = 10} (omega arith) tag-few)
 
-field-below : (at : ℕ) (s : List ℕ) → fieldOf at s .tag < 10000
+pub field-below : (at : ℕ) (s : List ℕ) → fieldOf at s .tag < 10000
 unfolding fieldOf tagOf
 field-below at s =
     split (eqb (getD s (valueFrom s + valueLen s) 0) 1)
@@ -137,8 +145,16 @@ module _ (at : ℕ) (s : List ℕ) (m : ℕ) (e : fieldOf at s .tag ≡ suc m) w
   unfolding valueFrom tagOf
   value-at = rw starts
 
-ten-from : (at : ℕ) (s : List ℕ) → fieldOf at s .tag ≡ 10 → valueFrom s ≡ 3
+pub ten-from : (at : ℕ) (s : List ℕ) → fieldOf at s .tag ≡ 10 → valueFrom s ≡ 3
 ten-from at s e = omega (arith, value-at at s 9 e, ten-two s (starts at s 9 e) (starts-with at s 9 e))
+
+-- a value stands behind a digit and `=`, at least
+pub some-from : (at : ℕ) (s : List ℕ) → (fieldOf at s .tag ≡ 0 → ⊥) → 2 ≤ valueFrom s
+some-from at s h = go (fieldOf at s .tag) refl
+  where
+    go : (t : ℕ) → fieldOf at s .tag ≡ t → 2 ≤ valueFrom s
+    go zero e = absurd (h e)
+    go (suc m) e = omega (arith, value-at at s m e, tag-some s (starts at s m e))
 
 -- ---- a field cut behind its SOH is the same field
 run-cut : (p : ℕ → Bool) (s : List ℕ) (n : ℕ) → runOf p s ≤ n → runOf p (take n s) ≡ runOf p s
@@ -227,19 +243,33 @@ cut-unbroken (b ∷ s) zero at (suc n) start len p h e q =
     (cut-unbroken s (valueFrom (b ∷ s) + f .len) (suc at) n start len (suc p) r g (omega arith)))
 
 -- ---- the header of a message that is not garbled, and what follows it
+record Took (s : List ℕ) (at tag : ℕ) (p : Part) (next : ℕ) : Type 0 where
+  fields : fieldsFrom at s ≡ fld tag p ∷ fieldsFrom next s
+  ends : endOf p ≡ next
+
 record Next (s : List ℕ) (at t : ℕ) (ts : List ℕ) : Type 0 where
   part : Part
   next : ℕ
   took : Took s at t part next
   rest : headedBy ts (fieldsFrom next s) ≡ true
 
-next-by : (s : List ℕ) (at t : ℕ) (ts : List ℕ) (x : Expected) → 0 < t → x ≡ expectOf s at t → headedBy (t ∷ ts) (fieldsFrom at s) ≡ true → Next s at t ts
-unfolding headedBy
-next-by s at t ts (Stands p next) z e h =
-    let w = stands s at t (Stands p next) p next e refl in
-    let r : (eqb t t && headedBy ts (fieldsFrom next s)) ≡ true = rw (w .fields) at h in
-    record { part = p; next = next; took = w; rest = both-r (eqb t t) _ r }
-next-by s at t ts Other z e h = absurd (not-both h (other s at t Other ts z e refl))
+next-by : (s : List ℕ) (at t : ℕ) (ts : List ℕ) (x : Field) → 0 < t → Says s at x → headedBy (t ∷ ts) (fieldsFrom at s) ≡ true → Next s at t ts
+unfolding headedBy endOf
+next-by s at t ts (Good u start len c) z w h =
+    let r : (eqb u t && headedBy ts (fieldsFrom (c .at) s)) ≡ true = rw (w .fields) at h in
+    let q : u ≡ t = eqb-true u t (both-l (eqb u t) _ r) in
+    record {
+      part = record { start = start; len = len };
+      next = c .at;
+      took = record { fields = rw (← q) (w .fields); ends = w .value };
+      rest = both-r (eqb u t) _ r;
+    }
+next-by s at t ts Broken z w h =
+    let r : (eqb 0 t && headedBy ts []) ≡ true = rw w at h in
+    absurd (not-both (both-l (eqb 0 t) _ r) (ne-eqb 0 t (omega arith)))
+next-by s at t ts End z w h =
+    let r : false ≡ true = rw w at h in
+    absurd (not-both r refl)
 
 module _ (s : List ℕ) (g : garbledMessage s ≡ false) where
   clear-ordered : ordered (fieldsOf s) ≡ true
@@ -258,25 +288,25 @@ module _ (s : List ℕ) (g : garbledMessage s ≡ false) where
 
   -- the header, field by field
   h₈ : Next s 0 8 (9 ∷ 35 ∷ 34 ∷ 49 ∷ 52 ∷ 56 ∷ [])
-  h₈ = next-by s 0 8 (9 ∷ 35 ∷ 34 ∷ 49 ∷ 52 ∷ 56 ∷ []) (expectOf s 0 8) (omega arith) refl heads
+  h₈ = next-by s 0 8 (9 ∷ 35 ∷ 34 ∷ 49 ∷ 52 ∷ 56 ∷ []) (stepOf s 0) (omega arith) (step-says s 0) heads
 
   h₉ : Next s (h₈ .next) 9 (35 ∷ 34 ∷ 49 ∷ 52 ∷ 56 ∷ [])
-  h₉ = next-by s (h₈ .next) 9 (35 ∷ 34 ∷ 49 ∷ 52 ∷ 56 ∷ []) (expectOf s (h₈ .next) 9) (omega arith) refl (h₈ .rest)
+  h₉ = next-by s (h₈ .next) 9 (35 ∷ 34 ∷ 49 ∷ 52 ∷ 56 ∷ []) (stepOf s (h₈ .next)) (omega arith) (step-says s (h₈ .next)) (h₈ .rest)
 
   h₃₅ : Next s (h₉ .next) 35 (34 ∷ 49 ∷ 52 ∷ 56 ∷ [])
-  h₃₅ = next-by s (h₉ .next) 35 (34 ∷ 49 ∷ 52 ∷ 56 ∷ []) (expectOf s (h₉ .next) 35) (omega arith) refl (h₉ .rest)
+  h₃₅ = next-by s (h₉ .next) 35 (34 ∷ 49 ∷ 52 ∷ 56 ∷ []) (stepOf s (h₉ .next)) (omega arith) (step-says s (h₉ .next)) (h₉ .rest)
 
   h₃₄ : Next s (h₃₅ .next) 34 (49 ∷ 52 ∷ 56 ∷ [])
-  h₃₄ = next-by s (h₃₅ .next) 34 (49 ∷ 52 ∷ 56 ∷ []) (expectOf s (h₃₅ .next) 34) (omega arith) refl (h₃₅ .rest)
+  h₃₄ = next-by s (h₃₅ .next) 34 (49 ∷ 52 ∷ 56 ∷ []) (stepOf s (h₃₅ .next)) (omega arith) (step-says s (h₃₅ .next)) (h₃₅ .rest)
 
   h₄₉ : Next s (h₃₄ .next) 49 (52 ∷ 56 ∷ [])
-  h₄₉ = next-by s (h₃₄ .next) 49 (52 ∷ 56 ∷ []) (expectOf s (h₃₄ .next) 49) (omega arith) refl (h₃₄ .rest)
+  h₄₉ = next-by s (h₃₄ .next) 49 (52 ∷ 56 ∷ []) (stepOf s (h₃₄ .next)) (omega arith) (step-says s (h₃₄ .next)) (h₃₄ .rest)
 
   h₅₂ : Next s (h₄₉ .next) 52 (56 ∷ [])
-  h₅₂ = next-by s (h₄₉ .next) 52 (56 ∷ []) (expectOf s (h₄₉ .next) 52) (omega arith) refl (h₄₉ .rest)
+  h₅₂ = next-by s (h₄₉ .next) 52 (56 ∷ []) (stepOf s (h₄₉ .next)) (omega arith) (step-says s (h₄₉ .next)) (h₄₉ .rest)
 
   h₅₆ : Next s (h₅₂ .next) 56 []
-  h₅₆ = next-by s (h₅₂ .next) 56 [] (expectOf s (h₅₂ .next) 56) (omega arith) refl (h₅₂ .rest)
+  h₅₆ = next-by s (h₅₂ .next) 56 [] (stepOf s (h₅₂ .next)) (omega arith) (step-says s (h₅₂ .next)) (h₅₂ .rest)
 
   whole : fieldsOf s ≡ fld 8 (h₈ .part) ∷ fld 9 (h₉ .part) ∷ fld 35 (h₃₅ .part) ∷ fld 34 (h₃₄ .part) ∷ fld 49 (h₄₉ .part) ∷ fld 52 (h₅₂ .part) ∷ fld 56 (h₅₆ .part)
       ∷ fieldsFrom (h₅₆ .next) s
