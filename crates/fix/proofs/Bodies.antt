@@ -23,9 +23,9 @@ use Rattle.fix.specs.declared.fields.Found.the-variants.{At, Nothing}
 use Rattle.fix.specs.declared.frame.Part.{Part}
 use Rattle.fix.specs.declared.fields.Field.{Field}
 use Rattle.fix.specs.declared.fields.Field.the-variants.{Good, Broken, End}
-use Rattle.fix.specs.Fields.{isText, startsTag, leading, tagOf, valueFrom, valueLen, fieldOf, stepOf, fieldsAfter, fieldsFrom, fieldsOf, findTag, hasTag, cleanFields, lastTagOr}
+use Rattle.fix.specs.Fields.{Fld, isText, startsTag, leading, tagOf, valueFrom, valueLen, fieldOf, stepOf, fieldsAfter, fieldsFrom, fieldsOf, findTag, hasTag, cleanFields, lastTagOr}
 use Rattle.fix.specs.Garbled.{headedBy, header, ordered, headerRight, partOf, endOf, tenAt, lengthTrue, sumTrue, garbledMessage, bodyPart}
-use Rattle.fix.specs.Steps.{fld}
+use Rattle.fix.specs.Steps.{fld, fieldAt, rowFields, moved, Holds, Held}
 use Rattle.fix.proofs.Walk.{Says, step-says}
 use Rattle.fix.proofs.Verdict.{plain-none}
 use Rattle.fix.proofs.Plain.{clear-unbroken}
@@ -242,6 +242,71 @@ cut-unbroken (b ∷ s) zero at (suc n) start len p h e q =
     cut-first at b s n p some (omega (arith, behind-ten s (valueFrom (b ∷ s) + valueLen (b ∷ s)) (suc at) start len g))
     (cut-unbroken s (valueFrom (b ∷ s) + f .len) (suc at) n start len (suc p) r g (omega arith)))
 
+-- ---- a field of a part, as a field of the message
+moved-is : (at p d : ℕ) (s u : List ℕ) → fieldOf at s .tag ≡ fieldOf p u .tag → valueFrom u ≡ valueFrom s → fieldOf p u .len ≡ valueLen s → at ≡ d + p
+    → fieldOf at s ≡ moved d (fieldOf p u)
+unfolding moved fieldOf
+moved-is at p d s u t v l q =
+    let a : at + valueFrom s ≡ d + (p + valueFrom u) = omega arith in
+    rw (← t, ← a, l)
+
+tag-at : (row : List ℕ) (j : ℕ) (f : Fld) → fieldAt row j ≡ f → getD row (j * 3) 0 ≡ f .tag
+unfolding fieldAt
+tag-at row j f e = ap (λ (g : Fld). g .tag) e
+
+-- ---- the same fields by a row: those before the field 10, as fields of the part that is cut off there
+record First (row : List ℕ) (j c : ℕ) (f : Fld) (fs : List Fld) : Type 0 where
+  here : fieldAt row j ≡ f
+  next : rowFields row (j + 1) (c - 1) ≡ fs
+  room : j < 341
+  more : j + 1 + (c - 1) ≤ 341
+
+first : (row : List ℕ) (j c : ℕ) (f : Fld) (fs : List Fld) → rowFields row j c ≡ f ∷ fs → j + c ≤ 341 → First row j c f fs
+unfolding rowFields
+first row j zero f fs e h = let z : _≡_ {A = ℕ} 0 1 = cc in absurd (no z)
+first row j (suc c) f fs e h =
+    let q : suc c - 1 ≡ c = omega arith in
+    let x : rowFields row (j + 1) c ≡ fs = cc in
+    record { here = cc; next = rw q x; room = omega arith; more = omega arith }
+
+-- a field, and the fields behind it, where the cut is behind it
+cut-held : (at b : ℕ) (s : List ℕ) (n p d : ℕ) (row : List ℕ) (j : ℕ) → eqb (fieldOf at (b ∷ s) .tag) 0 ≡ false → valueFrom (b ∷ s) + valueLen (b ∷ s) < suc n
+    → fieldAt row j ≡ fieldOf at (b ∷ s) → (fieldOf at (b ∷ s) .tag ≡ 10 → ⊥) → at ≡ d + p → j < 341
+    → Held row d (j + 1) (fieldsAfter (valueFrom (b ∷ s) + valueLen (b ∷ s)) (suc p) (take n s)) → Held row d j (fieldsAfter 0 p (b ∷ take n s))
+unfolding fieldsAfter
+cut-held at b s n p d row j some h here ten q room r =
+    let m = fieldOf at (b ∷ s) .tag - 1 in
+    let e : fieldOf at (b ∷ s) .tag ≡ suc m = omega (arith, eqb-false (fieldOf at (b ∷ s) .tag) 0 some) in
+    let c : fieldOf p (b ∷ take n s) .tag ≡ suc m = field-cut at (b ∷ s) (suc n) m e h p in
+    let t : eqb (fieldOf p (b ∷ take n s) .tag) 0 ≡ false = rw c (ne-eqb (suc m) 0 (suc-ne-zero m)) in
+    let l : fieldOf p (b ∷ take n s) .len ≡ valueLen (b ∷ s) = length-cut at b s n m e h p in
+    let v = from-cut at (b ∷ s) (suc n) m e h in
+    (record { here = here ∙ moved-is at p d (b ∷ s) (b ∷ take n s) (e ∙ sym c) v l q; other = λ z. ten (e ∙ sym c ∙ z); room = room }, rw (t, l, v) r)
+
+held : (s : List ℕ) (k at d p n start len : ℕ) (row : List ℕ) (j c : ℕ) → hasTag 0 (fieldsAfter k at s) ≡ false → findTag 10 (fieldsAfter k at s) ≡ At start len
+    → start ≡ at + n + 3 → at ≡ d + p → rowFields row j c ≡ fieldsAfter k at s → j + c ≤ 341 → Held row d j (fieldsAfter k p (take n s))
+unfolding fieldsAfter hasTag findTag fieldOf
+held [] k at d p n start len row j c h e q z y r = let z : _≡_ {A = ℕ} 0 1 = cc in absurd (no z)
+held (b ∷ s) (suc k) at d p zero start len row j c h e q z y r = absurd (omega (arith, behind-ten s k (suc at) start len e))
+held (b ∷ s) (suc k) at d p (suc n) start len row j c h e q z y r = held s k (suc at) d (suc p) n start len row j c h e (omega arith) (omega arith) y r
+held (b ∷ s) zero at d p zero start len row j c h e q z y r =
+    let x = first row j c _ _ y r in
+    split (eqb (fieldOf at (b ∷ s) .tag) 10)
+    (λ t. (tag-at row j (fieldOf at (b ∷ s)) (x .here) ∙ eqb-true _ 10 t, x .room))
+    (λ o. absurd (omega (arith, behind-ten s _ (suc at) start len (rw o at e))))
+held (b ∷ s) zero at d p (suc n) start len row j c h e q z y r =
+    split (eqb (fieldOf at (b ∷ s) .tag) 10)
+    (λ t. absurd (ten-first at b s start len n (eqb-true _ 10 t) (rw t at e) q))
+    (λ o.
+    let f = fieldOf at (b ∷ s) in
+    let some = neither-l (eqb (f .tag) 0) _ h in
+    let u : hasTag 0 (fieldsAfter (valueFrom (b ∷ s) + f .len) (suc at) s) ≡ false = rw some at (neither-r (eqb (f .tag) 0) _ h) in
+    let g : findTag 10 (fieldsAfter (valueFrom (b ∷ s) + f .len) (suc at) s) ≡ At start len = rw (o, some) at e in
+    let x = first row j c _ _ y r in
+    let w : rowFields row (j + 1) (c - 1) ≡ fieldsAfter (valueFrom (b ∷ s) + f .len) (suc at) s = x .next ∙ rw some in
+    cut-held at b s n p d row j some (omega (arith, behind-ten s (valueFrom (b ∷ s) + valueLen (b ∷ s)) (suc at) start len g)) (x .here) (eqb-false (f .tag) 10 o) z (x .room)
+    (held s (valueFrom (b ∷ s) + f .len) (suc at) d (suc p) n start len row (j + 1) (c - 1) u g (omega arith) (omega arith) w (x .more)))
+
 -- ---- the header of a message that is not garbled, and what follows it
 record Took (s : List ℕ) (at tag : ℕ) (p : Part) (next : ℕ) : Type 0 where
   fields : fieldsFrom at s ≡ fld tag p ∷ fieldsFrom next s
@@ -337,3 +402,27 @@ module _ (s : List ℕ) (g : garbledMessage s ≡ false) where
   -- the body is nothing but fields
   pub body-unbroken : hasTag 0 (fieldsOf (partAt s (bodyPart s .start) (bodyPart s .len))) ≡ false
   body-unbroken = body-by (findTag 10 (fieldsOf s)) refl
+
+  behind-row : (row : List ℕ) (n : ℕ) → fieldsOf s ≡ rowFields row 0 (suc (suc (suc (suc (suc (suc (suc n))))))) → rowFields row 7 n ≡ fieldsFrom (endOf (partOf s 56)) s
+  unfolding rowFields
+  behind-row row n w =
+      let q = sym w ∙ whole in
+      let x : drop 7 (rowFields row 0 (suc (suc (suc (suc (suc (suc (suc n)))))))) ≡ fieldsFrom (h₅₆ .next) s = ap (λ (l : List Fld). drop 7 l) q in
+      rw body-start x
+
+  -- the row that holds the fields of the message holds those of the body behind the header
+  held-by : (row : List ℕ) (count : ℕ) (f : Found) → findTag 10 (fieldsOf s) ≡ f → 8 ≤ count → count ≤ 341 → fieldsOf s ≡ rowFields row 0 count
+      → Held row (bodyPart s .start) 7 (fieldsOf (partAt s (bodyPart s .start) (bodyPart s .len)))
+  unfolding partAt bodyPart tenAt partOf fieldsFrom rowFields
+  held-by row count Nothing e l m w = absurd (not-both (plain-none s Nothing (sym e) refl) g)
+  held-by row count (At start len) e l m w =
+      let at = endOf (partOf s 56) in
+      let f : findTag 10 (fieldsAfter 0 at (drop at s)) ≡ At start len = sym behind-find ∙ e in
+      let t : tenAt s ≡ start - 3 = rw e in
+      let z : count ≡ suc (suc (suc (suc (suc (suc (suc (count - 7))))))) = omega arith in
+      let v : rowFields row 7 (count - 7) ≡ fieldsAfter 0 at (drop at s) = behind-row row (count - 7) (rw z at w) in
+      held (drop at s) 0 at at 0 (tenAt s - at) start len row 7 (count - 7) behind-unbroken f (omega (arith, behind-ten (drop at s) 0 at start len f)) (sym (add-zero at)) v (omega arith)
+
+  pub body-held : (row : List ℕ) (count : ℕ) → 8 ≤ count → count ≤ 341 → fieldsOf s ≡ rowFields row 0 count
+      → Held row (bodyPart s .start) 7 (fieldsOf (partAt s (bodyPart s .start) (bodyPart s .len)))
+  body-held row count l m w = held-by row count (findTag 10 (fieldsOf s)) refl l m w

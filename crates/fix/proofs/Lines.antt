@@ -5,7 +5,7 @@ use mathlib.Core.List.{List, [], _∷_, _++_}
 use mathlib.Core.Bool.{Bool, true, false, cond, not, _&&_, _||_, and-false}
 use mathlib.Core.Logic.{⊎-elim}
 use native.Mathlib.Omega.{arith}
-use native.Mathlib.Nat.{zero-add, not-suc-le-zero}
+use native.Mathlib.Nat.{zero-add, not-suc-le-zero, suc-ne-zero}
 use lib.Dec.{leb, eqb}
 use lib.ListN.{length, getD, drop, take}
 use borrow.Author.Tests.{eqb-true, eqb-false, ne-eqb, not-true, not-false}
@@ -20,12 +20,12 @@ use Rattle.fix.specs.declared.frame.Frame.the-variants.{Garbled}
 use Rattle.fix.specs.declared.pass.Walked.{Walked}
 use Rattle.fix.specs.Fields.{Fld, fieldOf, fieldsAfter, fieldsFrom, fieldsOf, findTag, hasTag, repeats, cleanFields, lastTagOr, valueFrom, valueLen}
 use Rattle.fix.specs.Garbled.{headedBy, header, ordered, partOf, endOf, garbledMessage, frameOf}
-use Rattle.fix.specs.Steps.{fld, fieldAt, rowFields, partRow, Closed, Ready, Rowed, WalkSays, Headed, Counted, OpeningSays, Ended, Lined, Placed, Laid}
+use Rattle.fix.specs.Steps.{fld, fieldAt, rowFields, partRow, Closed, Ready, Rowed, WalkSays, Headed, Counted, OpeningSays, Ended, Lined, Placed, Laid, Framed}
 use Rattle.fix.proofs.Opening.{garbled-order, garbled-heads}
-use Rattle.fix.proofs.Verdict.{garbled-frame, plain-unclean, plain-other}
+use Rattle.fix.proofs.Verdict.{garbled-frame, plain-unclean, plain-other, is-good}
 use Rattle.fix.proofs.Walk.{field-in}
 use Rattle.fix.proofs.Plain.{clear-unbroken}
-use Rattle.fix.proofs.Bodies.{ten-from}
+use Rattle.fix.proofs.Bodies.{ten-from, body-held}
 use Rattle.fix.proofs.Carries.{carried-sum}
 use Rattle.fix.proofs.Rows.{row-length, row-more, last-append, find-last}
 
@@ -243,3 +243,27 @@ module _ (s row : List ℕ) (m t sum : ℕ) (w : Lined s row m t sum) where
         };
         ended = rw ep (w .ended);
       }
+
+-- ---- the parts with the row
+pub framed-garbled : (s row : List ℕ) → Garbled ≡ frameOf s → Framed s row Garbled
+framed-garbled s row e = record { frame = e; held = λ h g. let z : _≡_ {A = ℕ} 0 1 = cc in absurd (suc-ne-zero 0 (sym z)) }
+
+-- a message that is not garbled has eight fields at least
+eight : (s row : List ℕ) (count : ℕ) → fieldsOf s ≡ rowFields row 0 count → garbledMessage s ≡ false → 8 ≤ count
+eight s row count e g =
+    ⊎-elim (λ (h : count < 8).
+    let l : length (fieldsOf s) ≡ count = rw e (row-length row 0 count) in
+    absurd (not-both (garbled-order s (short-unordered (fieldsOf s) (omega arith))) g))
+    (λ h. h) (below-or count 8)
+
+framed-is : (s row : List ℕ) (count from sum : ℕ) (r : Frame) → Rowed s row count from sum → r ≡ frameOf s → Framed s row r
+framed-is s row count from sum r w e =
+    record {
+      frame = e;
+      held = λ h g.
+          let n : garbledMessage s ≡ false = sym (is-good s r e h g) in
+          body-held s n row count (eight s row count (w .fields) n) (w .few) (w .fields);
+    }
+
+pub framed-walked : (s row : List ℕ) (w : Walked) (count from sum : ℕ) (r : Frame) → WalkSays s row w → w ≡ Walked.Whole count from sum → r ≡ frameOf s → Framed s row r
+framed-walked s row w count from sum r y g e = framed-is s row count from sum r (walk-rowed s row w count from sum y g) e

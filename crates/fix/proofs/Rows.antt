@@ -17,8 +17,9 @@ use Rattle.fix.specs.declared.fields.Cursor.{Cursor}
 use Rattle.fix.specs.declared.fields.Found.the-variants.{At}
 use Rattle.fix.specs.declared.fields.Field.{Field}
 use Rattle.fix.specs.declared.fields.Field.the-variants.{Good, Broken, End}
+use Rattle.fix.specs.declared.pass.Noted.{Noted}
 use Rattle.fix.specs.Fields.{Fld, fieldOf, asField, stepOf, fieldsFrom, fieldsOf, findTag, hasTag, repeats, cleanFields, lastTagOr, valueFrom}
-use Rattle.fix.specs.Steps.{slot, Closed, Carried, Paced, fieldAt, rowFields, noted, Notes, Marked, Passing, Ready, Lastly, Rowed}
+use Rattle.fix.specs.Steps.{slot, Closed, Carried, Paced, fieldAt, rowFields, noted, Notes, Marked, Passing, Ready, Lastly, Rowed, seatOf}
 use Rattle.fix.proofs.Walk.{Stepped, step-good, step-broken, step-end}
 use Rattle.fix.proofs.Bodies.{field-below, some-from}
 use Rattle.fix.proofs.Carries.{carried-none}
@@ -299,3 +300,13 @@ module _ (s row marks : List ℕ) (i at sum from before : ℕ) (inv : Walking s 
                     let z : m ≡ i = omega (arith, e) in
                     rw (z, er) (record { field = noted-here row i t start len (inv .ready .room) room ∙ here; sums = inv .sums });
               }
+
+-- ---- a step over the row
+module _ (row : List ℕ) (j x : ℕ) (ex : x ≡ getD row (j * 3) 0) where
+  pub seat-end : x ≡ 10 → Noted.End ≡ seatOf row j
+  unfolding seatOf
+  seat-end h = rw (← ex, eq-eqb x 10 h)
+
+  pub seat-good : (a b : ℕ) → (x ≡ 10 → ⊥) → a ≡ getD row (j * 3 + 1) 0 → b ≡ getD row (j * 3 + 2) 0 → Noted.Good x a b (record { number = j + 1 }) ≡ seatOf row j
+  unfolding seatOf
+  seat-good a b h ea eb = rw (← ex, ← ea, ← eb, ne-eqb x 10 h)

@@ -14,11 +14,15 @@ use Rattle.fix.specs.declared.fields.Tag.{Tag}
 use Rattle.fix.specs.declared.fields.Cursor.{Cursor}
 use Rattle.fix.specs.declared.fields.Field.{Field}
 use Rattle.fix.specs.declared.pass.Walked.{Walked}
+use Rattle.fix.specs.declared.pass.Seat.{Seat}
+use Rattle.fix.specs.declared.pass.Noted.{Noted}
 use Rattle.fix.specs.declared.frame.Part.{Part}
+use Rattle.fix.specs.declared.frame.Head.{Head}
+use Rattle.fix.specs.declared.frame.Frame.{Frame}
 use Rattle.fix.specs.declared.frame.Opening.{Opening}
 use Rattle.fix.specs.declared.frame.Places.{Places}
 use Rattle.fix.specs.Fields.{Fld, textRun, tagOf, fieldOf, asField, stepOf, fieldsOf, fieldsFrom, findTag, valueOf, hasTag, repeats, cleanFields, lastTagOr}
-use Rattle.fix.specs.Garbled.{headedBy, header, fix42, saysIt, partOf, endOf, sumOf, checkSum, garbledMessage}
+use Rattle.fix.specs.Garbled.{headedBy, header, fix42, saysIt, partOf, endOf, sumOf, checkSum, garbledMessage, bodyPart, frameOf}
 
 -- ---- the values, by their places
 abbrev pub partIn : List ℕ → Part → List ℕ
@@ -170,3 +174,31 @@ pub record Laid (s : List ℕ) (count a : ℕ) (h : Places) (b : ℕ) (p : Part)
   pub counted : Counted s count a
   pub placed : Placed s h b
   pub ended : Ended s p t sum
+
+-- ---- the body, by the row
+
+-- a field of a part that stands at place d of the message, as a field of the message
+unfoldable pub moved : ℕ → Fld → Fld
+moved d f = record { tag = f .tag; start = d + f .start; len = f .len }
+
+-- the field with the number j of the row is f, and not 10
+pub record Holds (row : List ℕ) (d j : ℕ) (f : Fld) : Type 0 where
+  pub here : fieldAt row j ≡ moved d f
+  pub other : f .tag ≡ 10 → ⊥
+  pub room : j < 341
+
+-- the row holds, from the field with the number j on, these fields of the part, and then 10
+abbrev pub Held : List ℕ → ℕ → ℕ → List Fld → Type 0
+Held row d j [] = (getD row (j * 3) 0 ≡ 10) × (j < 341)
+Held row d j (f ∷ fs) = Holds row d j f × Held row d (j + 1) fs
+
+-- the parts, or garbled; and where the message is good, the row holds the fields of its body behind the seven of the header
+pub record Framed (s row : List ℕ) (r : Frame) : Type 0 where
+  pub frame : r ≡ frameOf s
+  pub held : (h : Head) → r ≡ Frame.Good h → Held row (bodyPart s .start) 7 (fieldsOf (partAt s (bodyPart s .start) (bodyPart s .len)))
+
+-- what a step from the field with the number j gives: it and the place behind it, or the end where it is 10
+unfoldable pub seatOf : List ℕ → ℕ → Noted
+seatOf row j =
+    cond (eqb (getD row (j * 3) 0) 10) Noted.End
+    (Noted.Good (getD row (j * 3) 0) (getD row (j * 3 + 1) 0) (getD row (j * 3 + 2) 0) (record { number = j + 1 }))

@@ -1,6 +1,7 @@
 // Whether a message is garbled, and where the parts of one that is not stand.
 use crate::pass::Walked;
 use crate::pass::walk;
+use crate::pass::wide;
 use decimal::Said;
 use decimal::read::is_time;
 use decimal::read::read_number;
@@ -14,7 +15,7 @@ ghost use Rattle.octets.specs.Octets.{partAt};
 ghost use Rattle.decimal.specs.Reading.{numOf, isTime};
 ghost use Rattle.fix.specs.Fields.{fieldsOf, fieldsFrom, valueOf};
 ghost use Rattle.fix.specs.Garbled.{headedBy, header, saidOf, saysIt, checkSum, frameOf, garbledMessage};
-ghost use Rattle.fix.specs.Steps.{rowFields, Rowed, partRow, Headed, OpeningSays, rightOf, sumsOf, Lined, Laid};
+ghost use Rattle.fix.specs.Steps.{rowFields, Rowed, partRow, Headed, OpeningSays, rightOf, sumsOf, Lined, Laid, Framed};
 
 // A part of a message.
 pub struct Part {
@@ -63,13 +64,6 @@ pub fn checksum(s: &[u8]) -> u8
         i += 1;
     }
     sum
-}
-
-// A number of two bytes, as a place.
-fn wide(x: u16) -> usize
-    ensures { λ r. ⌜ (r ≡ x) × (r < 65536) ⌝ }
-{
-    x as usize
 }
 
 // Where the value of the field with the number j stands, by the row.
@@ -239,7 +233,7 @@ fn ordered(s: &[u8], row: &[u16; 1023], count: usize, from: usize, sum: u8) -> F
 // The parts of a message, or garbled. The row takes the places of its fields.
 pub fn framed_in(s: &[u8], row: &mut [u16; 1023]) -> Frame
     requires { ⌜ length (now row) ≡ 1023 ⌝ }
-    ensures { λ r. ⌜ r ≡ frameOf (now (s .entry)) ⌝ }
+    ensures { λ r. ⌜ Framed (now (s .entry)) (now (row .exit)) r ⌝ }
 {
     let n = s.len();
     if n == 0 {

@@ -9,13 +9,29 @@ ghost use mathlib.Core.Path.{_≡_};
 ghost use Prim.Native.Nat.{ℕ, _+_, _-_, _*_, _^_, _≤_, _<_};
 ghost use lib.ListN.{length};
 ghost use Rattle.fix.specs.Fields.{hasTag};
-ghost use Rattle.fix.specs.Steps.{Closed, Carried, Tagged, Ran, Strode, Paced, rowFields, Passing, Notes, noted, Ready, WalkSays};
+ghost use Rattle.fix.specs.Steps.{Closed, Carried, Tagged, Ran, Strode, Paced, rowFields, Passing, Notes, noted, Ready, WalkSays, seatOf};
 
 // What the walk over a whole message finds: how many fields, where the last starts, and the sum of the bytes before it. Wrong
 // where something is no field, or a tag stands twice.
 pub enum Walked {
     Whole { count: usize, from: usize, sum: u8 },
     Wrong,
+}
+
+// A place between two fields of a row: how many stand before it.
+pub struct Seat {
+    pub number: usize,
+}
+
+// What a step over a row finds.
+pub enum Noted {
+    Good {
+        tag: u64,
+        start: usize,
+        len: usize,
+        next: Seat,
+    },
+    End,
 }
 
 // The tag that `s` starts with, as `tag_of` reads it; the sum takes in its digits and its `=`.
@@ -183,6 +199,33 @@ pub fn walk(s: &[u8], row: &mut [u16; 1023]) -> Walked
                     sum: before,
                 };
             }
+        }
+    }
+}
+
+// A number of two bytes, as a place.
+pub fn wide(x: u16) -> usize
+    ensures { λ r. ⌜ (r ≡ x) × (r < 65536) ⌝ }
+{
+    x as usize
+}
+
+impl Seat {
+    // The field that stands at the place, and the place behind it; the end before the field 10.
+    pub fn step(self, row: &[u16; 1023]) -> Noted
+        requires { ⌜ self .number < 341 ⌝ }
+        ensures { λ r. ⌜ r ≡ seatOf (now (row .entry)) (self .number) ⌝ }
+    {
+        let j = self.number;
+        let tag = wide(row[j * 3]) as u64;
+        if tag == 10 {
+            return Noted::End;
+        }
+        Noted::Good {
+            tag,
+            start: wide(row[j * 3 + 1]),
+            len: wide(row[j * 3 + 2]),
+            next: Seat { number: j + 1 },
         }
     }
 }
