@@ -166,39 +166,33 @@ pub fn walk(s: &[u8], row: &mut [u16; 1023]) -> Walked
 {
     let mut marks: [u8; 128] = [0; 128];
     let mut c = Cursor { at: 0 };
-    let mut i = 0;
-    let mut sum: u8 = 0;
+    let mut count = 0;
+    let mut so_far: u8 = 0;
     let mut from = 0;
-    let mut before: u8 = 0;
+    let mut sum: u8 = 0;
     loop {
         let at = c.at;
-        let so_far = sum;
-        match c.pace(s, &mut sum) {
+        let before = so_far;
+        match c.pace(s, &mut so_far) {
             Field::Good {
                 tag,
                 start,
                 len,
                 next,
             } => {
-                if passed(&marks, row, i, tag) {
+                if passed(&marks, row, count, tag) {
                     return Walked::Wrong;
                 }
                 let k = (tag % 128) as usize;
                 marks[k] = 1;
-                note(row, i, tag, start, len);
+                note(row, count, tag, start, len);
                 from = at;
-                before = so_far;
-                i += 1;
+                sum = before;
+                count += 1;
                 c = next;
             }
             Field::Broken => return Walked::Wrong,
-            Field::End => {
-                return Walked::Whole {
-                    count: i,
-                    from,
-                    sum: before,
-                };
-            }
+            Field::End => return Walked::Whole { count, from, sum },
         }
     }
 }

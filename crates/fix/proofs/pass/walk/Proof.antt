@@ -8,10 +8,10 @@ use Rattle.fix.proofs.pass.walk.Statement.{statement}
 use Rattle.fix.proofs.pass.walk.Tie as tie
 
 abbrev Inv-loop : tie.InvT-loop
-Inv-loop s row₀ marks₀ c₀ i₀ sum₀ from₀ before₀ row marks c i sum from before = Walking s row marks i (c .at) sum from before
+Inv-loop s row₀ marks₀ c₀ count₀ so-far₀ from₀ sum₀ row marks c count so-far from sum = Walking s row marks count (c .at) so-far from sum
 
 abbrev μ-loop : tie.MeasureT-loop
-μ-loop s row₀ marks₀ c₀ i₀ sum₀ from₀ before₀ row marks c i sum from before = length s - c .at
+μ-loop s row₀ marks₀ c₀ count₀ so-far₀ from₀ sum₀ row marks c count so-far from sum = length s - c .at
 
 loop-holds : tie.Need-loop-holds Inv-loop μ-loop
 loop-holds c = walk-start _ _ _ (search needs) refl
@@ -34,8 +34,8 @@ array-write-marks c = search (needs, walk-slot)
 note-requires : tie.Need-note-requires Inv-loop μ-loop
 note-requires c κs = search (needs, walk-notes)
 
-add-i : tie.Need-add-i Inv-loop μ-loop
-add-i c = search (needs, walk-count)
+add-count : tie.Need-add-count Inv-loop μ-loop
+add-count c = search (needs, walk-count)
 
 loop-less : tie.Need-loop-less Inv-loop μ-loop
 loop-less c = search (needs, walk-less)
@@ -68,7 +68,7 @@ walk-spec =
     returns
     array-write-marks
     note-requires
-    add-i
+    add-count
     loop-less
     loop-again
     enum-told
