@@ -155,6 +155,44 @@ static void copying(int calls)
              length > size && after == 2);
 }
 
+/* A message of n bytes: the header, and fields of ten bytes or so behind it. */
+static struct message of_length(size_t n)
+{
+    char body[1100] = "";
+    struct message m = sent(n == 64 ? "DD" : "D", body);
+    for (int tag = 200; m.length < n; tag++) {
+        size_t end = strlen(body), room = n - m.length;
+        for (int value = room < 20 ? (int)room - 5 : 6; value >= 0; value--) {
+            snprintf(body + end, sizeof body - end, "%d=%.*s|", tag, value, "abcdefghijklmno");
+            m = sent("D", body);
+            if (room >= 20 || m.length == n)
+                break;
+        }
+    }
+    must(m.length == n);
+    return m;
+}
+
+/* A message of n bytes whose CheckSum is not true. */
+static void garbling(unsigned n, int calls)
+{
+    struct message m = of_length(n);
+    m.bytes[n - 2] ^= 1;
+    must(open_market() == 0);
+    if (calls)
+        must(submit(&m) == 5);
+}
+
+/* The check of a table alone: there is no such side. */
+static void checking(int calls)
+{
+    uint64_t found, total, orders;
+    int64_t yield;
+    must(open_market() == 0);
+    if (calls)
+        must(kamurjesh_depth(table, sizeof table, 3, 0, &found, &yield, &total, &orders) == 10);
+}
+
 int main(int count, char **words)
 {
     if (count != 3)
@@ -173,6 +211,10 @@ int main(int count, char **words)
         sweeping(n, calls);
     else if (sscanf(name, "depth-%u%c", &n, &rest) == 1 && n <= 126)
         depth(n, calls);
+    else if (sscanf(name, "garbled-%u%c", &n, &rest) == 1 && n >= 64 && n <= 1024)
+        garbling(n, calls);
+    else if (strcmp(name, "check") == 0)
+        checking(calls);
     else if (strcmp(name, "read") == 0)
         reading(calls);
     else if (strcmp(name, "field") == 0)

@@ -1,4 +1,4 @@
--- Loops over the fields that ask about tags: what each need asks, by the answer of the step.
+-- The loop that looks for a tag among the fields: what each need asks, by the answer of the step.
 use Prim.Native.Nat.{ℕ, zero, suc, _+_, _-_, _^_, _≤_, _<_}
 use mathlib.Core.Path.{_≡_, refl, sym, ap, _∙_}
 use mathlib.Core.List.{List, [], _∷_}
@@ -81,55 +81,3 @@ module _ (s : List ℕ) (t : ℕ) (r : Found) (e : r ≡ findTag t (fieldsOf s))
   pub value-none : r ≡ Nothing → [] ≡ valueOf s t
   unfolding valueOf
   value-none g = simp (← e, g)
-
--- ---- a tag among the fields from place `from` on
-module _ (s : List ℕ) (from tag at : ℕ) (r : Field) (inv : hasTag tag (fieldsFrom from s) ≡ hasTag tag (fieldsFrom at s)) (e : r ≡ stepOf s at) where
-  module _ (t start len : ℕ) (next : Cursor) (g : r ≡ Good t start len next) where
-    pub has-here : t ≡ tag → true ≡ hasTag tag (fieldsFrom from s)
-    unfolding hasTag
-    has-here h = rw (inv, step-good s at r t start len next e g .fields) (simp (eq-eqb t tag h))
-
-    pub has-next : (t ≡ tag → ⊥) → hasTag tag (fieldsFrom from s) ≡ hasTag tag (fieldsFrom (next .at) s)
-    unfolding hasTag
-    has-next h = rw (inv, step-good s at r t start len next e g .fields) (simp (ne-eqb t tag h))
-
-  pub has-broken : 0 < tag → r ≡ Broken → false ≡ hasTag tag (fieldsFrom from s)
-  unfolding hasTag
-  has-broken h g = rw (inv, step-broken s at r e g) (simp (ne-eqb 0 tag (omega arith)))
-
-  pub has-end : r ≡ End → false ≡ hasTag tag (fieldsFrom from s)
-  unfolding hasTag
-  has-end g = rw (inv, step-end s at r e g)
-
--- ---- a run of fields with no tag twice
-module _ (s : List ℕ) (at : ℕ) (r : Field) (inv : cleanFields (fieldsOf s) ≡ cleanFields (fieldsFrom at s)) (e : r ≡ stepOf s at) where
-  module _ (t start len : ℕ) (next : Cursor) (g : r ≡ Good t start len next) where
-    pub clean-twice : (b : Bool) → b ≡ hasTag t (fieldsFrom (next .at) s) → b ≡ true → false ≡ cleanFields (fieldsOf s)
-    unfolding cleanFields repeats
-    clean-twice b eb h = rw (inv, step-good s at r t start len next e g .fields) (simp (← eb, h, and-false))
-
-    pub clean-next : (b : Bool) → b ≡ hasTag t (fieldsFrom (next .at) s) → b ≡ false → cleanFields (fieldsOf s) ≡ cleanFields (fieldsFrom (next .at) s)
-    unfolding cleanFields hasTag repeats
-    clean-next b eb h = rw (inv, step-good s at r t start len next e g .fields) (simp (← eb, h, ne-eqb t 0 (step-good s at r t start len next e g .some)))
-
-  pub clean-broken : r ≡ Broken → false ≡ cleanFields (fieldsOf s)
-  unfolding cleanFields hasTag
-  clean-broken g = rw (inv, step-broken s at r e g)
-
-  pub clean-end : r ≡ End → true ≡ cleanFields (fieldsOf s)
-  unfolding cleanFields hasTag repeats
-  clean-end g = rw (inv, step-end s at r e g)
-
--- ---- the last tag
-module _ (s : List ℕ) (at last : ℕ) (r : Field) (inv : lastTagOr 0 (fieldsOf s) ≡ lastTagOr last (fieldsFrom at s)) (e : r ≡ stepOf s at) where
-  pub last-more : (t start len : ℕ) (next : Cursor) → r ≡ Good t start len next → lastTagOr 0 (fieldsOf s) ≡ lastTagOr t (fieldsFrom (next .at) s)
-  unfolding lastTagOr
-  last-more t start len next g = rw (inv, step-good s at r t start len next e g .fields)
-
-  pub last-broken : r ≡ Broken → 0 ≡ lastTagOr 0 (fieldsOf s)
-  unfolding lastTagOr
-  last-broken g = rw (inv, step-broken s at r e g)
-
-  pub last-is : r ≡ End → last ≡ lastTagOr 0 (fieldsOf s)
-  unfolding lastTagOr
-  last-is g = rw (inv, step-end s at r e g)

@@ -110,15 +110,18 @@ number-of : (t : Bool) (n k : ℕ) → ((cond t (record { number = n; digits = k
 number-of true n k h = refl
 number-of false n k h = absurd (h refl)
 
--- a tag's digits do not reach the end, since its `=` follows
-pub tag-inside : (s : List ℕ) (t : Tag) → t ≡ tagOf s → (t .number ≡ 0 → ⊥) → t .digits < length s
+-- a tag's `=` follows its digits
+pub tag-equals : (s : List ℕ) (t : Tag) → t ≡ tagOf s → (t .number ≡ 0 → ⊥) → getD s (t .digits) 0 ≡ 61
 unfolding tagOf startsTag
-tag-inside s t e h =
+tag-equals s t e h =
     let a = ltb 0 (digitRun s) && leb (digitRun s) 4 && not (eqb (getD s 0 0) 48) in
     let y : startsTag s ≡ true = number-of (startsTag s) (leading 0 s) (digitRun s) (rw e at h) in
     let k : t .digits ≡ digitRun s = rw (e, y) in
-    let q = eqb-true (getD s (digitRun s) 0) 61 (both-r a (eqb (getD s (digitRun s) 0) 61) y) in
-    omega (arith, there s (digitRun s) 60 q)
+    rw k (eqb-true (getD s (digitRun s) 0) 61 (both-r a (eqb (getD s (digitRun s) 0) 61) y))
+
+-- so they do not reach the end
+pub tag-inside : (s : List ℕ) (t : Tag) → t ≡ tagOf s → (t .number ≡ 0 → ⊥) → t .digits < length s
+tag-inside s t e h = there s (t .digits) 60 (tag-equals s t e h)
 
 pub value-from : (s : List ℕ) (t : Tag) → t ≡ tagOf s → (t .number ≡ 0 → ⊥) → t .digits + 1 ≤ length s
 value-from s t e h = omega (arith, tag-inside s t e h)

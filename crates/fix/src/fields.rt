@@ -3,7 +3,7 @@ use decimal::read::digit;
 ghost use mathlib.Core.Path.{_≡_};
 ghost use Prim.Native.Nat.{ℕ, _+_, _-_, _^_, _≤_, _<_};
 ghost use lib.ListN.{length, take, drop, getD};
-ghost use Rattle.fix.specs.Fields.{isText, textRun, tagOf, fieldOf, asField, stepOf, fieldsOf, fieldsFrom, findTag, valueOf, hasTag, cleanFields, lastTagOr};
+ghost use Rattle.fix.specs.Fields.{isText, textRun, tagOf, fieldOf, asField, stepOf, fieldsOf, findTag, valueOf};
 
 // A tag and how many digits it has. The number 0: no tag.
 pub struct Tag {
@@ -159,77 +159,5 @@ pub fn value_of(s: &[u8], tag: u64) -> &[u8]
     match find(s, tag) {
         Found::At { start, len } => &s[start..start + len],
         Found::Nothing => &s[..0],
-    }
-}
-
-// Whether some field of `s` from place `at` on has the tag.
-pub fn has_tag(s: &[u8], at: usize, tag: u64) -> bool
-    requires { ⌜ 0 < tag ⌝ }
-    ensures { λ r. ⌜ r ≡ hasTag tag (fieldsFrom at (now (s .entry))) ⌝ }
-{
-    let mut c = Cursor { at };
-    loop {
-        match c.step(s) {
-            Field::Good {
-                tag: t,
-                start: _,
-                len: _,
-                next,
-            } => {
-                if t == tag {
-                    return true;
-                }
-                c = next;
-            }
-            Field::Broken => return false,
-            Field::End => return false,
-        }
-    }
-}
-
-// Whether `s` is a run of fields with no tag twice.
-pub fn clean(s: &[u8]) -> bool
-    ensures { λ r. ⌜ r ≡ cleanFields (fieldsOf (now (s .entry))) ⌝ }
-{
-    let mut c = Cursor { at: 0 };
-    loop {
-        match c.step(s) {
-            Field::Good {
-                tag,
-                start: _,
-                len: _,
-                next,
-            } => {
-                if has_tag(s, next.at, tag) {
-                    return false;
-                }
-                c = next;
-            }
-            Field::Broken => return false,
-            Field::End => return true,
-        }
-    }
-}
-
-// The tag of the last field of `s`, and 0 where it has none.
-pub fn last_tag(s: &[u8]) -> u64
-    ensures { λ r. ⌜ r ≡ lastTagOr 0 (fieldsOf (now (s .entry))) ⌝ }
-{
-    let mut c = Cursor { at: 0 };
-    let mut last: u64 = 0;
-    loop {
-        match c.step(s) {
-            Field::Good {
-                tag,
-                start: _,
-                len: _,
-                next,
-            } => {
-                last = tag;
-                c = next;
-            }
-            Field::Broken => return 0,
-            Field::End => return last,
-        }
     }
 }

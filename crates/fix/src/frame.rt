@@ -1,10 +1,7 @@
 // Whether a message is garbled, and where the parts of one that is not stand.
-use crate::fields::Cursor;
-use crate::fields::Field;
-use crate::fields::Found;
-use crate::fields::clean;
-use crate::fields::find;
-use crate::fields::last_tag;
+use crate::pass::Walked;
+use crate::pass::walk;
+use crate::pass::wide;
 use decimal::Said;
 use decimal::read::is_time;
 use decimal::read::read_number;
@@ -12,13 +9,13 @@ use octets::part::part_at;
 use octets::part::same;
 ghost use mathlib.Core.Path.{_≡_};
 ghost use mathlib.Core.List.{[], _∷_};
-ghost use Prim.Native.Nat.{ℕ, _+_, _-_, _%_, _^_, _≤_, _<_};
+ghost use Prim.Native.Nat.{ℕ, _+_, _-_, _*_, _%_, _^_, _≤_, _<_};
 ghost use lib.ListN.{length, take, drop, getD};
 ghost use Rattle.octets.specs.Octets.{partAt};
 ghost use Rattle.decimal.specs.Reading.{numOf, isTime};
 ghost use Rattle.fix.specs.Fields.{fieldsOf, fieldsFrom, valueOf};
-ghost use Rattle.fix.specs.Garbled.{saidOf, saysIt, checkSum, frameOf, garbledMessage};
-ghost use Rattle.fix.specs.Steps.{expectOf, Opened, Counted, OpeningSays, Kinded, NumberedSays, Headed, HeaderSays, tailOf, headerMarks, EndingSays, HeadedAt, rightOf, sumsOf, Begun, Laid};
+ghost use Rattle.fix.specs.Garbled.{headedBy, header, saidOf, saysIt, checkSum, frameOf, garbledMessage};
+ghost use Rattle.fix.specs.Steps.{rowFields, Rowed, partRow, Headed, OpeningSays, rightOf, sumsOf, Lined, Laid, Framed};
 
 // A part of a message.
 pub struct Part {
@@ -41,25 +38,9 @@ pub enum Frame {
     Good(Head),
 }
 
-// Whether the field at a place has the tag that has to stand there, and the place behind it.
-pub enum Expected {
-    Stands { part: Part, next: usize },
-    Other,
-}
-
 // What 9 says, and the place behind it.
 pub enum Opening {
     Reads { count: u64, next: usize },
-    Wrong,
-}
-
-// Where the values of 35 and 34 stand, and the place behind them.
-pub enum Numbered {
-    Reads {
-        kind: Part,
-        number: Part,
-        next: usize,
-    },
     Wrong,
 }
 
@@ -70,24 +51,6 @@ pub struct Places {
     pub sender: Part,
     pub time: Part,
     pub target: Part,
-}
-
-pub enum Header {
-    Reads { places: Places, next: usize },
-    Wrong,
-}
-
-// How the walk over the fields behind the header ends.
-pub enum Tail {
-    Ten(Part),
-    Wrong,
-    Unsure,
-}
-
-// Where the value of field 10 stands.
-pub enum Ending {
-    Ten(Part),
-    Wrong,
 }
 
 // The sum of the bytes in one byte that wraps.
@@ -103,172 +66,43 @@ pub fn checksum(s: &[u8]) -> u8
     sum
 }
 
-// The field at a place, where the tag has to stand.
-fn expect(s: &[u8], at: usize, tag: u64) -> Expected
-    ensures { λ r. ⌜ r ≡ expectOf (now (s .entry)) at tag ⌝ }
+// Where the value of the field with the number j stands, by the row.
+fn place(row: &[u16; 1023], j: usize) -> Part
+    requires { ⌜ j < 341 ⌝ }
+    ensures { λ r. ⌜ (r ≡ partRow (now (row .entry)) j) × (r .start < 65536) × (r .len < 65536) ⌝ }
 {
-    let c = Cursor { at };
-    match c.step(s) {
-        Field::Good {
-            tag: t,
-            start,
-            len,
-            next,
-        } => {
-            if t == tag {
-                Expected::Stands {
-                    part: Part { start, len },
-                    next: next.at,
-                }
-            } else {
-                Expected::Other
-            }
-        }
-        Field::Broken => Expected::Other,
-        Field::End => Expected::Other,
+    Part {
+        start: wide(row[j * 3 + 1]),
+        len: wide(row[j * 3 + 2]),
     }
 }
 
-// Reads 8 and 9.
-fn opens(s: &[u8]) -> Opening
+// Whether the first fields of the row are those of the header.
+fn heads(row: &[u16; 1023]) -> bool
+    ensures { λ r. ⌜ r ≡ headedBy header (rowFields (now (row .entry)) 0 7) ⌝ }
+{
+    (row[0] == 8)
+        & ((row[3] == 9)
+            & ((row[6] == 35)
+                & ((row[9] == 34) & ((row[12] == 49) & ((row[15] == 52) & (row[18] == 56))))))
+}
+
+// Reads 8 and 9, where they stand.
+fn opens(s: &[u8], row: &[u16; 1023]) -> Opening
+    requires { ⌜ Headed (now s) (now row) ⌝ }
     ensures { λ r. ⌜ OpeningSays (now (s .entry)) r ⌝ }
 {
-    let Expected::Stands { part: p, next: a } = expect(s, 0, 8) else {
-        return Opening::Wrong;
-    };
-    if !same(part_at(s, p.start, p.len), b"FIX.4.2") {
+    let e = place(row, 0);
+    if !same(part_at(s, e.start, e.len), b"FIX.4.2") {
         return Opening::Wrong;
     }
-    let Expected::Stands { part: q, next } = expect(s, a, 9) else {
-        return Opening::Wrong;
-    };
-    match read_number(part_at(s, q.start, q.len), 4) {
-        Said::Value(count) => Opening::Reads { count, next },
-        Said::Wrong => Opening::Wrong,
-    }
-}
-
-// Finds 35 and 34 behind 8 and 9.
-fn kinds(s: &[u8], at: usize) -> Numbered
-    requires { ⌜ Opened (now s) at ⌝ }
-    ensures { λ r. ⌜ NumberedSays (now (s .entry)) r ⌝ }
-{
-    let Expected::Stands {
-        part: kind,
-        next: a,
-    } = expect(s, at, 35)
-    else {
-        return Numbered::Wrong;
-    };
-    let Expected::Stands { part: number, next } = expect(s, a, 34) else {
-        return Numbered::Wrong;
-    };
-    Numbered::Reads { kind, number, next }
-}
-
-// Finds 49, 52 and 56 behind them.
-fn heads(s: &[u8], kind: Part, number: Part, at: usize) -> Header
-    requires { ⌜ Kinded (now s) kind number at ⌝ }
-    ensures { λ r. ⌜ HeaderSays (now (s .entry)) r ⌝ }
-{
-    let Expected::Stands {
-        part: sender,
-        next: a,
-    } = expect(s, at, 49)
-    else {
-        return Header::Wrong;
-    };
-    let Expected::Stands {
-        part: time,
-        next: b,
-    } = expect(s, a, 52)
-    else {
-        return Header::Wrong;
-    };
-    let Expected::Stands { part: target, next } = expect(s, b, 56) else {
-        return Header::Wrong;
-    };
-    Header::Reads {
-        places: Places {
-            kind,
-            number,
-            sender,
-            time,
-            target,
+    let n = place(row, 1);
+    match read_number(part_at(s, n.start, n.len), 4) {
+        Said::Value(count) => Opening::Reads {
+            count,
+            next: n.start + n.len + 1,
         },
-        next,
-    }
-}
-
-// Walks over the fields behind the header: nothing but fields, no tag twice, 10 last. Two tags with the same remainder by
-// 128 leave it unsure.
-fn walks(s: &[u8], at: usize) -> Tail
-    ensures { λ r. ⌜ r ≡ tailOf headerMarks (record { tag = 56; start = 0; len = 0 }) (fieldsFrom at (now (s .entry))) ⌝ }
-{
-    let mut marks: [u8; 128] = [0; 128];
-    marks[8] = 1;
-    marks[9] = 1;
-    marks[35] = 1;
-    marks[34] = 1;
-    marks[49] = 1;
-    marks[52] = 1;
-    marks[56] = 1;
-    let mut c = Cursor { at };
-    let mut last: u64 = 56;
-    let mut p = Part { start: 0, len: 0 };
-    loop {
-        match c.step(s) {
-            Field::Good {
-                tag,
-                start,
-                len,
-                next,
-            } => {
-                let k = (tag % 128) as usize;
-                if marks[k] != 0 {
-                    return Tail::Unsure;
-                }
-                marks[k] = 1;
-                last = tag;
-                p = Part { start, len };
-                c = next;
-            }
-            Field::Broken => return Tail::Wrong,
-            Field::End => {
-                if last == 10 {
-                    return Tail::Ten(p);
-                }
-                return Tail::Wrong;
-            }
-        }
-    }
-}
-
-// How the fields end, looked up plainly: each tag among all that follow it.
-fn plainly(s: &[u8]) -> Ending
-    ensures { λ r. ⌜ EndingSays (now (s .entry)) r ⌝ }
-{
-    if !clean(s) {
-        return Ending::Wrong;
-    }
-    if last_tag(s) != 10 {
-        return Ending::Wrong;
-    }
-    match find(s, 10) {
-        Found::At { start, len } => Ending::Ten(Part { start, len }),
-        Found::Nothing => Ending::Wrong,
-    }
-}
-
-// How the fields end: one walk, and the plain way where that is not sure.
-fn ends(s: &[u8], at: usize) -> Ending
-    requires { ⌜ HeadedAt (now s) at ⌝ }
-    ensures { λ r. ⌜ EndingSays (now (s .entry)) r ⌝ }
-{
-    match walks(s, at) {
-        Tail::Ten(p) => Ending::Ten(p),
-        Tail::Wrong => Ending::Wrong,
-        Tail::Unsure => plainly(s),
+        Said::Wrong => Opening::Wrong,
     }
 }
 
@@ -315,31 +149,28 @@ fn right(s: &[u8], p: Places, n: u64) -> bool
         & (1 <= target.len())
 }
 
-// Whether 10, at p, says the sum of the t bytes before it in three digits.
-fn sums(s: &[u8], t: usize, p: Part) -> bool
-    requires { ⌜ t ≤ length (now s) ⌝ }
-    ensures { λ r. ⌜ r ≡ sumsOf (now (s .entry)) t p ⌝ }
+// Whether 10, at p, says the sum in three digits.
+fn sums(s: &[u8], sum: u8, p: Part) -> bool
+    ensures { λ r. ⌜ r ≡ sumsOf (now (s .entry)) sum p ⌝ }
 {
     let v = part_at(s, p.start, p.len);
-    let sum = checksum(&s[..t]);
     (v.len() == 3) & says_it(sum as u64, read_number(v, 3))
 }
 
-// The parts of a message whose fields are in order, where 9 says count for the bytes from place a on, the header ends at b,
-// and the value of 10 is at p; or garbled.
-fn settled(s: &[u8], count: u64, a: usize, h: Places, b: usize, p: Part) -> Frame
-    requires { ⌜ Laid (now s) count a h b p ⌝ }
+// The parts of a message whose fields are in order, where 9 says count for the bytes from place a on, the header ends at b, the
+// value of 10 is at p, and field 10 at place t, behind bytes with the sum; or garbled.
+fn settled(s: &[u8], count: u64, a: usize, h: Places, b: usize, p: Part, t: usize, sum: u8) -> Frame
+    requires { ⌜ Laid (now s) count a h b p t sum ⌝ }
     ensures { λ r. ⌜ r ≡ frameOf (now (s .entry)) ⌝ }
 {
-    let number = said(read_number(part_at(s, h.number.start, h.number.len), 9));
-    if !right(s, h, number) {
-        return Frame::Garbled;
-    }
-    let t = minus(p.start, 3);
     if minus(t, a) as u64 != count {
         return Frame::Garbled;
     }
-    if !sums(s, t, p) {
+    if !sums(s, sum, p) {
+        return Frame::Garbled;
+    }
+    let number = said(read_number(part_at(s, h.number.start, h.number.len), 9));
+    if !right(s, h, number) {
         return Frame::Garbled;
     }
     let kind = h.kind;
@@ -360,39 +191,72 @@ fn settled(s: &[u8], count: u64, a: usize, h: Places, b: usize, p: Part) -> Fram
     })
 }
 
-// The parts of a message whose 9 says count for the bytes from place a on, or garbled.
-fn behind(s: &[u8], count: u64, a: usize) -> Frame
-    requires { ⌜ Begun (now s) count a ⌝ }
+// The parts of a message whose fields are in order, by the row, where 10 has the number m and starts at place t, behind bytes
+// with the sum; or garbled.
+fn lined(s: &[u8], row: &[u16; 1023], m: usize, t: usize, sum: u8) -> Frame
+    requires { ⌜ Lined (now s) (now row) m t sum ⌝ }
     ensures { λ r. ⌜ r ≡ frameOf (now (s .entry)) ⌝ }
 {
-    let Numbered::Reads {
-        kind,
-        number,
-        next: k,
-    } = kinds(s, a)
-    else {
+    let Opening::Reads { count, next: a } = opens(s, row) else {
         return Frame::Garbled;
     };
-    let Header::Reads { places, next: b } = heads(s, kind, number, k) else {
-        return Frame::Garbled;
+    let target = place(row, 6);
+    let b = target.start + target.len + 1;
+    let h = Places {
+        kind: place(row, 2),
+        number: place(row, 3),
+        sender: place(row, 4),
+        time: place(row, 5),
+        target,
     };
-    let Ending::Ten(p) = ends(s, b) else {
+    settled(s, count, a, h, b, place(row, m), t, sum)
+}
+
+// The parts of a message whose fields the row holds, or garbled: the header comes first, and 10 last.
+fn ordered(s: &[u8], row: &[u16; 1023], count: usize, from: usize, sum: u8) -> Frame
+    requires { ⌜ (length (now s) ≤ 1024) × Rowed (now s) (now row) count from sum ⌝ }
+    ensures { λ r. ⌜ r ≡ frameOf (now (s .entry)) ⌝ }
+{
+    if count < 8 {
         return Frame::Garbled;
-    };
-    settled(s, count, a, places, b, p)
+    }
+    if !heads(row) {
+        return Frame::Garbled;
+    }
+    let m = count - 1;
+    if row[m * 3] != 10 {
+        return Frame::Garbled;
+    }
+    lined(s, row, m, from, sum)
+}
+
+// The parts of a message, or garbled. The row takes the places of its fields.
+pub fn framed_in(s: &[u8], row: &mut [u16; 1023]) -> Frame
+    requires { ⌜ length (now row) ≡ 1023 ⌝ }
+    ensures { λ r. ⌜ Framed (now (s .entry)) (now (row .exit)) r ⌝ }
+{
+    let n = s.len();
+    if n == 0 {
+        return Frame::Garbled;
+    }
+    if 1024 < n {
+        return Frame::Garbled;
+    }
+    if s[n - 1] != 1 {
+        return Frame::Garbled;
+    }
+    match walk(s, row) {
+        Walked::Whole { count, from, sum } => ordered(s, row, count, from, sum),
+        Walked::Wrong => Frame::Garbled,
+    }
 }
 
 // The parts of a message, or garbled.
 pub fn framed(s: &[u8]) -> Frame
     ensures { λ r. ⌜ r ≡ frameOf (now (s .entry)) ⌝ }
 {
-    if 1024 < s.len() {
-        return Frame::Garbled;
-    }
-    match opens(s) {
-        Opening::Reads { count, next } => behind(s, count, next),
-        Opening::Wrong => Frame::Garbled,
-    }
+    let mut row: [u16; 1023] = [0; 1023];
+    framed_in(s, &mut row)
 }
 
 // Whether a message is garbled.

@@ -18,6 +18,7 @@ use Rattle.fix.specs.declared.frame.Head.{Head}
 use Rattle.fix.specs.declared.frame.Frame.{Frame}
 use Rattle.fix.specs.Fields.{Fld, fieldsOf, findTag, hasTag, valueOf}
 use Rattle.fix.specs.Garbled.{garbledMessage, partOf, bodyPart, headOf, frameOf}
+use Rattle.fix.specs.Steps.{Held, Framed}
 use Rattle.fix.proofs.Opening.{value-part}
 use Rattle.fix.proofs.Verdict.{is-garbled, is-good, good-head}
 use Rattle.request.specs.declared.Kind.{Kind}
@@ -29,7 +30,7 @@ use Rattle.request.specs.declared.Asked.{Asked}
 use Rattle.request.specs.declared.Asked.the-variants.{Garbled, Refused, Enters, Replaces, Cancels}
 use Rattle.request.specs.Session.{kindOf, needed, optional, oneOf, belongs, listed, judge, orElse, firstFailing, firstMissing}
 use Rattle.request.specs.Asks.{lengthFound, saidIn, lengthIn, textIn, termsIn, requestIn, refusalOf, completed, afterBody, bodyAsked, isKnown, bodyOf, headAsked, askedOf}
-use Rattle.request.specs.Gathers.{slot, Starts, keptSays, keptLens, Gathered, Walked, firstUnset, textRow, termsRow, requestRow, completedRow}
+use Rattle.request.specs.Gathers.{slot, Starts, Admitted, keptSays, keptLens, Gathered, Walked, firstUnset, textRow, termsRow, requestRow, completedRow}
 use Rattle.request.proofs.Keys.{eachIs}
 use Rattle.request.proofs.Gathering.{says-means}
 
@@ -173,18 +174,8 @@ module _ (k : Kind) (h : Head) (b x : List ℕ) (from : ℕ) (v : Verdict) (says
   unfolding bodyAsked
   decides-passes g er = er ∙ complete k b from says lens (w .rows g) (sym (w .verdict) ∙ g) h ∙ rw (← eb) (rw (← w .verdict, g))
 
--- the places of a part are numbers of 64 bits
-part-length : (s : List ℕ) (start len : ℕ) → length (partAt s start len) ≤ length s - start
-unfolding partAt
-part-length s start len = simp (length-take, length-drop) (omega arith)
-
-pub part-near : (s v : List ℕ) (start len : ℕ) → start < 2 ^ 64 → length s < 2 ^ 64 → v ≡ partAt s start len → start + length v < 2 ^ 64
-part-near s v start len h l e =
-    let a : length v ≤ length s - start = rw e (part-length s start len) in
-    omega arith
-
-pub starts : (s v : List ℕ) (start len : ℕ) → start < 2 ^ 64 → length s < 2 ^ 64 → v ≡ partAt s start len → Starts v start (replicate 28 0) (replicate 28 0)
-starts s v start len h l e = record { no-says = refl; no-lens = refl; near = part-near s v start len h l e }
+pub starts : (s v row : List ℕ) (start len : ℕ) → v ≡ partAt s start len → Held row start 7 (fieldsOf (partAt s start len)) → Starts v row start (replicate 28 0) (replicate 28 0)
+starts s v row start len e h = record { no-says = refl; no-lens = refl; held = rw e h }
 
 -- ---- the type
 module _ (v : List ℕ) (a : Bool) (ea : a ≡ sameBytes v (68 ∷ [])) where
@@ -253,14 +244,18 @@ module _ (venue port s : List ℕ) (h : Head) (eh : h ≡ headOf s) (r : Asked) 
         admits-body g er = er ∙ body-is k ∙ rw (kind-is, sym ea ∙ not-false a ga, sender-is, not-false c gc, target-is, not-false d g)
 
 -- ---- the message
-module _ (venue port s : List ℕ) (f : Frame) (ef : f ≡ frameOf s) where
+module _ (venue port s row : List ℕ) (f : Frame) (w : Framed s row f) where
   pub asked-garbled : f ≡ Frame.Garbled → Garbled ≡ askedOf venue port s
   unfolding askedOf
-  asked-garbled g = rw (← is-garbled s f ef g)
-
-  pub asked-head : (h : Head) → f ≡ Frame.Good h → h ≡ headOf s
-  asked-head h g = good-head s f ef h g
+  asked-garbled g = rw (← is-garbled s f (w .frame) g)
 
   pub asked-good : (h : Head) (r : Asked) → f ≡ Frame.Good h → r ≡ headAsked venue port s → r ≡ askedOf venue port s
   unfolding askedOf
-  asked-good h r g er = er ∙ rw (← is-good s f ef h g)
+  asked-good h r g er = er ∙ rw (← is-good s f (w .frame) h g)
+
+pub asked-head : (s row : List ℕ) (f : Frame) (h : Head) → Framed s row f → f ≡ Frame.Good h → Admitted s h row
+asked-head s row f h w g = record { head = good-head s f (w .frame) h g; held = w .held h g }
+
+pub admits-held : (s row : List ℕ) (h : Head) → Admitted s h row → Held row (h .body .start) 7 (fieldsOf (partAt s (h .body .start) (h .body .len)))
+unfolding headOf
+admits-held s row h a = rw (a .head) (a .held)

@@ -1,5 +1,5 @@
 -- The walk over the fields of a body: the verdict, and the rows of what the values say.
-use Prim.Native.Nat.{ℕ, zero, suc, _+_, _-_, _%_, _^_, _≤_, _<_}
+use Prim.Native.Nat.{ℕ, zero, suc, _+_, _-_, _*_, _%_, _^_, _≤_, _<_}
 use mathlib.Core.Path.{_≡_, refl, sym, ap, subst, _∙_}
 use mathlib.Core.List.{List, [], _∷_}
 use mathlib.Core.Bool.{Bool, true, false, cond, not, _&&_, _||_, or-true}
@@ -11,13 +11,12 @@ use lib.Seq.{getD-set-same, getD-set-other}
 use borrow.Author.Tests.{eq-eqb, ne-eqb, eqb-true, eqb-false, not-true, not-false}
 use Rattle.octets.specs.Octets.{partAt}
 use Rattle.octets.proofs.Bools.{split, both-l, both-r, or-r, not-both, neither-l, neither-r}
-use Rattle.fix.specs.declared.fields.Cursor.{Cursor}
 use Rattle.fix.specs.declared.fields.Found.{Found}
 use Rattle.fix.specs.declared.fields.Found.the-variants.{At, Nothing}
-use Rattle.fix.specs.declared.fields.Field.{Field}
-use Rattle.fix.specs.declared.fields.Field.the-variants.{Good, Broken, End}
-use Rattle.fix.specs.Fields.{Fld, stepOf, fieldsFrom, fieldsOf, findTag, hasTag}
-use Rattle.fix.proofs.Walk.{Says, Stepped, step-good, step-broken, step-end}
+use Rattle.fix.specs.declared.pass.Seat.{Seat}
+use Rattle.fix.specs.declared.pass.Noted.{Noted}
+use Rattle.fix.specs.Fields.{Fld, fieldsOf, findTag, hasTag}
+use Rattle.fix.specs.Steps.{fieldAt, moved, Holds, Held, seatOf}
 use Rattle.request.specs.declared.Kind.{Kind}
 use Rattle.request.specs.declared.Kind.the-variants.{NewOrder, Replacement, Cancel, Unknown}
 use Rattle.request.specs.declared.Judged.{Judged}
@@ -143,143 +142,222 @@ says-means k b from f n q =
     let m = means-by (listed (f .tag)) (belongs k (f .tag)) (eqb (f .len) 0) _ n q in
     record { listed-is = m .0; some = eqb-false (f .len) 0 (m .1); looks = m .2 }
 
--- ---- the invariant of the walk
-pub record Gathering (k : Kind) (b : List ℕ) (from at : ℕ) (says lens : List ℕ) : Type 0 where
+-- ---- the invariant: the verdict on all is that on those left, and the rows hold what the fields before them say
+pub record Gathering (k : Kind) (b : List ℕ) (from : ℕ) (left : List Fld) (says lens : List ℕ) : Type 0 where
   pub says-room : length says ≡ 28
   pub lens-room : length lens ≡ 28
-  pub near : from + length b < 2 ^ 64
-  pub verdict : firstFailing k b from (fieldsOf b) ≡ firstFailing k b from (fieldsFrom at b)
-  pub fresh : (t : ℕ) → listed t ≡ true → getD lens (slot t) 0 ≡ 0 → (getD says (slot t) 0 ≡ 0) × (findTag t (fieldsOf b) ≡ findTag t (fieldsFrom at b))
+  pub verdict : firstFailing k b from (fieldsOf b) ≡ firstFailing k b from left
+  pub fresh : (t : ℕ) → listed t ≡ true → getD lens (slot t) 0 ≡ 0 → (getD says (slot t) 0 ≡ 0) × (findTag t (fieldsOf b) ≡ findTag t left)
   pub held : (t : ℕ) → listed t ≡ true → (getD lens (slot t) 0 ≡ 0 → ⊥) → (getD says (slot t) 0 ≡ saidIn b from t) × (getD lens (slot t) 0 ≡ lengthIn b t)
 
-pub gather-start : (k : Kind) (b : List ℕ) (from : ℕ) (says lens : List ℕ) → Starts b from says lens → Gathering k b from 0 says lens
-gather-start k b from says lens h =
+-- those left are what the row holds from the field with the number j on
+pub record Seated (k : Kind) (b row : List ℕ) (from j : ℕ) (says lens : List ℕ) : Type 0 where
+  pub left : List Fld
+  pub held : Held row from j left
+  pub gathers : Gathering k b from left says lens
+
+pub gather-start : (k : Kind) (b row : List ℕ) (from : ℕ) (says lens : List ℕ) → Starts b row from says lens → Seated k b row from 7 says lens
+gather-start k b row from says lens h =
     record {
-      says-room = rw (h .no-says);
-      lens-room = rw (h .no-lens);
-      near = h .near;
-      verdict = refl;
-      fresh = λ t l z. (rw (h .no-says) (zeros 28 (slot t)), refl);
-      held = λ t l z. absurd (z (rw (h .no-lens) (zeros 28 (slot t))));
+      left = fieldsOf b;
+      held = h .held;
+      gathers = record {
+        says-room = rw (h .no-says);
+        lens-room = rw (h .no-lens);
+        verdict = refl;
+        fresh = λ t l z. (rw (h .no-says) (zeros 28 (slot t)), refl);
+        held = λ t l z. absurd (z (rw (h .no-lens) (zeros 28 (slot t))));
+      };
     }
 
--- another tag is looked for in the rest
-find-past : (b : List ℕ) (at t start len next u : ℕ) → Stepped b at t start len next → (t ≡ u → ⊥) → findTag u (fieldsFrom at b) ≡ findTag u (fieldsFrom next b)
-unfolding findTag
-find-past b at t start len next u w d = rw (w .fields) (simp (ne-eqb t u d))
+held-room : (row : List ℕ) (from j : ℕ) (left : List Fld) → Held row from j left → j < 341
+held-room row from j [] h = h .1
+held-room row from j (f ∷ fs) h = h .0 .room
 
-find-now : (b : List ℕ) (at t start len next : ℕ) → Stepped b at t start len next → findTag t (fieldsFrom at b) ≡ At start len
-unfolding findTag
-find-now b at t start len next w = rw (w .fields) (simp (eq-eqb t t refl))
+-- ---- a step over the row: the next field, and those behind it
+pub record Taken (k : Kind) (b row : List ℕ) (from next : ℕ) (says lens : List ℕ) (t start len : ℕ) : Type 0 where
+  pub behind : from ≤ start
+  pub rest : List Fld
+  pub held : Held row from next rest
+  pub gathers : Gathering k b from (fld t (start - from) len ∷ rest) says lens
 
-module _ (k : Kind) (b : List ℕ) (from at : ℕ) (says lens : List ℕ) (inv : Gathering k b from at says lens) (r : Field) (e : r ≡ stepOf b at) where
-  pub place-near : (t start len : ℕ) (next : Cursor) → r ≡ Good t start len next → from + start < 2 ^ 64
-  place-near t start len next g = let w = step-good b at r t start len next e g in omega (arith, inv .near, w .value, w .within)
+-- a test that the tag is not 10
+good-if : (a : Bool) (t start len n t′ start′ len′ : ℕ) (next : Seat) → cond a Noted.End (Noted.Good t start len (record { number = n })) ≡ Noted.Good t′ start′ len′ next
+    → (a ≡ false) × (t ≡ t′) × (start ≡ start′) × (len ≡ len′) × (n ≡ next .number)
+good-if false t start len n t′ start′ len′ next e = (refl, cc, cc, cc, cc)
+good-if true t start len n t′ start′ len′ next e = let z : _≡_ {A = ℕ} 0 1 = cc in absurd (suc-ne-zero 0 (sym z))
 
-  module _ (t start len : ℕ) (next : Cursor) (g : r ≡ Good t start len next) (x : Judged) (ex : x ≡ judge k b from (fld t start len)) where
-    step : Stepped b at t start len (next .at)
-    step = step-good b at r t start len next e g
+end-if : (a : Bool) (t start len n : ℕ) → cond a Noted.End (Noted.Good t start len (record { number = n })) ≡ Noted.End → a ≡ true
+end-if true t start len n e = refl
+end-if false t start len n e = let z : _≡_ {A = ℕ} 0 1 = cc in absurd (suc-ne-zero 0 (sym z))
 
-    pub gather-fails : (reason : ℕ) (says′ lens′ : List ℕ) → x ≡ Judged.Fails reason → Walked k b from (Verdict.Fails reason t) says′ lens′
-    unfolding firstFailing
-    gather-fails reason says′ lens′ gx =
+-- the field of the row, by its numbers
+record Numbers (row : List ℕ) (from j : ℕ) (f : Fld) : Type 0 where
+  tag : getD row (j * 3) 0 ≡ f .tag
+  start : getD row (j * 3 + 1) 0 ≡ from + f .start
+  len : getD row (j * 3 + 2) 0 ≡ f .len
+
+numbers : (row : List ℕ) (from j : ℕ) (f : Fld) → fieldAt row j ≡ moved from f → Numbers row from j f
+unfolding fieldAt moved
+numbers row from j f e = record { tag = ap (λ (g : Fld). g .tag) e; start = ap (λ (g : Fld). g .start) e; len = ap (λ (g : Fld). g .len) e }
+
+module _ (k : Kind) (b row : List ℕ) (from j : ℕ) (says lens : List ℕ) (inv : Seated k b row from j says lens) where
+  pub seat-room : j < 341
+  seat-room = held-room row from j (inv .left) (inv .held)
+
+  module _ (r : Noted) (e : r ≡ seatOf row j) where
+    taken-by : (left : List Fld) → Held row from j left → Gathering k b from left says lens → (t start len : ℕ) (next : Seat) → r ≡ Noted.Good t start len next
+        → Taken k b row from (next .number) says lens t start len
+    unfolding seatOf
+    taken-by [] h w t start len next g =
+        let q = good-if (eqb (getD row (j * 3) 0) 10) _ _ _ _ t start len next (sym e ∙ g) in
+        absurd (eqb-false (getD row (j * 3) 0) 10 (q .0) (h .0))
+    taken-by (f ∷ fs) h w t start len next g =
+        let q = good-if (eqb (getD row (j * 3) 0) 10) _ _ _ _ t start len next (sym e ∙ g) in
+        let n = numbers row from j f (h .0 .here) in
+        let a : f .tag ≡ t = sym (n .tag) ∙ q .1 in
+        let c : from + f .start ≡ start = sym (n .start) ∙ q .2 in
+        let d : f .len ≡ len = sym (n .len) ∙ q .3 in
+        let z : f .start ≡ start - from = omega (arith, c) in
         record {
-          verdict = sym (inv .verdict ∙ rw (step .fields) (rw (← ex, gx)));
-          rows = λ q. let z : _≡_ {A = ℕ} 0 1 = cc in absurd (suc-ne-zero 0 (sym z));
+          behind = omega (arith, c);
+          rest = fs;
+          held = rw (← q .4) (h .1);
+          gathers = rw (← a, ← z, ← d) w;
         }
 
-    module _ (n : ℕ) (gx : x ≡ Judged.Says n) where
-      m : Means k b from (fld t start len) n
-      m = says-means k b from (fld t start len) n (sym ex ∙ gx)
+    pub taken : (t start len : ℕ) (next : Seat) → r ≡ Noted.Good t start len next → Taken k b row from (next .number) says lens t start len
+    taken t start len next g = taken-by (inv .left) (inv .held) (inv .gathers) t start len next g
 
-      verdict-next : firstFailing k b from (fieldsOf b) ≡ firstFailing k b from (fieldsFrom (next .at) b)
-      unfolding firstFailing
-      verdict-next = inv .verdict ∙ rw (step .fields) (rw (← ex, gx))
+    pub seat-behind : (t start len : ℕ) (next : Seat) → r ≡ Noted.Good t start len next → from ≤ start
+    seat-behind t start len next g = taken t start len next g .behind
 
-      -- its tag has something in the rows already
-      again : (getD lens (slot t) 0 ≡ 0 → ⊥) → Gathering k b from (next .at) says lens
-      again h =
-          record {
-            says-room = inv .says-room;
-            lens-room = inv .lens-room;
-            near = inv .near;
-            verdict = verdict-next;
-            fresh = λ u l z.
-                let f = inv .fresh u l z in
-                (f .0, f .1 ∙ find-past b at t start len (next .at) u step (λ q. h (rw q z)));
-            held = inv .held;
-          }
+    pub seat-less : (t start len : ℕ) (next : Seat) → r ≡ Noted.Good t start len next → 341 - next .number < 341 - j
+    unfolding seatOf
+    seat-less t start len next g =
+        let q = good-if (eqb (getD row (j * 3) 0) 10) _ _ _ _ t start len next (sym e ∙ g) in
+        omega (arith, q .4, seat-room)
 
-      -- it has nothing yet
-      module _ (h : getD lens (slot t) 0 ≡ 0) where
-        first : findTag t (fieldsOf b) ≡ At start len
-        first = inv .fresh t (m .listed-is) h .1 ∙ find-now b at t start len (next .at) step
+    pub place-near : (t start len : ℕ) (next : Seat) → r ≡ Noted.Good t start len next → start < 2 ^ 64 → from + (start - from) < 2 ^ 64
+    place-near t start len next g h = omega (arith, seat-behind t start len next g)
 
-        other : (u : ℕ) → listed u ≡ true → (u ≡ t → ⊥) → (getD (set says (slot t) n) (slot u) 0 ≡ getD says (slot u) 0) × (getD (set lens (slot t) len) (slot u) 0 ≡ getD lens (slot u) 0)
-        other u l d =
-            let a = slots-differ u t l (m .listed-is) d in
-            (getD-set-other says (slot t) (slot u) n 0 a, getD-set-other lens (slot t) (slot u) len 0 a)
+    empty-by : (left : List Fld) → Held row from j left → r ≡ Noted.End → left ≡ []
+    unfolding seatOf
+    empty-by [] h g = refl
+    empty-by (f ∷ fs) h g =
+        let q = end-if (eqb (getD row (j * 3) 0) 10) _ _ _ _ (sym e ∙ g) in
+        absurd (h .0 .other (sym (numbers row from j f (h .0 .here) .tag) ∙ eqb-true (getD row (j * 3) 0) 10 q))
 
-        same-says : getD (set says (slot t) n) (slot t) 0 ≡ n
-        same-says = getD-set-same says (slot t) n 0 (omega (arith, inv .says-room))
+    module _ (t start len : ℕ) (next : Seat) (g : r ≡ Noted.Good t start len next) where
+      step : Taken k b row from (next .number) says lens t start len
+      step = taken t start len next g
 
-        same-lens : getD (set lens (slot t) len) (slot t) 0 ≡ len
-        same-lens = getD-set-same lens (slot t) len 0 (omega (arith, inv .lens-room))
+      w : Gathering k b from (fld t (start - from) len ∷ step .rest) says lens
+      w = step .gathers
 
-        said-here : n ≡ saidIn b from t
-        unfolding saidIn
-        said-here = rw first (rw (m .looks))
-
-        length-here : len ≡ lengthIn b t
-        unfolding lengthIn
-        length-here = rw first
-
-        stored : Gathering k b from (next .at) (set says (slot t) n) (set lens (slot t) len)
-        stored =
+      module _ (x : Judged) (ex : x ≡ judge k b from (fld t (start - from) len)) where
+        pub gather-fails : (reason : ℕ) (says′ lens′ : List ℕ) → x ≡ Judged.Fails reason → Walked k b from (Verdict.Fails reason t) says′ lens′
+        unfolding firstFailing
+        gather-fails reason says′ lens′ gx =
             record {
-              says-room = simp length-set (inv .says-room);
-              lens-room = simp length-set (inv .lens-room);
-              near = inv .near;
-              verdict = verdict-next;
-              fresh = λ u l z. split (eqb u t)
-                  (λ y. absurd (m .some (sym same-lens ∙ rw (eqb-true u t y) at z)))
-                  (λ d.
-                  let o = other u l (eqb-false u t d) in
-                  let f = inv .fresh u l (sym (o .1) ∙ z) in
-                  (o .0 ∙ f .0, f .1 ∙ find-past b at t start len (next .at) u step (λ q. eqb-false u t d (sym q))));
-              held = λ u l z. split (eqb u t)
-                  (λ y. rw (eqb-true u t y) (same-says ∙ said-here, same-lens ∙ length-here))
-                  (λ d.
-                  let o = other u l (eqb-false u t d) in
-                  let f = inv .held u l (λ q. z (o .1 ∙ q)) in
-                  (o .0 ∙ f .0, o .1 ∙ f .1));
+              verdict = sym (w .verdict ∙ rw (← ex, gx));
+              rows = λ q. let z : _≡_ {A = ℕ} 0 1 = cc in absurd (suc-ne-zero 0 (sym z));
             }
 
-      pub gather-more : (says′ lens′ : List ℕ) → says′ ≡ keptSays says lens t n → lens′ ≡ keptLens lens t len → Gathering k b from (next .at) says′ lens′
-      unfolding keptSays keptLens
-      gather-more says′ lens′ es el =
-          split (eqb (getD lens (slot t) 0) 0)
-          (λ y. rw (es, el) (rw y (stored (eqb-true (getD lens (slot t) 0) 0 y))))
-          (λ d. rw (es, el) (rw d (again (eqb-false (getD lens (slot t) 0) 0 d))))
+        module _ (n : ℕ) (gx : x ≡ Judged.Says n) where
+          m : Means k b from (fld t (start - from) len) n
+          m = says-means k b from (fld t (start - from) len) n (sym ex ∙ gx)
 
-  pub gather-broken : r ≡ Broken → Walked k b from (Verdict.Fails 3 0) says lens
-  unfolding firstFailing judge listed belongs oneOf
-  gather-broken g =
-      record {
-        verdict = sym (inv .verdict ∙ rw (step-broken b at r e g));
-        rows = λ q. let z : _≡_ {A = ℕ} 0 1 = cc in absurd (suc-ne-zero 0 (sym z));
-      }
+          verdict-next : firstFailing k b from (fieldsOf b) ≡ firstFailing k b from (step .rest)
+          unfolding firstFailing
+          verdict-next = w .verdict ∙ rw (← ex, gx)
 
-  pub gather-end : r ≡ End → Walked k b from Verdict.Passes says lens
-  unfolding firstFailing findTag saidIn lengthIn
-  gather-end g =
-      record {
-        verdict = sym (inv .verdict ∙ rw (step-end b at r e g));
-        rows = λ q. λ t l. split (eqb (getD lens (slot t) 0) 0)
-            (λ y.
-            let z = eqb-true (getD lens (slot t) 0) 0 y in
-            let f = inv .fresh t l z in
-            let w : findTag t (fieldsOf b) ≡ Nothing = f .1 ∙ rw (step-end b at r e g) in
-            (f .0 ∙ rw w, z ∙ rw w))
-            (λ d. inv .held t l (eqb-false (getD lens (slot t) 0) 0 d));
-      }
+          -- another tag is looked for in the rest
+          find-past : (u : ℕ) → (t ≡ u → ⊥) → findTag u (fld t (start - from) len ∷ step .rest) ≡ findTag u (step .rest)
+          unfolding findTag
+          find-past u d = simp (ne-eqb t u d)
+
+          find-now : findTag t (fld t (start - from) len ∷ step .rest) ≡ At (start - from) len
+          unfolding findTag
+          find-now = simp (eq-eqb t t refl)
+
+          -- its tag has something in the rows already
+          again : (getD lens (slot t) 0 ≡ 0 → ⊥) → Gathering k b from (step .rest) says lens
+          again h =
+              record {
+                says-room = w .says-room;
+                lens-room = w .lens-room;
+                verdict = verdict-next;
+                fresh = λ u l z.
+                    let f = w .fresh u l z in
+                    (f .0, f .1 ∙ find-past u (λ q. h (rw q z)));
+                held = w .held;
+              }
+
+          -- it has nothing yet
+          module _ (h : getD lens (slot t) 0 ≡ 0) where
+            first : findTag t (fieldsOf b) ≡ At (start - from) len
+            first = w .fresh t (m .listed-is) h .1 ∙ find-now
+
+            other : (u : ℕ) → listed u ≡ true → (u ≡ t → ⊥) → (getD (set says (slot t) n) (slot u) 0 ≡ getD says (slot u) 0) × (getD (set lens (slot t) len) (slot u) 0 ≡ getD lens (slot u) 0)
+            other u l d =
+                let a = slots-differ u t l (m .listed-is) d in
+                (getD-set-other says (slot t) (slot u) n 0 a, getD-set-other lens (slot t) (slot u) len 0 a)
+
+            same-says : getD (set says (slot t) n) (slot t) 0 ≡ n
+            same-says = getD-set-same says (slot t) n 0 (omega (arith, w .says-room))
+
+            same-lens : getD (set lens (slot t) len) (slot t) 0 ≡ len
+            same-lens = getD-set-same lens (slot t) len 0 (omega (arith, w .lens-room))
+
+            said-here : n ≡ saidIn b from t
+            unfolding saidIn
+            said-here = rw first (rw (m .looks))
+
+            length-here : len ≡ lengthIn b t
+            unfolding lengthIn
+            length-here = rw first
+
+            stored : Gathering k b from (step .rest) (set says (slot t) n) (set lens (slot t) len)
+            stored =
+                record {
+                  says-room = simp length-set (w .says-room);
+                  lens-room = simp length-set (w .lens-room);
+                  verdict = verdict-next;
+                  fresh = λ u l z. split (eqb u t)
+                      (λ y. absurd (m .some (sym same-lens ∙ rw (eqb-true u t y) at z)))
+                      (λ d.
+                      let o = other u l (eqb-false u t d) in
+                      let f = w .fresh u l (sym (o .1) ∙ z) in
+                      (o .0 ∙ f .0, f .1 ∙ find-past u (λ q. eqb-false u t d (sym q))));
+                  held = λ u l z. split (eqb u t)
+                      (λ y. rw (eqb-true u t y) (same-says ∙ said-here, same-lens ∙ length-here))
+                      (λ d.
+                      let o = other u l (eqb-false u t d) in
+                      let f = w .held u l (λ q. z (o .1 ∙ q)) in
+                      (o .0 ∙ f .0, o .1 ∙ f .1));
+                }
+
+          pub gather-more : (says′ lens′ : List ℕ) → says′ ≡ keptSays says lens t n → lens′ ≡ keptLens lens t len → Seated k b row from (next .number) says′ lens′
+          unfolding keptSays keptLens
+          gather-more says′ lens′ es el =
+              split (eqb (getD lens (slot t) 0) 0)
+              (λ y. record { left = step .rest; held = step .held; gathers = rw (es, el) (rw y (stored (eqb-true (getD lens (slot t) 0) 0 y))) })
+              (λ d. record { left = step .rest; held = step .held; gathers = rw (es, el) (rw d (again (eqb-false (getD lens (slot t) 0) 0 d))) })
+
+    ended : (left : List Fld) → left ≡ [] → Gathering k b from left says lens → Walked k b from Verdict.Passes says lens
+    unfolding firstFailing findTag saidIn lengthIn
+    ended left q w =
+        record {
+          verdict = sym (w .verdict ∙ rw q);
+          rows = λ q′. λ t l. split (eqb (getD lens (slot t) 0) 0)
+              (λ y.
+              let z = eqb-true (getD lens (slot t) 0) 0 y in
+              let f = w .fresh t l z in
+              let v : findTag t (fieldsOf b) ≡ Nothing = f .1 ∙ rw q in
+              (f .0 ∙ rw v, z ∙ rw v))
+              (λ d. w .held t l (eqb-false (getD lens (slot t) 0) 0 d));
+        }
+
+    pub gather-end : r ≡ Noted.End → Walked k b from Verdict.Passes says lens
+    gather-end g = ended (inv .left) (empty-by (inv .left) (inv .held) g) (inv .gathers)

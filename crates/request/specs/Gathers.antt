@@ -5,7 +5,10 @@ use mathlib.Core.List.{List, [], _∷_}
 use mathlib.Core.Bool.{Bool, true, false, cond}
 use lib.ListN.{length, getD, set, replicate}
 use lib.Dec.{eqb}
+use Rattle.octets.specs.Octets.{partAt}
 use Rattle.fix.specs.Fields.{Fld, fieldsOf, findTag}
+use Rattle.fix.specs.Garbled.{headOf, bodyPart}
+use Rattle.fix.specs.Steps.{Held}
 use Rattle.fix.specs.declared.frame.Part.{Part}
 use Rattle.fix.specs.declared.frame.Head.{Head}
 use Rattle.request.specs.declared.Kind.{Kind}
@@ -21,11 +24,11 @@ use Rattle.request.specs.Asks.{saidIn, lengthIn, refusalOf}
 abbrev pub slot : ℕ → ℕ
 slot t = t % 28
 
--- the rows are empty, and the body's places are numbers of 64 bits
-pub record Starts (b : List ℕ) (from : ℕ) (says lens : List ℕ) : Type 0 where
+-- the rows are empty, and the row of the message holds the fields of the body
+pub record Starts (b row : List ℕ) (from : ℕ) (says lens : List ℕ) : Type 0 where
   pub no-says : says ≡ replicate 28 0
   pub no-lens : lens ≡ replicate 28 0
-  pub near : from + length b < 2 ^ 64
+  pub held : Held row from 7 (fieldsOf b)
 
 -- the rows with a field more, where its tag has nothing there yet
 unfoldable pub keptSays : List ℕ → List ℕ → ℕ → ℕ → List ℕ
@@ -42,6 +45,11 @@ Gathered b from says lens = (t : ℕ) → listed t ≡ true → (getD says (slot
 pub record Walked (k : Kind) (b : List ℕ) (from : ℕ) (r : Verdict) (says lens : List ℕ) : Type 0 where
   pub verdict : r ≡ firstFailing k b from (fieldsOf b)
   pub rows : r ≡ Verdict.Passes → Gathered b from says lens
+
+-- the head is that of the message, and the row holds the fields of its body
+pub record Admitted (s : List ℕ) (h : Head) (row : List ℕ) : Type 0 where
+  pub head : h ≡ headOf s
+  pub held : Held row (bodyPart s .start) 7 (fieldsOf (partAt s (bodyPart s .start) (bodyPart s .len)))
 
 -- the first of the tags with no length in the row
 unfoldable pub firstUnset : List ℕ → List ℕ → ℕ

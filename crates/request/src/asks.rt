@@ -12,7 +12,7 @@ use crate::body::missing;
 use fix::frame::Frame;
 use fix::frame::Head;
 use fix::frame::Part;
-use fix::frame::framed;
+use fix::frame::framed_in;
 use octets::part::part_at;
 use octets::part::same;
 ghost use mathlib.Core.Path.{_≡_};
@@ -20,10 +20,11 @@ ghost use mathlib.Core.List.{[], _∷_};
 ghost use Prim.Native.Nat.{ℕ, _+_, _-_, _^_, _≤_, _<_};
 ghost use lib.ListN.{length, getD};
 ghost use Rattle.octets.specs.Octets.{partAt};
-ghost use Rattle.fix.specs.Garbled.{headOf};
+ghost use Rattle.fix.specs.Fields.{fieldsOf};
+ghost use Rattle.fix.specs.Steps.{Held};
 ghost use Rattle.request.specs.Session.{kindOf};
 ghost use Rattle.request.specs.Asks.{isKnown, refusalOf, bodyAsked, headAsked, askedOf};
-ghost use Rattle.request.specs.Gathers.{slot, textRow, termsRow, requestRow, completedRow};
+ghost use Rattle.request.specs.Gathers.{slot, Admitted, textRow, termsRow, requestRow, completedRow};
 
 // The type that the value of 35 names.
 fn kind_of(v: &[u8]) -> Kind
@@ -148,22 +149,23 @@ fn completes(kind: Kind, h: Head, says: &[u64; 28], lens: &[u64; 28]) -> Asked
 }
 
 // The body, a part from the middle of the message, is handed on to the reader of fields and decides.
-fn decides(s: &[u8], kind: Kind, h: Head) -> Asked
+fn decides(s: &[u8], kind: Kind, h: Head, row: &[u16; 1023]) -> Asked
+    requires { ⌜ Held (now row) (h .body .start) 7 (fieldsOf (partAt (now s) (h .body .start) (h .body .len))) ⌝ }
     ensures { λ r. ⌜ r ≡ bodyAsked kind h (partAt (now (s .entry)) (h .body .start) (h .body .len)) (h .body .start) ⌝ }
 {
     let mut says: [u64; 28] = [0; 28];
     let mut lens: [u64; 28] = [0; 28];
     let from = h.body.start;
     let body = part_at(s, from, h.body.len);
-    match gather(kind, body, from as u64, &mut says, &mut lens) {
+    match gather(kind, body, from, row, &mut says, &mut lens) {
         Verdict::Fails { reason, tag } => refuses(h, reason, tag),
         Verdict::Passes => completes(kind, h, &says, &lens),
     }
 }
 
 // What a message that is not garbled asks: the type, the ids, then the body.
-fn admits(venue: &[u8], port: &[u8], s: &[u8], h: Head) -> Asked
-    requires { ⌜ h ≡ headOf (now s) ⌝ }
+fn admits(venue: &[u8], port: &[u8], s: &[u8], h: Head, row: &[u16; 1023]) -> Asked
+    requires { ⌜ Admitted (now s) h (now row) ⌝ }
     ensures { λ r. ⌜ r ≡ headAsked (now (venue .entry)) (now (port .entry)) (now (s .entry)) ⌝ }
 {
     let kind = kind_of(part_at(s, h.kind.start, h.kind.len));
@@ -176,15 +178,16 @@ fn admits(venue: &[u8], port: &[u8], s: &[u8], h: Head) -> Asked
     if !same(part_at(s, h.target.start, h.target.len), venue) {
         return refuses(h, 9, 56);
     }
-    decides(s, kind, h)
+    decides(s, kind, h, row)
 }
 
 // What a message asks of the market with this venue id and this port id.
 pub fn asked(venue: &[u8], port: &[u8], s: &[u8]) -> Asked
     ensures { λ r. ⌜ r ≡ askedOf (now (venue .entry)) (now (port .entry)) (now (s .entry)) ⌝ }
 {
-    match framed(s) {
+    let mut row: [u16; 1023] = [0; 1023];
+    match framed_in(s, &mut row) {
         Frame::Garbled => Asked::Garbled,
-        Frame::Good(h) => admits(venue, port, s, h),
+        Frame::Good(h) => admits(venue, port, s, h, &row),
     }
 }

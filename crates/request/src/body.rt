@@ -5,8 +5,8 @@ use crate::Verdict;
 use crate::values::in_kind;
 use crate::values::in_some;
 use crate::values::look;
-use fix::fields::Cursor;
-use fix::fields::Field;
+use fix::pass::Noted;
+use fix::pass::Seat;
 use octets::part::part_at;
 ghost use mathlib.Core.Path.{_≡_};
 ghost use mathlib.Core.List.{[], _∷_};
@@ -46,34 +46,35 @@ fn keep(says: &mut [u64; 28], lens: &mut [u64; 28], tag: u64, n: u64, len: usize
     }
 }
 
-// Walks over the fields of a body. The rows take, for each listed tag, what its value says and how long it is.
+// Goes over the fields of a body, which stands at place `from` of the message whose row of places this is. The rows take, for
+// each listed tag, what its value says and how long it is.
 pub fn gather(
     kind: Kind,
     b: &[u8],
-    from: u64,
+    from: usize,
+    row: &[u16; 1023],
     says: &mut [u64; 28],
     lens: &mut [u64; 28],
 ) -> Verdict
-    requires { ⌜ Starts (now b) from (now says) (now lens) ⌝ }
+    requires { ⌜ Starts (now b) (now row) from (now says) (now lens) ⌝ }
     ensures { λ r. ⌜ Walked kind (now (b .entry)) from r (now (says .exit)) (now (lens .exit)) ⌝ }
 {
-    let mut c = Cursor { at: 0 };
+    let mut c = Seat { number: 7 };
     loop {
-        match c.step(b) {
-            Field::Good {
+        match c.step(row) {
+            Noted::Good {
                 tag,
                 start,
                 len,
                 next,
             } => {
-                match judged(kind, b, from, tag, start, len) {
+                match judged(kind, b, from as u64, tag, start - from, len) {
                     Judged::Says(n) => keep(says, lens, tag, n, len),
                     Judged::Fails(reason) => return Verdict::Fails { reason, tag },
                 }
                 c = next;
             }
-            Field::Broken => return Verdict::Fails { reason: 3, tag: 0 },
-            Field::End => return Verdict::Passes,
+            Noted::End => return Verdict::Passes,
         }
     }
 }

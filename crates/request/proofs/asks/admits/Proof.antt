@@ -1,5 +1,5 @@
 -- The type, the port, the venue, then the body.
-use Rattle.request.proofs.Answers.{admits-kind, admits-sender, admits-target, admits-body}
+use Rattle.request.proofs.Answers.{admits-kind, admits-sender, admits-target, admits-body, admits-held}
 use borrow.Author.Needs.{needs}
 use Rattle.request.proofs.asks.admits.Statement.{statement}
 use Rattle.request.proofs.asks.admits.Tie as tie
@@ -44,7 +44,7 @@ returns-3 : tie.Need-returns-3
 returns-3 c = search (needs, admits-target)
 
 decides-requires : tie.Need-decides-requires
-decides-requires c κs = search needs
+decides-requires c κs = search (needs, admits-held)
 
 returns-4 : tie.Need-returns-4
 returns-4 c = search (needs, admits-body)

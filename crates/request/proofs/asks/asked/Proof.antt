@@ -1,11 +1,12 @@
 -- Garbled, or what the head leads to.
 use Rattle.request.proofs.Answers.{asked-garbled, asked-head, asked-good}
+use mathlib.Core.Path.{refl}
 use borrow.Author.Needs.{needs}
 use Rattle.request.proofs.asks.asked.Statement.{statement}
 use Rattle.request.proofs.asks.asked.Tie as tie
 
-framed-requires : tie.Need-framed-requires
-framed-requires c κs = search needs
+framed-in-requires : tie.Need-framed-in-requires
+framed-in-requires c κs = refl
 
 enum-told : tie.Need-enum-told
 enum-told c = search needs
@@ -24,4 +25,4 @@ returns-2 c = search (needs, asked-good)
 
 pub asked-spec : {M : Type 1} → statement M
 asked-spec =
-    tie.close (tie.spec framed-requires enum-told enum-known-h admits-requires returns returns-2)
+    tie.close (tie.spec framed-in-requires enum-told enum-known-h admits-requires returns returns-2)

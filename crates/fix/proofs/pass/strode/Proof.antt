@@ -1,0 +1,70 @@
+-- The tag, the value behind it, and the SOH that ends it.
+use Rattle.fix.proofs.Carries.{strode-none, strode-start, strode-fits, strode-rest, strode-end, strode-other, strode-good}
+use borrow.Author.Needs.{needs}
+use Rattle.fix.proofs.pass.strode.Statement.{statement}
+use Rattle.fix.proofs.pass.strode.Tie as tie
+
+spelled-requires : tie.Need-spelled-requires
+spelled-requires c κs = search needs
+
+returns : tie.Need-returns
+returns c = search (needs, strode-none)
+
+add-v : tie.Need-add-v
+add-v c = search (needs, strode-fits)
+
+sub-run : tie.Need-sub-run
+sub-run c = search (needs, strode-start)
+
+part-run-start : tie.Need-part-run-start
+part-run-start c = search (needs, strode-start)
+
+part-run-end : tie.Need-part-run-end
+part-run-end c = search needs
+
+run-requires : tie.Need-run-requires
+run-requires c κs = search (needs, strode-rest)
+
+add-e : tie.Need-add-e
+add-e c = search needs
+
+shared-slice-read-b : tie.Need-shared-slice-read-b
+shared-slice-read-b c = search needs
+
+returns-2 : tie.Need-returns-2
+returns-2 c = search (needs, strode-other)
+
+wrapping-add-u8-requires : tie.Need-wrapping-add-u8-requires
+wrapping-add-u8-requires c κs = search needs
+
+add-t13 : tie.Need-add-t13
+add-t13 c = search needs
+
+add-t20 : tie.Need-add-t20
+add-t20 c = search needs
+
+add-t21 : tie.Need-add-t21
+add-t21 c = search needs
+
+returns-3 : tie.Need-returns-3
+returns-3 c = search (needs, strode-good)
+
+pub strode-spec : {M : Type 1} → statement M
+strode-spec =
+    tie.close
+    (tie.spec
+    spelled-requires
+    returns
+    add-v
+    sub-run
+    part-run-start
+    part-run-end
+    run-requires
+    add-e
+    shared-slice-read-b
+    returns-2
+    wrapping-add-u8-requires
+    add-t13
+    add-t20
+    add-t21
+    returns-3)
