@@ -77,12 +77,16 @@ watched() {
   rm -f "$log"
 }
 
+# prove NAME..: these crates and what they stand on. rt waits for a batch of crates before it starts the next, so one more at a time
+# than there are processors leaves none of them idle.
+prove() { RT_JOBS=${RT_JOBS:-$(($(nproc) + 1))} rt check "$@"; }
+
 # need_program NAME: target/bin/NAME is proved and built.
 need_program() {
   local content
   content=$(content_of "$1")
   is_built "target/bin/$1" "$content" && return
-  watched "$1" rt check "$1"
+  watched "$1" prove "$1"
   mark_built "target/bin/$1" "$content"
 }
 
@@ -98,6 +102,6 @@ need_library() {
 prove_library() {
   local below
   mapfile -t below < <(crates_below "$1" | head -n -1)
-  rt check "${below[@]}" || return 1
+  prove "${below[@]}" || return 1
   rt staticlib "$1" >"target/log/$1.out" 2>&1 || { cat "target/log/$1.out"; return 1; }
 }
