@@ -183,12 +183,13 @@ static void garbling(unsigned n, int calls)
         must(submit(&m) == 5);
 }
 
-/* The check of a table alone: there is no such side. */
-static void checking(int calls)
+/* The check of a table with n open orders, alone: there is no such side. */
+static void checking(unsigned n, int calls)
 {
     uint64_t found, total, orders;
     int64_t yield;
     must(open_market() == 0);
+    enter_sells(1, n);
     if (calls)
         must(kamurjesh_depth(table, sizeof table, 3, 0, &found, &yield, &total, &orders) == 10);
 }
@@ -213,8 +214,8 @@ int main(int count, char **words)
         depth(n, calls);
     else if (sscanf(name, "garbled-%u%c", &n, &rest) == 1 && n >= 64 && n <= 1024)
         garbling(n, calls);
-    else if (strcmp(name, "check") == 0)
-        checking(calls);
+    else if (sscanf(name, "check-%u%c", &n, &rest) == 1 && n <= 254)
+        checking(n, calls);
     else if (strcmp(name, "read") == 0)
         reading(calls);
     else if (strcmp(name, "field") == 0)
