@@ -1,7 +1,7 @@
 -- The frame of a report: what each answer of its readers rests on.
 use Prim.Native.Nat.{ℕ, zero, suc, _+_, _-_, _^_, _≤_, _<_}
 use mathlib.Core.Path.{_≡_, refl, sym, ap, _∙_}
-use mathlib.Core.Bool.{Bool, true, false, cond, _&&_, and-false, false≢true}
+use mathlib.Core.Bool.{Bool, true, false, cond, _&&_, and-false}
 use mathlib.Core.List.{List, [], _∷_, _++_}
 use native.Mathlib.Omega.{arith}
 use lib.Dec.{ltb, leb, eqb}
@@ -76,7 +76,7 @@ module _ (s : List ℕ) (h : 10 ≤ length s) (t : Bool) (te : t ≡ starts (lab
 
   module _ (y : t ≡ true) where
     pub nine-within : 12 ≤ length s
-    nine-within = label-within s 10 lengthSlot 1 one-digit h t te y
+    nine-within = label-within s 10 9 1 one-digit h t te y
 
     module _ (e : ℕ) (k : e ≡ 12 + lenTo (drop 12 s)) where
       pub nine-none : length s ≤ e → Wrong ≡ fieldAt s 10 lengthSlot
@@ -157,33 +157,26 @@ module _ (s : List ℕ) (slots : List Slot) (f : Frame) (fe : f ≡ bodyAt s) wh
     unfolding readFramed
     framed = rw (sym fe ∙ e)
 
+    no-sum : (q : Rows) → trailerAt s (from + len) ≡ false → checked s (from + len) q ≡ bad
+    no-sum (row fs n) t = rw (t, and-false (eqb n (from + len)))
+    no-sum bad t = refl
+
+    pub framed-sum : (t : Bool) → t ≡ trailerAt s (from + len) → t ≡ false → (b : Row) → b ≡ rowOf bad → b ≡ rowOf (readFramed s slots)
+    framed-sum t te n b be = be ∙ sym (ap rowOf (framed ∙ no-sum (readRow s from slots) (sym te ∙ n)))
+
     module _ (r : Row) (re : r ≡ rowOf (readRow s from slots)) where
-      good : (q : Rows) → r ≡ rowOf q → r .ok ≡ true → r .next ≡ from + len → trailerAt s (from + len) ≡ true → rowOf (checked s (from + len) q) ≡ r
-      good (row fs n) e k m t =
+      good : (q : Rows) → r ≡ rowOf q → r .next ≡ from + len → trailerAt s (from + len) ≡ true → rowOf (checked s (from + len) q) ≡ r
+      good (row fs n) e m t =
           let i : n ≡ from + len = ap (λ (w : Row). w .next) (sym e) ∙ m in
           rw (eq-eqb n (from + len) i, t) (sym e)
-      good bad e k m t = absurd (false≢true (ap (λ (w : Row). w .ok) (sym e) ∙ k))
+      good bad e m t = sym e
 
-      pub framed-good : r .ok ≡ true → r .next ≡ from + len → (t : Bool) → t ≡ trailerAt s (from + len) → t ≡ true → r ≡ rowOf (readFramed s slots)
-      framed-good k m t te y = sym (ap rowOf framed ∙ good (readRow s from slots) re k m (sym te ∙ y))
+      pub framed-good : (t : Bool) → t ≡ trailerAt s (from + len) → t ≡ true → r .next ≡ from + len → r ≡ rowOf (readFramed s slots)
+      framed-good t te y m = sym (ap rowOf framed ∙ good (readRow s from slots) re m (sym te ∙ y))
 
-      no-sum : (q : Rows) → trailerAt s (from + len) ≡ false → checked s (from + len) q ≡ bad
-      no-sum (row fs n) t = rw (t, and-false (eqb n (from + len)))
-      no-sum bad t = refl
+      no-end : (q : Rows) → r ≡ rowOf q → (r .next ≡ from + len → ⊥) → checked s (from + len) q ≡ bad
+      no-end (row fs n) e m = rw (ne-eqb n (from + len) (λ i. m (ap (λ (w : Row). w .next) e ∙ i)))
+      no-end bad e m = refl
 
-      pub framed-sum : (t : Bool) → t ≡ trailerAt s (from + len) → t ≡ false → (b : Row) → b ≡ rowOf bad → b ≡ rowOf (readFramed s slots)
-      framed-sum t te n b be = be ∙ sym (ap rowOf (framed ∙ no-sum (readRow s from slots) (sym te ∙ n)))
-
-      no-end : (q : Rows) → r ≡ rowOf q → r .ok ≡ true → (r .next ≡ from + len → ⊥) → checked s (from + len) q ≡ bad
-      no-end (row fs n) e k m = rw (ne-eqb n (from + len) (λ i. m (ap (λ (w : Row). w .next) e ∙ i)))
-      no-end bad e k m = refl
-
-      pub framed-end : r .ok ≡ true → (r .next ≡ from + len → ⊥) → (b : Row) → b ≡ rowOf bad → b ≡ rowOf (readFramed s slots)
-      framed-end k m b be = be ∙ sym (ap rowOf (framed ∙ no-end (readRow s from slots) re k m))
-
-      no-row : (q : Rows) → r ≡ rowOf q → r .ok ≡ false → checked s (from + len) q ≡ bad
-      no-row (row fs n) e k = absurd (false≢true (sym k ∙ ap (λ (w : Row). w .ok) e))
-      no-row bad e k = refl
-
-      pub framed-bad : r .ok ≡ false → (b : Row) → b ≡ rowOf bad → b ≡ rowOf (readFramed s slots)
-      framed-bad k b be = be ∙ sym (ap rowOf (framed ∙ no-row (readRow s from slots) re k))
+      pub framed-end : (r .next ≡ from + len → ⊥) → (b : Row) → b ≡ rowOf bad → b ≡ rowOf (readFramed s slots)
+      framed-end m b be = be ∙ sym (ap rowOf (framed ∙ no-end (readRow s from slots) re m))

@@ -48,9 +48,9 @@ module _ (s : List ℕ) (v : ℕ) (shape : Shape) (e : ℕ) (k : e ≡ v + lenTo
     value-no i = sym (ap (λ w. gotOf w (e + 1)) i) ∙ value-is
 
 -- ---- fields
-module _ (s : List ℕ) (at : ℕ) (slot : Slot) (k : ℕ) (e : k ≡ length (decimal (slot .tag))) (h : at ≤ length s) (t : Bool) (st : t ≡ starts (label (slot .tag)) (drop at s)) where
+module _ (s : List ℕ) (at tag k : ℕ) (e : k ≡ length (decimal tag)) (h : at ≤ length s) (t : Bool) (st : t ≡ starts (label tag) (drop at s)) where
   pub label-within : t ≡ true → at + k + 1 ≤ length s
-  label-within y = omega (arith, starts-length (label (slot .tag)) (drop at s) (sym st ∙ y), label-length (slot .tag), length-drop at s)
+  label-within y = omega (arith, starts-length (label tag) (drop at s) (sym st ∙ y), label-length tag, length-drop at s)
 
   pub label-fits : length s < 2 ^ 64 → t ≡ true → Fits w64 (at + k)
   label-fits l y = record { fits = omega (arith, label-within y) }
@@ -58,6 +58,13 @@ module _ (s : List ℕ) (at : ℕ) (slot : Slot) (k : ℕ) (e : k ≡ length (de
   pub value-fits : length s < 2 ^ 64 → t ≡ true → Fits w64 (at + k + 1)
   value-fits l y = record { fits = omega (arith, label-within y) }
 
+  pub end-there : t ≡ true → (n : ℕ) → n ≡ at + k + 1 + lenTo (drop (at + k + 1) s) → n ≡ cond (starts (label tag) (drop at s)) (at + k + 1 + lenTo (drop (at + k + 1) s)) at
+  end-there y n q = rw (sym st ∙ y) q
+
+  pub end-none : t ≡ false → at ≡ cond (starts (label tag) (drop at s)) (at + k + 1 + lenTo (drop (at + k + 1) s)) at
+  end-none n = rw (sym st ∙ n)
+
+module _ (s : List ℕ) (at : ℕ) (slot : Slot) (k : ℕ) (e : k ≡ length (decimal (slot .tag))) (h : at ≤ length s) (t : Bool) (st : t ≡ starts (label (slot .tag)) (drop at s)) where
   pub field-yes : t ≡ true → (g : Got) → g ≡ valueAt s (at + k + 1) (slot .shape) → g ≡ fieldAt s at slot
   unfolding fieldAt
   field-yes y g q =
@@ -71,6 +78,35 @@ module _ (s : List ℕ) (at : ℕ) (slot : Slot) (k : ℕ) (e : k ≡ length (de
   pub field-wrong : t ≡ false → slot .optional ≡ false → Wrong ≡ fieldAt s at slot
   unfolding fieldAt
   field-wrong n o = rw (sym st ∙ n, o)
+
+-- the field at a place, by where its value ends
+module _ (s : List ℕ) (at : ℕ) (slot : Slot) (k : ℕ) (ke : k ≡ length (decimal (slot .tag))) (h : at ≤ length s) (e : ℕ) (q : e ≡ cond (starts (label (slot .tag)) (drop at s)) (at + k + 1 + lenTo (drop (at + k + 1) s)) at) where
+  there : at < e → starts (label (slot .tag)) (drop at s) ≡ true
+  there l = split (starts (label (slot .tag)) (drop at s)) (λ t. t) (λ t. let z : e ≡ at = rw t at q in absurd (omega arith))
+
+  nowhere : e ≤ at → starts (label (slot .tag)) (drop at s) ≡ false
+  nowhere l =
+      split (starts (label (slot .tag)) (drop at s))
+      (λ t. let z : e ≡ at + k + 1 + lenTo (drop (at + k + 1) s) = rw t at q in absurd (omega arith))
+      (λ t. t)
+
+  pub there-fits : length s < 2 ^ 64 → at < e → Fits w64 (at + k)
+  there-fits f l = label-fits s at (slot .tag) k ke h true (sym (there l)) f refl
+
+  pub there-from : length s < 2 ^ 64 → at < e → Fits w64 (at + k + 1)
+  there-from f l = value-fits s at (slot .tag) k ke h true (sym (there l)) f refl
+
+  pub there-ends : at < e → e ≡ at + k + 1 + lenTo (drop (at + k + 1) s)
+  there-ends l = rw (there l) at q
+
+  pub there-yes : at < e → (g : Got) → g ≡ valueAt s (at + k + 1) (slot .shape) → g ≡ fieldAt s at slot
+  there-yes l = field-yes s at slot k ke h true (sym (there l)) refl
+
+  pub there-skip : e ≤ at → slot .optional ≡ true → Found Absent at ≡ fieldAt s at slot
+  there-skip l = field-skip s at slot k ke h false (sym (nowhere l)) refl
+
+  pub there-wrong : e ≤ at → slot .optional ≡ false → Wrong ≡ fieldAt s at slot
+  there-wrong l = field-wrong s at slot k ke h false (sym (nowhere l)) refl
 
 -- the place behind a field is within the bytes
 module _ (s : List ℕ) (x : Value) (n : ℕ) where

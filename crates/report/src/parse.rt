@@ -11,7 +11,7 @@ use decimal::write::digits;
 ghost use mathlib.Core.Path.{_≡_};
 ghost use Prim.Native.Nat.{_+_, _≤_};
 ghost use lib.ListN.{length, drop};
-ghost use mathlib.Core.Bool.{true};
+ghost use mathlib.Core.Bool.{true, cond};
 ghost use Rattle.decimal.specs.Writing.{decimal};
 ghost use Rattle.report.specs.Fields.{label};
 ghost use Rattle.report.specs.Parse.{starts, lenTo, valueAt, fieldAt, rowOf, readRow, hop, placeOf};
@@ -54,12 +54,22 @@ pub fn value_end(s: &[u8], from: usize) -> usize
     e
 }
 
-// The value that begins at a place, and the place behind its SOH.
-fn value_at(s: &[u8], v: usize, shape: Shape) -> Got
-    requires { ⌜ v ≤ length (now s) ⌝ }
+// Where the value of the field at a place ends, if the tag of k digits stands there; the place itself if it does not.
+fn end_at(s: &[u8], at: usize, tag: u64, k: usize) -> usize
+    requires { ⌜ (at ≤ length (now s)) × (k ≡ length (decimal tag)) ⌝ }
+    ensures { λ r. ⌜ r ≡ cond (starts (label tag) (drop at (now (s .entry)))) (at + k + 1 + lenTo (drop (at + k + 1) (now (s .entry)))) at ⌝ }
+{
+    if label_at(s, at, tag, k) {
+        return value_end(s, at + k + 1);
+    }
+    at
+}
+
+// The value from a place to its SOH, and the place behind that.
+fn value_at(s: &[u8], v: usize, e: usize, shape: Shape) -> Got
+    requires { ⌜ e ≡ v + lenTo (drop v (now s)) ⌝ }
     ensures { λ r. ⌜ r ≡ valueAt (now (s .entry)) v shape ⌝ }
 {
-    let e = value_end(s, v);
     if e < s.len() {
         return match pick_value(&s[v..e], shape, v) {
             Pick::Is(value) => Got::Value { value, next: e + 1 },
@@ -69,17 +79,16 @@ fn value_at(s: &[u8], v: usize, shape: Shape) -> Got
     Got::Wrong
 }
 
-// The field that stands at a place, as its slot says.
-fn field_at(s: &[u8], at: usize, slot: Slot) -> Got
-    requires { ⌜ at ≤ length (now s) ⌝ }
+// The field that stands at a place, as its slot says: its tag has k digits, and its value ends at e if it stands there.
+fn field_at(s: &[u8], at: usize, k: usize, e: usize, slot: Slot) -> Got
+    requires { ⌜ (at ≤ length (now s)) × (k ≡ length (decimal (slot .tag))) ⌝ }
+    requires { ⌜ e ≡ cond (starts (label (slot .tag)) (drop at (now s))) (at + k + 1 + lenTo (drop (at + k + 1) (now s))) at ⌝ }
     ensures { λ r. ⌜ r ≡ fieldAt (now (s .entry)) at slot ⌝ }
 {
-    let tag = slot.tag;
     let shape = slot.shape;
     let optional = slot.optional;
-    let k = digits(tag);
-    if label_at(s, at, tag, k) {
-        return value_at(s, at + k + 1, shape);
+    if e > at {
+        return value_at(s, at + k + 1, e, shape);
     }
     if optional {
         return Got::Value {
@@ -90,7 +99,7 @@ fn field_at(s: &[u8], at: usize, slot: Slot) -> Got
     Got::Wrong
 }
 
-// The fields that stand from a place on, as the slots say.
+// The fields that stand from a place on, as the slots say. A shape is taken from its slot once the end of the value is known.
 pub fn read_row(s: &[u8], at: usize, slots: [Slot; 36]) -> Row
     requires { ⌜ at ≤ length (now s) ⌝ }
     ensures { λ r. ⌜ r ≡ rowOf (readRow (now (s .entry)) at slots) ⌝ }
@@ -102,9 +111,12 @@ pub fn read_row(s: &[u8], at: usize, slots: [Slot; 36]) -> Row
     let mut next = at;
     let mut i = 0;
     while i < 36 {
+        let first = slots[i];
+        let tag = first.tag;
+        let k = digits(tag);
+        let e = end_at(s, next, tag, k);
         let slot = slots[i];
-        let tag = slot.tag;
-        let got = field_at(s, next, slot);
+        let got = field_at(s, next, k, e, slot);
         let Got::Value { value, next: n } = got else {
             return Row {
                 ok: false,

@@ -128,18 +128,14 @@ fn read_framed(s: &[u8], slots: [Slot; 36]) -> Row
     let Frame::Body { from, len } = frame else {
         return no_row();
     };
-    let row = read_row(s, from, slots);
     let end = from + len;
-    let ok = row.ok;
-    let next = row.next;
-    if ok {
+    if trailer_at(s, end) {
+        let mut row = read_row(s, from, slots);
+        let next = row.next;
         if next != end {
-            return no_row();
+            row = no_row();
         }
-        if trailer_at(s, end) {
-            return row;
-        }
-        return no_row();
+        return row;
     }
     no_row()
 }

@@ -17,6 +17,18 @@ abbrev μ-loop : tie.MeasureT-loop
 loop-holds : tie.Need-loop-holds Inv-loop μ-loop
 loop-holds c = so-first _ _ _ (search needs) (search needs)
 
+mul-first : tie.Need-mul-first Inv-loop μ-loop
+mul-first c = search needs
+
+array-copy-out-first : tie.Need-array-copy-out-first Inv-loop μ-loop
+array-copy-out-first c = search needs
+
+digits-requires : tie.Need-digits-requires Inv-loop μ-loop
+digits-requires c κs = search needs
+
+end-at-requires : tie.Need-end-at-requires Inv-loop μ-loop
+end-at-requires c κs = (c .before .before .before .loop .inv .within, search needs)
+
 mul-slot : tie.Need-mul-slot Inv-loop μ-loop
 mul-slot c = search needs
 
@@ -24,7 +36,7 @@ array-copy-out-slot : tie.Need-array-copy-out-slot Inv-loop μ-loop
 array-copy-out-slot c = search needs
 
 field-at-requires : tie.Need-field-at-requires Inv-loop μ-loop
-field-at-requires c κs = c .before .before .loop .inv .within
+field-at-requires c κs = search needs
 
 enum-known-got : tie.Need-enum-known-got Inv-loop μ-loop
 enum-known-got c = search needs
@@ -33,7 +45,7 @@ enum-told : tie.Need-enum-told Inv-loop μ-loop
 enum-told c = search needs
 
 returns : tie.Need-returns Inv-loop μ-loop
-returns c = let l = c .before .before .before .before .before .loop in let a = c .before .before .before .before .before .before .before .args in ap rowOf (sym (so-wrong (a .s .now) (a .at) (a .t3) (l .fields) (l .next) (l .i) (l .inv) (omega arith) _ (sym (c .before .before .field-at .ensures) ∙ c .enum-told .given .1)))
+returns c = let l = c .before .before .before .before .before .before .before .before .loop in let a = c .before .before .before .before .before .before .before .before .before .before .args in ap rowOf (sym (so-wrong (a .s .now) (a .at) (a .t3) (l .fields) (l .next) (l .i) (l .inv) (omega arith) _ (sym (c .before .before .field-at .ensures) ∙ c .enum-told .given .1)))
 
 mul-fields : tie.Need-mul-fields Inv-loop μ-loop
 mul-fields c = search needs
@@ -48,7 +60,7 @@ loop-less : tie.Need-loop-less Inv-loop μ-loop
 loop-less c = search needs
 
 loop-again : tie.Need-loop-again Inv-loop μ-loop
-loop-again c = let l = c .before .before .before .before .before .before .loop in let a = c .before .before .before .before .before .before .before .before .args in so-more (a .s .now) (a .at) (a .t3) (l .fields) (l .next) (l .i) (l .inv) (omega arith) _ _ _ (sym (c .before .before .before .field-at .ensures) ∙ c .before .got .given .1)
+loop-again c = let l = c .before .before .before .before .before .before .before .before .before .loop in let a = c .before .before .before .before .before .before .before .before .before .before .before .args in so-more (a .s .now) (a .at) (a .t3) (l .fields) (l .next) (l .i) (l .inv) (omega arith) _ _ _ (sym (c .before .before .before .field-at .ensures) ∙ c .before .got .given .1)
 
 returns-2 : tie.Need-returns-2 Inv-loop μ-loop
 returns-2 c = let l = c .before .loop in let a = c .before .before .before .args in ap rowOf (sym (so-done (a .s .now) (a .at) (a .t3) (l .fields) (l .next) (l .i) (l .inv) (omega arith)))
@@ -60,6 +72,10 @@ read-row-spec =
     Inv-loop
     μ-loop
     loop-holds
+    mul-first
+    array-copy-out-first
+    digits-requires
+    end-at-requires
     mul-slot
     array-copy-out-slot
     field-at-requires

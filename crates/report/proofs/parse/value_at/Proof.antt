@@ -4,9 +4,6 @@ use borrow.Author.Needs.{needs}
 use Rattle.report.proofs.parse.value_at.Statement.{statement}
 use Rattle.report.proofs.parse.value_at.Tie as tie
 
-value-end-requires : tie.Need-value-end-requires
-value-end-requires c κs = search needs
-
 sub-pick-value : tie.Need-sub-pick-value
 sub-pick-value c = search needs
 
@@ -41,7 +38,6 @@ pub value-at-spec : {M : Type 1} → statement M
 value-at-spec =
     tie.close
     (tie.spec
-    value-end-requires
     sub-pick-value
     part-pick-value-start
     part-pick-value-end

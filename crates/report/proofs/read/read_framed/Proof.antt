@@ -1,5 +1,5 @@
--- `read::read_framed` meets its contract: the frame, the fields that fill it, and the CheckSum.
-use Rattle.report.proofs.Frames.{framed-not, from-within, end-within, end-fits, framed-good, framed-sum, framed-end, framed-bad}
+-- `read::read_framed` meets its contract: the frame, the CheckSum, and the fields that fill it.
+use Rattle.report.proofs.Frames.{framed-not, from-within, end-within, end-fits, framed-good, framed-sum, framed-end}
 use borrow.Author.Needs.{needs}
 use Rattle.report.proofs.read.read_framed.Statement.{statement}
 use Rattle.report.proofs.read.read_framed.Tie as tie
@@ -19,20 +19,20 @@ no-row-requires c κs = search needs
 returns : tie.Need-returns
 returns c = search (needs, framed-not)
 
-read-row-requires : tie.Need-read-row-requires
-read-row-requires c κs = search (needs, from-within)
-
 add-end : tie.Need-add-end
 add-end c = search (needs, end-fits)
+
+trailer-at-requires : tie.Need-trailer-at-requires
+trailer-at-requires c κs = search (needs, end-within)
+
+read-row-requires : tie.Need-read-row-requires
+read-row-requires c κs = search (needs, from-within)
 
 no-row-requires-2 : tie.Need-no-row-requires-2
 no-row-requires-2 c κs = search needs
 
 returns-2 : tie.Need-returns-2
 returns-2 c = search (needs, framed-end)
-
-trailer-at-requires : tie.Need-trailer-at-requires
-trailer-at-requires c κs = search (needs, end-within)
 
 returns-3 : tie.Need-returns-3
 returns-3 c = search (needs, framed-good)
@@ -43,12 +43,6 @@ no-row-requires-3 c κs = search needs
 returns-4 : tie.Need-returns-4
 returns-4 c = search (needs, framed-sum)
 
-no-row-requires-4 : tie.Need-no-row-requires-4
-no-row-requires-4 c κs = search needs
-
-returns-5 : tie.Need-returns-5
-returns-5 c = search (needs, framed-bad)
-
 pub read-framed-spec : {M : Type 1} → statement M
 read-framed-spec =
     tie.close
@@ -58,13 +52,11 @@ read-framed-spec =
     enum-told
     no-row-requires
     returns
-    read-row-requires
     add-end
+    trailer-at-requires
+    read-row-requires
     no-row-requires-2
     returns-2
-    trailer-at-requires
     returns-3
     no-row-requires-3
-    returns-4
-    no-row-requires-4
-    returns-5)
+    returns-4)
