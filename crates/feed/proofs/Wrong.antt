@@ -1,6 +1,6 @@
--- A copy of a Trade and one of an Accepted without an MPID, worked out by hand and computed; and what comes of a Rejected. They rule out, byte for
--- byte: 34 or 17 left as the report's, 109 kept or left out, 797 at another place, 9 or 10 not worked out anew; a Rejected copied, and a
--- number raised for a report that is not copied.
+-- A copy of a Trade and one of an Accepted without an MPID, worked out apart from the definitions and then computed; and what comes of a
+-- Rejected. They rule out, byte for byte: 34 or 17 left as the report's, 109 kept or left out, 797 at another place, 9 or 10 not worked
+-- out anew; a Rejected copied, and a number raised for a report that is not copied.
 use mathlib.Core.Path.{_≡_, refl}
 use mathlib.Core.List.{List, []}
 use Prim.Native.Nat.{ℕ}
