@@ -20,11 +20,18 @@ static void must(int holds)
         exit(1);
 }
 
-static uint64_t open_market(void)
+/* With five MPIDs, all of one mode. */
+static uint64_t open_with(uint64_t mode)
 {
-    static const uint64_t mpids[] = {10, 11, 12, 13, 14}, modes[] = {1, 1, 1, 1, 1};
+    static const uint64_t mpids[] = {10, 11, 12, 13, 14};
+    const uint64_t modes[] = {mode, mode, mode, mode, mode};
     return kamurjesh_open(table, sizeof table, (const uint8_t *)"V", 1, (const uint8_t *)"P", 1, (const uint8_t *)"350", 3, 1,
                           mpids, 5, modes, 5);
+}
+
+static uint64_t open_market(void)
+{
+    return open_with(1);
 }
 
 static uint64_t submit(const struct message *m)
@@ -32,9 +39,14 @@ static uint64_t submit(const struct message *m)
     return kamurjesh_submit(table, sizeof table, m->bytes, m->length, area, sizeof area, &length);
 }
 
+static uint64_t run_steps(uint64_t budget)
+{
+    return kamurjesh_run(table, sizeof table, area, sizeof area, budget, &bytes, &reports, &steps);
+}
+
 static uint64_t run(void)
 {
-    return kamurjesh_run(table, sizeof table, area, sizeof area, 1000, &bytes, &reports, &steps);
+    return run_steps(1000);
 }
 
 /* The n-th order of one side: 100 at a yield of its own, with a ClOrdID of 12 characters. */
@@ -94,6 +106,27 @@ static void sweeping(unsigned n, int calls)
     must(submit(&m) == 0);
     if (calls)
         must(run() == 0 && steps == n + 1 && reports == 2 * n);
+}
+
+/* The first step of an IOC that meets n resting sells, every second of them of its own MPID unless the mode is 1: with a minimum that it
+ * reaches it is decided first. */
+static void deciding(unsigned n, uint64_t mode, unsigned long least, int calls)
+{
+    struct message m = order_with("FIRST", KAMURJESH_BUY, 100 * n, "0.000", 12, '3', least);
+    must(open_with(mode) == 0);
+    for (unsigned i = 1; i <= n; i++) {
+        struct message s = nth(i, KAMURJESH_SELL);
+        if (mode != 1 && i % 2 == 1) {
+            char id[32], yield[32];
+            snprintf(id, sizeof id, "ORDER-%06u", i);
+            snprintf(yield, sizeof yield, "0.%03u", i);
+            s = new_order(id, KAMURJESH_SELL, 100, yield, 12, '0');
+        }
+        enter(s);
+    }
+    must(submit(&m) == 0);
+    if (calls)
+        must(run_steps(1) == 0 && steps == 1 && reports == 2);
 }
 
 static void depth(uint64_t k, int calls)
@@ -210,6 +243,14 @@ int main(int count, char **words)
         running(n, calls);
     else if (sscanf(name, "sweep-%u%c", &n, &rest) == 1 && n >= 1 && n <= 254)
         sweeping(n, calls);
+    else if (sscanf(name, "first-%u%c", &n, &rest) == 1 && n >= 2 && n <= 254)
+        deciding(n, 1, 0, calls);
+    else if (sscanf(name, "decide-%u%c", &n, &rest) == 1 && n >= 2 && n <= 254)
+        deciding(n, 1, 100 * n, calls);
+    else if (sscanf(name, "decide-oldest-%u%c", &n, &rest) == 1 && n >= 2 && n <= 254)
+        deciding(n, 2, 50 * (n / 2), calls);
+    else if (sscanf(name, "decide-lowered-%u%c", &n, &rest) == 1 && n >= 2 && n <= 254)
+        deciding(n, 3, 50 * (n / 2), calls);
     else if (sscanf(name, "depth-%u%c", &n, &rest) == 1 && n <= 126)
         depth(n, calls);
     else if (sscanf(name, "garbled-%u%c", &n, &rest) == 1 && n >= 64 && n <= 1024)

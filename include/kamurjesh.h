@@ -4,7 +4,7 @@
  *     cc -Iinclude -o host examples/host.c target/staticlib/libkamurjesh.a        (on x86-64 Linux)
  *
  * The library allocates nothing, keeps nothing between calls and opens no file; of the C library it calls memcpy and memset, and
- * it uses less than 8 KB of stack. Everything is in the buffers that you lend: a market is the KAMURJESH_TABLE_BYTES bytes of its
+ * it uses less than 16 KB of stack. Everything is in the buffers that you lend: a market is the KAMURJESH_TABLE_BYTES bytes of its
  * table. Copy them, and you have a second market; write them to a file, and you have saved it. docs/TABLE.md says what each byte is.
  *
  * Any bytes may be given to any call: a table that is no market, a damaged message, a short area are refused by a number, and
@@ -94,7 +94,9 @@ uint64_t kamurjesh_submit(uint8_t *table, size_t table_length,
 
 /* Matches the order in work, at most budget steps, and writes the reports one behind the other from the start of the area. It
  * stops when nothing is in work, the budget is spent, or fewer than KAMURJESH_LEAST_AREA bytes of the area are free; a
- * later call goes on from there. With nothing in work it does nothing and returns 0 with 0 steps.
+ * later call goes on from there. With nothing in work it does nothing and returns 0 with 0 steps. An order with 59=4 that would
+ * not trade its whole quantity, and one that would not trade its 110, is canceled whole in its first step (378=99), and no other
+ * order is touched.
  * bytes, reports, steps: written and taken by this call; the area's bytes behind the written ones stay as they were.
  * Refusals: 1, 2. */
 uint64_t kamurjesh_run(uint8_t *table, size_t table_length,
@@ -132,8 +134,9 @@ enum kamurjesh_shows {
 };
 
 /* Hands a feed one report. If its subscription has reports of that kind, the copy is written at the start of the area: the report
- * with the feed's number in 34 and 17, the identifiers in 109, and 797=Y; the area's bytes behind it stay as they were. The feed
- * keeps nothing: its next number, 1 at first, goes in with each report and comes out in next_after.
+ * with the feed's number in 34 and 17, the identifiers in 109, and 797=Y; a Fill or Kill (59=4) has 59=3 there and 38's value in 110.
+ * The area's bytes behind it stay as they were. The feed keeps nothing: its next number, 1 at first, goes in with each report and
+ * comes out in next_after.
  * port, group: those that are shown have 1 or more characters, 21 to 7E hex, and 109 at most 30; one not shown is not looked at.
  * next: 1 to 999,999,999. length: of the copy. A report that is not copied gives 0 with length 0 and next_after = next.
  * Refusals, in this order: 1, 11, 17, 4. */

@@ -38,15 +38,24 @@ static struct message sent(const char *type, const char *body)
     return framed(fields);
 }
 
-/* A new order with an MPID, or with none if it is 0. tif: '0' Day, '3' IOC. */
-static struct message new_order(const char *id, int side, unsigned long quantity, const char *yield, unsigned mpid, char tif)
+/* A new order with an MPID and a MinQty, each missing if it is 0. tif: '0' Day, '3' IOC, '4' Fill or Kill. */
+static struct message order_with(const char *id, int side, unsigned long quantity, const char *yield, unsigned mpid, char tif,
+                                 unsigned long minimum)
 {
-    char body[600], client[32] = "";
+    char body[600], client[32] = "", least[32] = "";
     if (mpid > 0)
         snprintf(client, sizeof client, "109=%u|", mpid);
-    snprintf(body, sizeof body, "11=%s|21=1|38=%lu|40=2|44=%s|47=A|54=%d|55=350|59=%c|60=20260105-09:00:00|%s8060=1|", id, quantity,
-             yield, side, tif, client);
+    if (minimum > 0)
+        snprintf(least, sizeof least, "110=%lu|", minimum);
+    snprintf(body, sizeof body, "11=%s|21=1|38=%lu|40=2|44=%s|47=A|54=%d|55=350|59=%c|60=20260105-09:00:00|%s%s8060=1|", id, quantity,
+             yield, side, tif, client, least);
     return sent("D", body);
+}
+
+/* The same without a MinQty. */
+static struct message new_order(const char *id, int side, unsigned long quantity, const char *yield, unsigned mpid, char tif)
+{
+    return order_with(id, side, quantity, yield, mpid, tif, 0);
 }
 
 static inline struct message replacement(const char *id, const char *original, int side, unsigned long quantity, const char *yield)

@@ -535,6 +535,35 @@ static void test_run_reports(void)
     EXPECT(field_is(rest.bytes, rest.length, 378, "99") && field_is(rest.bytes, rest.length, 14, "800"));
 }
 
+/* One step and one report, a cancel of the whole order, and book R as it was. */
+static void expect_killed(const char *id, const char *tif)
+{
+    EXPECT(run() == 0 && ran.steps == 1 && ran.reports == 1);
+    struct message killed = ran_report(0);
+    EXPECT(kind_of(killed.bytes, killed.length) == KAMURJESH_IS_CANCELED);
+    EXPECT(field_is(killed.bytes, killed.length, 11, id) && field_is(killed.bytes, killed.length, 59, tif));
+    EXPECT(field_is(killed.bytes, killed.length, 378, "99") && field_is(killed.bytes, killed.length, 151, "0"));
+    EXPECT(level_is(2, 0, 101, 100, 1) && level_is(2, 1, 100, 900, 3) && no_level(1, 0));
+}
+
+static void test_minimums(void)
+{
+    enter_book_r(3);
+    EXPECT(submit(order_with("B-1", 1, 1200, "0.100", 10, '3', 801)) == 0 && says(59, "3") && says(110, "801"));
+    expect_killed("B-1", "3");
+    EXPECT(submit(new_order("B-2", 1, 1200, "0.100", 14, '4')) == 0 && says(59, "4"));
+    expect_killed("B-2", "4");
+    /* refused: on a Day order, beside 59=4, above 38 */
+    EXPECT(submit(order_with("B-3", 1, 1200, "0.100", 10, '0', 1)) == 6 && says(373, "5") && says(371, "110"));
+    EXPECT(submit(order_with("B-3", 1, 1200, "0.100", 10, '4', 1)) == 6 && says(373, "5") && says(371, "110"));
+    EXPECT(submit(order_with("B-3", 1, 1200, "0.100", 10, '3', 1201)) == 6 && says(373, "5") && says(371, "110"));
+    /* reached: what the first step decides holds for the calls after it */
+    EXPECT(submit(order_with("B-3", 1, 1200, "0.100", 10, '3', 800)) == 0);
+    for (unsigned i = 0; i < 4; i++)
+        EXPECT(run_in(TABLE, AREA, 1) == 0 && ran.steps == 1 && ran.reports == 2);
+    EXPECT(run() == 0 && ran.steps == 1 && ran.reports == 1 && no_level(1, 0) && no_level(2, 0));
+}
+
 static void test_run_stops(void)
 {
     EXPECT(open_usual(1) == 0);
@@ -705,11 +734,12 @@ static struct message enclosed(const struct text *fields)
 }
 
 /* What a copy of a report is: 34 and 17 are the feed's number, 109 and 797 stand in front of the first higher tag, and a 109 that was
- * there is gone; no tag of the header is that high. */
+ * there is gone; no tag of the header is that high. For 59=4 it has 59=3, and 38's value in 110, which is placed as 109 is. */
 static struct message copy_of(const struct message *report, const struct feed *f)
 {
-    struct text fields = {{0}, 0}, number = {{0}, 0}, client = client_of(f);
+    struct text fields = {{0}, 0}, number = {{0}, 0}, quantity = {{0}, 0}, client = client_of(f);
     unsigned long before = 0;
+    int kills = 0;
     number.length = (size_t)snprintf((char *)number.bytes, sizeof number.bytes, "%" PRIu64, f->next);
     for (size_t at = 0; at < report->length - 7;) {
         unsigned long tag = strtoul((const char *)report->bytes + at, NULL, 10);
@@ -717,11 +747,19 @@ static struct message copy_of(const struct message *report, const struct feed *f
                       *end = (const uint8_t *)strchr((const char *)value, SOH);
         if (before < 109 && tag >= 109)
             add_field(&fields, 109, client.bytes, client.length);
+        if (tag == 38)
+            add_bytes(&quantity, value, (size_t)(end - value));
+        if (tag == 59)
+            kills = *value == '4';
+        if (kills && before < 110 && tag >= 110)
+            add_field(&fields, 110, quantity.bytes, quantity.length);
         if (before < 797 && tag > 797)
             add_field(&fields, 797, "Y", 1);
         if (tag == 34 || tag == 17)
             add_field(&fields, tag, number.bytes, number.length);
-        else if (tag != 8 && tag != 9 && tag != 109)
+        else if (tag == 59 && kills)
+            add_field(&fields, tag, "3", 1);
+        else if (tag != 8 && tag != 9 && tag != 109 && !(tag == 110 && kills))
             add_field(&fields, tag, value, (size_t)(end - value));
         before = tag;
         at += (size_t)(end - field) + 1;
@@ -793,8 +831,8 @@ static uint64_t copy(const struct feed *f, const struct message *report)
     return copy_in(f, report, 1024);
 }
 
-/* Reports of every kind: the first six by Submit, the others by Run. */
-enum { SAMPLES = 15, TRADE_SAMPLE = 6, SESSION_REJECT_SAMPLE = 5 };
+/* Reports of every kind: the first six by Submit, others by Run, and four of orders with a minimum. */
+enum { SAMPLES = 19, SESSION_REJECT_SAMPLE = 5, TRADE_SAMPLE = 6, KILL_SAMPLE = 15 };
 static struct message samples[SAMPLES];
 
 static struct message submitted(struct message m)
@@ -818,9 +856,14 @@ static void take_samples(void)
     samples[SESSION_REJECT_SAMPLE] = submitted(sent("A", "98=0|108=30|"));
     enter_book_r(3);
     EXPECT(submit(new_order("B-1", 1, 1200, "0.100", 10, '3')) == 0);
-    EXPECT(run() == 0 && ran.reports == SAMPLES - TRADE_SAMPLE);
-    for (unsigned i = TRADE_SAMPLE; i < SAMPLES; i++)
+    EXPECT(run() == 0 && ran.reports == KILL_SAMPLE - TRADE_SAMPLE);
+    for (unsigned i = TRADE_SAMPLE; i < KILL_SAMPLE; i++)
         samples[i] = ran_report(i - TRADE_SAMPLE);
+    enter_book_r(3);
+    samples[KILL_SAMPLE] = submitted(new_order("B-1", 1, 1200, "0.100", 14, '4'));
+    samples[KILL_SAMPLE + 1] = ran_report(0);
+    samples[KILL_SAMPLE + 2] = submitted(order_with("B-2", 1, 1200, "0.100", 0, '3', 1200));
+    samples[KILL_SAMPLE + 3] = ran_report(0);
     uint64_t kinds = 0;
     for (unsigned i = 0; i < SAMPLES; i++)
         kinds |= UINT64_C(1) << kind_of(samples[i].bytes, samples[i].length);
@@ -845,6 +888,11 @@ static void test_copies(void)
     EXPECT(copy(&f, &samples[TRADE_SAMPLE]) == 0);
     EXPECT(field_is(area, copy_length, 34, "41") && field_is(area, copy_length, 17, "41") && field_is(area, copy_length, 880, "6"));
     EXPECT(field_is(area, copy_length, 109, "P1-G-7") && field_is(area, copy_length, 797, "Y"));
+    f = feed_of(KAMURJESH_FULL, KAMURJESH_SHOWS_BOTH);
+    EXPECT(copy(&f, &samples[KILL_SAMPLE]) == 0);
+    EXPECT(field_is(area, copy_length, 59, "3") && field_is(area, copy_length, 110, "1200"));
+    EXPECT(copy(&f, &samples[KILL_SAMPLE + 2]) == 0);
+    EXPECT(field_is(area, copy_length, 59, "3") && field_is(area, copy_length, 110, "1200"));
 }
 
 static void test_copy_refused(void)
@@ -973,6 +1021,7 @@ int main(void)
     test_full_table();
     test_run_modes();
     test_run_reports();
+    test_minimums();
     test_run_stops();
     test_depth();
     test_read();

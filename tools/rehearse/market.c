@@ -7,6 +7,7 @@
 #include "garbled.h"
 #include "kamurjesh.h"
 #include "meanings.h"
+#include "minimum.h"
 #include "reports.h"
 
 static uint8_t table[KAMURJESH_TABLE_BYTES];
@@ -61,6 +62,7 @@ static void print_answer(uint64_t refusal, const struct message *message, struct
 void take_message(const struct message *message)
 {
     uint64_t length;
+    note_before(table, message);
     uint64_t refusal = kamurjesh_submit(table, sizeof table, message->bytes, message->kept, area, sizeof area, &length);
     struct part report = {area, (size_t)length};
     print_answer(refusal, message, report);

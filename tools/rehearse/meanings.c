@@ -75,9 +75,10 @@ static const struct {
     {"54", "Side", "1, buy, or 2, sell"},
     {"55", "Symbol", "the bond code, 1 to 9 digits"},
     {"56", "TargetCompID", "the venue"},
-    {"59", "TimeInForce", "0, day, or 3, IOC"},
+    {"59", "TimeInForce", "0, day, 3, IOC, or 4, Fill or Kill"},
     {"60", "TransactTime", "YYYYMMDD-HH:MM:SS with or without .sss"},
     {"109", "ClientID", "an MPID, 1 to 6 digits, not 0"},
+    {"110", "MinQty", "1 to 9 digits, not 0, not above tag 38, with 59=3 alone"},
     {"8060", "OrderClassification", "1, 3, 4, 5 or 6"},
 };
 

@@ -8,6 +8,7 @@
 #include "kamurjesh.h"
 #include "lines.h"
 #include "meanings.h"
+#include "minimum.h"
 
 struct part value_of(struct part report, uint64_t tag)
 {
@@ -31,15 +32,25 @@ void print_part(struct part part)
         putchar(part.bytes[i] == SOH ? '|' : part.bytes[i]);
 }
 
-/* The first report of some: 9 counts the bytes behind its own SOH, and 10 has seven more. */
-static struct part first_of(struct part reports)
+uint64_t number_in(struct part digits)
 {
-    struct part digits = value_of(reports, 9);
-    size_t body = 0;
+    uint64_t number = 0;
     for (size_t i = 0; i < digits.length; i++)
-        body = 10 * body + (size_t)(digits.bytes[i] - '0');
-    size_t front = (size_t)(digits.bytes - reports.bytes) + digits.length + 1;
-    return (struct part){reports.bytes, front + body + 7};
+        number = 10 * number + (uint64_t)(digits.bytes[i] - '0');
+    return number;
+}
+
+/* 9 counts the bytes behind its own SOH, and 10 has seven more. */
+bool take_report(struct part *reports, struct part *report)
+{
+    if (reports->length == 0)
+        return false;
+    struct part digits = value_of(*reports, 9);
+    size_t front = (size_t)(digits.bytes - reports->bytes) + digits.length + 1;
+    *report = (struct part){reports->bytes, front + (size_t)number_in(digits) + 7};
+    reports->bytes += report->length;
+    reports->length -= report->length;
+    return true;
 }
 
 /* Which order, and what has become of it; of the two rejects that are no execution reports, that they are rejects. */
@@ -53,21 +64,23 @@ static void print_words(struct part report)
     printf("order ");
     print_part(order);
     printf(", %s", meaning_of(order_statuses, happened));
-    if (reason.length > 0)
-        printf(", %s", meaning_of(restatements, reason));
+    if (reason.length == 0)
+        return;
+    printf(", ");
+    if (is_killed(report))
+        print_killed(report);
+    else
+        printf("%s", meaning_of(restatements, reason));
 }
 
 void print_reports(struct part reports)
 {
-    while (reports.length > 0) {
-        struct part report = first_of(reports);
+    for (struct part report; take_report(&reports, &report);) {
         printf("  ");
         print_words(report);
         printf(": ");
         print_part(report);
         putchar('\n');
         print_copy(report);
-        reports.bytes += report.length;
-        reports.length -= report.length;
     }
 }

@@ -18,6 +18,12 @@ struct part value_of(struct part report, uint64_t tag);
 bool part_is(struct part part, const char *text);
 void print_part(struct part part);
 
+/* The number that some digits say. */
+uint64_t number_in(struct part digits);
+
+/* Takes the first of the reports that stand one behind the other; false where there is none left. */
+bool take_report(struct part *reports, struct part *report);
+
 /* Prints each of the reports that stand one behind the other: a line with a few words, a colon, and its bytes with | for SOH; and
  * behind it what the feed makes of it. */
 void print_reports(struct part reports);

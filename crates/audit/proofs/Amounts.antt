@@ -1,6 +1,6 @@
 -- What the code that checks one order comes to, in the words of Market and of matching.
 use mathlib.Core.Path.{_≡_, sym}
-use mathlib.Core.Bool.{Bool, _&&_}
+use mathlib.Core.Bool.{Bool, _&&_, _||_}
 use mathlib.Core.List.{List}
 use Prim.Native.Nat.{ℕ, _+_, _*_, _-_, _<_}
 use native.Mathlib.Omega.{arith}
@@ -11,7 +11,8 @@ use Rattle.octets.specs.Tests.{allUpTo}
 use Rattle.octets.proofs.Bools.{split}
 use Rattle.octets.proofs.Places.{leAt-lt}
 use Rattle.matching.specs.declared.Order.{Order}
-use Rattle.matching.specs.Matching.{openOf}
+use Rattle.matching.specs.Matching.{openOf, isImmediate}
+use Rattle.matching.specs.Held.{mayMinimum}
 use Rattle.table.specs.Places.{recordAt}
 use Rattle.table.specs.Heading.{nextOf, entries}
 use Rattle.table.specs.Orders.{orderAt}
@@ -32,6 +33,7 @@ narrow-order t i b =
       canceled = leAt-lt 4 t (recordAt i + 80) b;
       place = leAt-lt 4 t (recordAt i + 56) b;
       mpid = leAt-lt 4 t (recordAt i + 60) b;
+      minqty = leAt-lt 4 t (recordAt i + 88) b;
     }
 
 pub narrow-load : (t : List ℕ) (i : ℕ) {o : Order} → Bytes t → o ≡ orderAt t i → Narrow o
@@ -48,6 +50,13 @@ shut-used o =
     split (leb (o .qty) u)
     (λ e. rw e (sym (eq-eqb (o .qty - u) 0 (omega (arith, leb-true)))))
     (λ e. rw e (sym (ne-eqb (o .qty - u) 0 (λ z. omega (arith, leb-false)))))
+
+-- the ranges of an order, with what its time in force lets it have
+pub ranged-is : (o : Order) (i m : Bool) → i ≡ isImmediate o → m ≡ mayMinimum o
+    → ((eqb (o .side) 1 || eqb (o .side) 2) && (eqb (o .tif) 0 || i) && m && leb 1 (o .level) && leb (o .level) 1999999999 && leb 1 (o .qty)
+    && leb (o .qty) 999999999 && leb 1 (o .place)) ≡ isRanged o
+unfolding isRanged
+ranged-is o i m e f = rw (e, f)
 
 -- record i by its parts
 pub order-is : (t : List ℕ) (i : ℕ) (o : Order) (a r k w s p : Bool) → o ≡ orderAt t i → a ≡ isRecord t i → r ≡ isRanged o

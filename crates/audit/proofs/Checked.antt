@@ -99,12 +99,11 @@ sum-four t p a b c d e f g h l =
     sum-join t p 12 4 (a + b + c) d
     (sum-join t p 8 4 (a + b) c (sum-join t p 4 4 a b (zeros-read 4 t p a e (omega arith)) f (omega arith)) g (omega arith)) h (omega arith)
 
-pub sum-unused : (t : List ℕ) (p a b x y z : ℕ) → eqb a 0 ≡ allZero (partAt t p 16) → eqb b 0 ≡ allZero (partAt t (p + 16) 16) → x ≡ leAt 4 t (p + 32)
-    → y ≡ leAt 4 t (p + 36) → z ≡ leAt 4 t (p + 40) → p + 44 ≤ length t → eqb (a + b + x + y + z) 0 ≡ allZero (partAt t p 44)
-sum-unused t p a b x y z e f g h i l =
+pub sum-unused : (t : List ℕ) (p a b x : ℕ) → eqb a 0 ≡ allZero (partAt t p 16) → eqb b 0 ≡ allZero (partAt t (p + 16) 16) → x ≡ leAt 4 t (p + 32)
+    → p + 36 ≤ length t → eqb (a + b + x) 0 ≡ allZero (partAt t p 36)
+sum-unused t p a b x e f g l =
     let two : eqb (a + b) 0 ≡ allZero (partAt t p 32) = sum-zero a b ∙ zero-join t p 16 16 e f in
-    sum-join t p 40 4 (a + b + x + y) z
-    (sum-join t p 36 4 (a + b + x) y (sum-join t p 32 4 (a + b) x two g (omega arith)) h (omega arith)) i (omega arith)
+    sum-join t p 32 4 (a + b) x two g (omega arith)
 
 -- ---- a text of no bytes is zeros in all its room
 part-empty : (t : List ℕ) (p : ℕ) → partAt t p 0 ≡ []

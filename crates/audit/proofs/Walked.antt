@@ -1,6 +1,6 @@
 -- What the passes over the book come to, in the words of Market and of matching: one order more, and at the end.
 use mathlib.Core.Path.{_≡_, refl, sym, _∙_}
-use mathlib.Core.Bool.{Bool, true, false, not, cond, _&&_, _||_}
+use mathlib.Core.Bool.{Bool, true, false, not, cond, _&&_, _||_, and-assoc}
 use mathlib.Core.List.{List}
 use mathlib.Core.Logic.{⊎-elim}
 use Prim.Native.Nat.{ℕ, zero, suc, _+_, _*_, _≤_, _<_, zero-le}
@@ -11,12 +11,13 @@ use lib.Dec.{eqb, leb, ltb}
 use lib.ListN.{length, getD, drop, List·getD-eq-default}
 use Rattle.octets.specs.Octets.{allZero, Bytes}
 use Rattle.octets.specs.Tests.{allUpTo}
+use Rattle.octets.proofs.Bools.{both-not-r}
 use Rattle.octets.proofs.Places.{below-or}
 use Rattle.matching.specs.declared.Order.{Order}
-use Rattle.matching.specs.Matching.{none, at, openOf, isOpen, isBuy, opposite, opposed, opposedTo, sumOver, countOf}
-use Rattle.table.specs.Heading.{nextOf, workOf}
+use Rattle.matching.specs.Matching.{none, at, openOf, isOpen, isBuy, isImmediate, minimumOf, opposite, opposed, opposedTo, sumOver, countOf}
+use Rattle.table.specs.Heading.{nextOf, workOf, decidedOf}
 use Rattle.table.specs.Orders.{orderAt, filled, bookOf}
-use Rattle.table.specs.Market.{hasLength, hasSettings, hasNext, hasWork, hasSpare, restZero, hasOrders, hasIds, isDone, noIoc, noCross, hasNumbers, isBook, isMarket}
+use Rattle.table.specs.Market.{hasLength, hasSettings, hasNext, hasWork, hasSpare, restZero, hasOrders, hasIds, isDone, noIoc, noCross, hasNumbers, isBook, hasDecision, isMarket}
 use Rattle.table.proofs.Books.{length-book, at-book}
 use Rattle.audit.specs.Checking.{top, lowWith, highWith, lowBuy, highSell}
 use Rattle.audit.proofs.Amounts.{narrow-order}
@@ -62,13 +63,13 @@ module _ (had : ℕ) (x y : Bool) (o r : Order) (e : x ≡ isOpen r) (f : y ≡ 
       let g = rw (e, f) at h in
       rw g (omega arith)
 
-pub done-is : (o : Order) (x : Bool) → x ≡ isOpen o → not (eqb (o .tif) 3 && x) ≡ isDone o
+pub done-is : (o : Order) (i x : Bool) → i ≡ isImmediate o → x ≡ isOpen o → not (i && x) ≡ isDone o
 unfolding isDone
-done-is o x e = rw e
+done-is o i x d e = rw (d, e)
 
-pub not-ioc : (t : List ℕ) (i : ℕ) → (getD t (128 * i + 45) 0 ≡ 3 → ⊥) → true ≡ isDone (orderAt t i)
+pub day-done : (t : List ℕ) (i : ℕ) → getD t (128 * i + 45) 0 ≡ 0 → true ≡ isDone (orderAt t i)
 unfolding isDone orderAt
-not-ioc t i h = rw (ne-eqb (getD t (128 * i + 45) 0) 3 h)
+day-done t i h = rw h
 
 -- ---- no IOC is open: the test of record k + 1, and of all
 module _ (t : List ℕ) (n w : ℕ) (e : n ≡ filled t) where
@@ -183,14 +184,50 @@ module _ (t : List ℕ) (n w next : ℕ) (e : n ≡ filled t) where
       let j : isOpen (at (bookOf t) w) ≡ true = rw d (sym g ∙ h) in
       rw (j, i, book-length t n e, d)
 
+-- ---- the decision on the order in work
+module _ (t : List ℕ) (n w d : ℕ) (e : n ≡ filled t) where
+  pub decision-none : d ≡ 0 → true ≡ hasDecision (bookOf t) w d
+  unfolding hasDecision
+  decision-none z = rw z
+
+  -- no order has no minimum
+  at-none : at (bookOf t) w ≡ none → (d ≡ 0 → ⊥) → false ≡ hasDecision (bookOf t) w d
+  unfolding hasDecision minimumOf
+  at-none q z = rw (q, ne-eqb d 0 z) (sym (both-not-r (eqb d 1) false refl))
+
+  pub decision-idle : (d ≡ 0 → ⊥) → w ≡ 0 → false ≡ hasDecision (bookOf t) w d
+  decision-idle z q = at-none (rw q) z
+
+  pub decision-past : (d ≡ 0 → ⊥) → n < w → false ≡ hasDecision (bookOf t) w d
+  decision-past z l = go w refl
+    where
+      go : (v : ℕ) → v ≡ w → false ≡ hasDecision (bookOf t) w d
+      go zero q = absurd (omega arith)
+      go (suc v) q =
+          let g : at (bookOf t) (suc v) ≡ none = List·getD-eq-default (bookOf t) none (rw (length-book t) (omega arith)) in
+          at-none (rw (← q) g) z
+
+  pub decision-is : (o : Order) (m : ℕ) → (d ≡ 0 → ⊥) → (w ≡ 0 → ⊥) → w ≤ n → o ≡ orderAt t w → m ≡ minimumOf o
+      → (eqb d 1 && ltb 0 m) ≡ hasDecision (bookOf t) w d
+  unfolding hasDecision
+  decision-is o m z x l f g =
+      let h : at (bookOf t) w ≡ o = at-book t w (omega (arith, x)) (omega arith) ∙ sym f in
+      rw (ne-eqb d 0 z, h, g)
+
 -- ---- a market, by its clauses
+pub book-with : (t : List ℕ) (w next d : ℕ) (a b : Bool) → w ≡ workOf t → next ≡ nextOf t → d ≡ decidedOf t → a ≡ isBook (bookOf t) w next
+    → b ≡ hasDecision (bookOf t) w d → (a && b) ≡ (isBook (bookOf t) (workOf t) (nextOf t) && hasDecision (bookOf t) (workOf t) (decidedOf t))
+book-with t w next d a b e f g h i = rw (h, i, e, f, g)
+
 pub not-long : (t : List ℕ) → (length t ≡ 32768 → ⊥) → false ≡ isMarket t
 unfolding isMarket hasLength
 not-long t h = rw (ne-eqb (length t) 32768 h)
 
-pub market-is : (t : List ℕ) (n w next : ℕ) (a b c d e f g h : Bool) → length t ≡ 32768 → n ≡ filled t → w ≡ workOf t → next ≡ nextOf t
+pub market-is : (t : List ℕ) (n : ℕ) (a b c d e f g h : Bool) → length t ≡ 32768 → n ≡ filled t
     → a ≡ hasSettings t → b ≡ hasNext t → c ≡ hasWork t → d ≡ hasSpare t → e ≡ allZero (drop (128 * (n + 1)) t) → f ≡ hasOrders t
-    → g ≡ hasIds t → h ≡ isBook (bookOf t) w next → (a && b && c && d && e && f && g && h) ≡ isMarket t
+    → g ≡ hasIds t → h ≡ (isBook (bookOf t) (workOf t) (nextOf t) && hasDecision (bookOf t) (workOf t) (decidedOf t)) → (a && b && c && d && e && f && g && h) ≡ isMarket t
 unfolding isMarket hasLength restZero
-market-is t n w next a b c d e f g h l pn pw px pa pb pc pd pe pf pg ph =
-    rw (eq-eqb (length t) 32768 l, pa, pb, pc, pd, pe, pf, pg, ph, pw, px, pn)
+market-is t n a b c d e f g h l pn pa pb pc pd pe pf pg ph =
+    rw (eq-eqb (length t) 32768 l, pa, pb, pc, pd, pe, pf, pg, ph, pn)
+    (sym (and-assoc (hasSettings t && hasNext t && hasWork t && hasSpare t && allZero (drop (128 * (filled t + 1)) t) && hasOrders t && hasIds t)
+    (isBook (bookOf t) (workOf t) (nextOf t)) (hasDecision (bookOf t) (workOf t) (decidedOf t))))

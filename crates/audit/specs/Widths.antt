@@ -13,3 +13,4 @@ pub record Narrow (o : Order) : Type 0 where
   pub canceled : o .canceled < 4294967296
   pub place : o .place < 4294967296
   pub mpid : o .mpid < 4294967296
+  pub minqty : o .minqty < 4294967296

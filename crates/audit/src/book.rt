@@ -7,7 +7,7 @@ ghost use Rattle.matching.specs.Matching.{countOf, opposed};
 ghost use Rattle.table.specs.Places.{tableBytes};
 ghost use Rattle.table.specs.Orders.{orderAt, filled, bookOf};
 ghost use Rattle.audit.specs.Widths.{Narrow};
-ghost use Rattle.table.specs.Market.{isDone, noIoc, noCross, hasNumbers, isBook};
+ghost use Rattle.table.specs.Market.{isDone, noIoc, noCross, hasNumbers, isBook, hasDecision};
 ghost use Rattle.audit.specs.Checking.{lowWith, highWith};
 use crate::marks::has_places;
 use crate::sound::has_open;
@@ -18,26 +18,26 @@ use table::record::level_at;
 use table::record::load;
 use table::record::open_at;
 
-// Whether an order is no open IOC.
+// Whether an order is no open IOC and no open Fill or Kill.
 fn is_done(o: Order) -> bool
     requires { ⌜ Narrow o ⌝ }
     ensures { λ r. ⌜ r ≡ isDone o ⌝ }
 {
-    !((o.tif == 3) & has_open(o))
+    !(o.is_immediate() & has_open(o))
 }
 
-// Whether record i is no open IOC; what is open is asked of an IOC alone.
+// Whether record i is no open IOC and no open Fill or Kill; a Day order is asked for nothing else.
 fn is_done_at(t: &[u8], i: usize) -> bool
     requires { ⌜ (length (now t) ≡ tableBytes) × (i < 256) ⌝ }
     ensures { λ r. ⌜ r ≡ isDone (orderAt (now (t .entry)) i) ⌝ }
 {
-    if t[places::RECORD * i + places::TIF] != 3 {
+    if t[places::RECORD * i + places::TIF] == 0 {
         return true;
     }
     is_done(load(t, i))
 }
 
-// Whether no IOC among the n filled records is open, apart from order w.
+// Whether no IOC and no Fill or Kill among the n filled records is open, apart from order w.
 fn no_ioc(t: &[u8], n: usize, w: usize) -> bool
     requires { ⌜ (length (now t) ≡ tableBytes) × (n ≡ filled (now t)) × (n ≤ 255) ⌝ }
     ensures { λ r. ⌜ r ≡ noIoc (bookOf (now (t .entry))) w ⌝ }
@@ -136,6 +136,23 @@ fn has_numbers(t: &[u8], n: usize, w: usize, next: u64) -> bool
         return true;
     }
     next + 2 * opposed_to(t, n, o) + 1 <= 1000000000
+}
+
+// Whether the decision, d, is one that the order in work, w, can have.
+pub fn has_decision(t: &[u8], n: usize, w: usize, d: u64) -> bool
+    requires { ⌜ (length (now t) ≡ tableBytes) × (n ≡ filled (now t)) × (n ≤ 255) ⌝ }
+    ensures { λ r. ⌜ r ≡ hasDecision (bookOf (now (t .entry))) w d ⌝ }
+{
+    if d == 0 {
+        return true;
+    }
+    if w == 0 {
+        return false;
+    }
+    if n < w {
+        return false;
+    }
+    (d == 1) & (0 < load(t, w).minimum_of())
 }
 
 // Whether the book of the n filled records is one of a market, with order w in work and this next number.

@@ -7,6 +7,7 @@ ghost use lib.ListN.{length};
 ghost use Rattle.octets.specs.Octets.{allZero, partAt};
 ghost use Rattle.octets.specs.Tests.{allUpTo};
 ghost use Rattle.matching.specs.Matching.{isOpen};
+ghost use Rattle.matching.specs.Held.{mayMinimum};
 ghost use Rattle.table.specs.Places.{tableBytes};
 ghost use Rattle.table.specs.Heading.{entries};
 ghost use Rattle.table.specs.Orders.{filled};
@@ -33,16 +34,14 @@ fn is_account(t: &[u8], p: usize) -> bool
     is_text(t, p, 0, places::ACCOUNT_ROOM, 32, 126)
 }
 
-// Whether the 44 bytes of a record that nothing uses, from place p on, are zero: the sum of their eleven numbers is.
+// Whether the 36 bytes at the end of a record that nothing uses, from place p on, are zero: the sum of their nine numbers is.
 fn is_unused(t: &[u8], p: usize) -> bool
-    requires { ⌜ p + 44 ≤ length (now t) ⌝ }
-    ensures { λ r. ⌜ r ≡ allZero (partAt (now (t .entry)) p 44) ⌝ }
+    requires { ⌜ p + 36 ≤ length (now t) ⌝ }
+    ensures { λ r. ⌜ r ≡ allZero (partAt (now (t .entry)) p 36) ⌝ }
 {
     let most = sum_of_four(t, p) + sum_of_four(t, p + 16);
     let x = octets::le_at(t, p + 32, 4);
-    let y = octets::le_at(t, p + 36, 4);
-    let z = octets::le_at(t, p + 40, 4);
-    most + x + y + z == 0
+    most + x == 0
 }
 
 // Whether the texts, the capacity, the classification and the unused bytes of record i are in order.
@@ -57,7 +56,19 @@ fn is_record(t: &[u8], i: usize) -> bool
         & is_account(t, b + places::ACCOUNT)
         & ((capacity == 65) | (capacity == 80))
         & ((class == 1) | ((3 <= class) & (class <= 6)))
+        & zeros_at(t, b + places::GAP, 4)
         & is_unused(t, b + places::RECORD_END)
+}
+
+// Whether MinQty is one that the time in force allows.
+fn may_minimum(o: Order) -> bool
+    ensures { λ r. ⌜ r ≡ mayMinimum o ⌝ }
+{
+    if o.tif == 3 {
+        o.minqty <= o.qty
+    } else {
+        o.minqty == 0
+    }
 }
 
 // Whether each number of an order is in its range.
@@ -65,7 +76,8 @@ fn is_ranged(o: Order) -> bool
     ensures { λ r. ⌜ r ≡ isRanged o ⌝ }
 {
     ((o.side == 1) | (o.side == 2))
-        & ((o.tif == 0) | (o.tif == 3))
+        & ((o.tif == 0) | o.is_immediate())
+        & may_minimum(o)
         & (1 <= o.level)
         & (o.level <= 1999999999)
         & (1 <= o.qty)

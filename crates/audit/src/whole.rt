@@ -1,6 +1,13 @@
 // Whether a table is a market: all the clauses.
 ghost use mathlib.Core.Path.{_≡_};
-ghost use Rattle.table.specs.Market.{isMarket};
+ghost use mathlib.Core.Bool.{_&&_};
+ghost use Prim.Native.Nat.{_≤_};
+ghost use lib.ListN.{length};
+ghost use Rattle.table.specs.Places.{tableBytes};
+ghost use Rattle.table.specs.Heading.{nextOf, workOf, decidedOf};
+ghost use Rattle.table.specs.Orders.{filled, bookOf};
+ghost use Rattle.table.specs.Market.{isBook, hasDecision, isMarket};
+use crate::book::has_decision;
 use crate::book::is_book;
 use crate::checks::has_next;
 use crate::checks::has_settings;
@@ -10,9 +17,19 @@ use crate::marks::has_ids;
 use crate::sound::has_orders;
 use table::book::filled;
 use table::entries::entries;
+use table::heading::decided;
 use table::heading::next;
 use table::heading::work;
 use table::places;
+
+// Whether the book of the n filled records is one of a market, and the decision one that the order in work can have.
+fn has_book(t: &[u8], n: usize) -> bool
+    requires { ⌜ (length (now t) ≡ tableBytes) × (n ≡ filled (now t)) × (n ≤ 255) ⌝ }
+    ensures { λ r. ⌜ r ≡ (isBook (bookOf (now (t .entry))) (workOf (now (t .entry))) (nextOf (now (t .entry))) && hasDecision (bookOf (now (t .entry))) (workOf (now (t .entry))) (decidedOf (now (t .entry)))) ⌝ }
+{
+    let w = work(t);
+    is_book(t, n, w, next(t)) & has_decision(t, n, w, decided(t))
+}
 
 // Whether these bytes are a market.
 pub fn is_market(t: &[u8]) -> bool
@@ -30,5 +47,5 @@ pub fn is_market(t: &[u8]) -> bool
         & octets::rest_zero(t, places::RECORD * (n + 1))
         & has_orders(t, m, n)
         & has_ids(t, n)
-        & is_book(t, n, work(t), next(t))
+        & has_book(t, n)
 }

@@ -19,7 +19,7 @@ use Rattle.readback.specs.Says.{numberOf, saysIn, says}
 use Rattle.readback.proofs.Said.{backs-say}
 use Rattle.promises.specs.Tallies.{Account, afterReport, noted, isTrade, tradedFor, isRefused}
 use Rattle.feed.specs.declared.CopyAnswer.the-variants.{NotCopied}
-use Rattle.feed.specs.Rows.{copyRow}
+use Rattle.feed.specs.Rows.{isFillOrKill, copyRow}
 use Rattle.feed.specs.Settings.{clientOf, isSetting, copiedBy}
 use Rattle.feed.specs.Copies.{Fed, unfed, fedWith, isNone, copyBytes, fed, readCopyOf}
 use Rattle.feed.specs.Kept.{atTag, isKept}
@@ -132,7 +132,7 @@ module _ (report : List ℕ) (some : isNone (readOf report .kind) ≡ false) (cl
       ∙ backs-say report client tag (start (rowBytes report client copied)) copied
       ∙ says-at tag copied
 
-  kept-says : (tag : ℕ) → isKept tag ≡ true → says tag (readCopyOf copy) ≡ says tag (readOf report)
+  kept-says : (tag : ℕ) → isKept (isFillOrKill (readOf report .fields)) tag ≡ true → says tag (readCopyOf copy) ≡ says tag (readOf report)
   unfolding says
   kept-says tag k = read-says tag ∙ row-kept report some client n given numberOf 0 tag k ∙ sym (says-at tag (readOf report .fields))
 

@@ -6,6 +6,7 @@ use Prim.Native.Char.{code}
 use Prim.Native.String.{String, [] as end, _∷_ as _then_}
 use Rattle.decimal.specs.Writing.{decimal, places, plain, fixed}
 use Rattle.matching.specs.Matching.{Book, openOf, sumOver, countOf}
+use Rattle.matching.specs.Rehearsed.{yield, sell, buy}
 use Rattle.matching.specs.Depth.{stands, behind, nearer, next, levelAt, onLevel, share, total, orders, depth}
 use Rattle.book.specs.Sheet.{figure, levelLine, lines, sideLines, bothSides}
 
@@ -16,10 +17,7 @@ bytes (c then s) = code c ∷ bytes s
 
 -- a sell of 700 at 0.100, and then a buy of 300 at 0.105
 abbrev both : Book
-both =
-    record { side = 2; tif = 0; level = 1000000100; qty = 700; executed = 0; decremented = 0; canceled = 0; sum = 0; place = 1; mpid = 0 }
-    ∷ record { side = 1; tif = 0; level = 1000000105; qty = 300; executed = 0; decremented = 0; canceled = 0; sum = 0; place = 2; mpid = 0 }
-    ∷ []
+both = sell 700 (yield 100) 1 0 ∷ buy 300 (yield 105) 2 0 ∷ []
 
 buys-first : bothSides both ≡ bytes "1 0.105 300 1\n2 0.100 700 1\n"
 unfolding decimal places plain fixed openOf sumOver countOf stands behind nearer next levelAt onLevel share total orders depth figure levelLine lines sideLines bothSides bytes

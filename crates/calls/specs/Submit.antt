@@ -101,6 +101,7 @@ module _ (t message : List ℕ) where
         sum = 0;
         place = nextOf t;
         mpid = o .terms .mpid;
+        minqty = o .terms .minqty;
       }
 
   unfoldable pub newTaken : NewOrder → Submitted

@@ -2,7 +2,7 @@
 use Prim.Native.Nat.{ℕ, zero, suc, _+_, _≤_, _<_}
 use mathlib.Core.Path.{_≡_, refl, sym, ap, _∙_, subst}
 use mathlib.Core.Bool.{Bool, true, false, cond, not, _&&_, _||_, false≢true}
-use mathlib.Core.List.{List, [], _∷_, _++_}
+use mathlib.Core.List.{List, [], _∷_, _++_, map}
 use native.Mathlib.Omega.{arith}
 use native.Mathlib.Nat.{le-trans}
 use lib.Dec.{ltb, leb, eqb, lit≤}
@@ -31,11 +31,12 @@ use Rattle.report.specs.Slots.{unused, acceptedSlots, replacedSlots, canceledSl
 use Rattle.report.specs.Reports.{oneReason, agreed}
 use Rattle.report.proofs.Taken.{Proper}
 use Rattle.report.proofs.Back.{moved, Fit, Fits, widths, fits-short}
-use Rattle.feed.specs.Rows.{with797, copyValue, copyField, yes797, copyRow, copySlot, slot797, copySlots}
+use Rattle.feed.specs.Rows.{with797, shownRow, copyValue, copyField, yes797, copyRow, slot109, copySlot, slot797, copySlots}
 use Rattle.feed.specs.Settings.{isIdentifier, copiedBy}
 use Rattle.feed.specs.Kept.{atTag, isKept}
 use Rattle.feed.proofs.Shaped.{is-never}
 use Rattle.feed.proofs.Filled.{Filled, filled-none, filled-some, filled-skip, filled-front, distinct, tells, filled-fits}
+use Rattle.feed.proofs.Shown.{Tagged, filled-tagged, tag-at, has, shown-at, shownSlot, shownSlots, shown-fills}
 
 -- ---- the slots of 34 and 17 take every number of a feed
 abbrev pub numbers : Shape → Bool
@@ -58,8 +59,12 @@ abbrev pub ranged : List Slot → Bool
 ranged [] = true
 ranged (slot ∷ slots) = rangedOne slot && ranged slots
 
-kept-slot : (slot : Slot) → eqb (slot .tag) 109 ≡ false → copySlot slot ≡ slot
-unfolding copySlot
+-- the slots of a copy, with the text of 109 put in last
+unfoldable pub textSlot : Slot → Slot
+textSlot slot = cond (eqb (slot .tag) 109) slot109 slot
+
+kept-slot : (slot : Slot) → eqb (slot .tag) 109 ≡ false → textSlot slot ≡ slot
+unfolding textSlot
 kept-slot slot a = rw a
 
 -- ---- a copy, of a report s with the text client for 109
@@ -104,8 +109,8 @@ module _ (s client : List ℕ) (n : ℕ) where
     unfolding textIn
     picked place a b = rw (client-is, a, le-ltb 30 (length client) (g .short), b)
 
-    text-fits : (slot : Slot) → eqb (slot .tag) 109 ≡ true → Fit s client (copySlot slot) (field (slot .tag) (Stored 0 (length client)))
-    unfolding copySlot isIdentifier
+    text-fits : (slot : Slot) → eqb (slot .tag) 109 ≡ true → Fit s client (textSlot slot) (field (slot .tag) (Stored 0 (length client)))
+    unfolding textSlot isIdentifier
     text-fits slot e =
         let a = not-true (eqb (length client) 0) (both-l (not (eqb (length client) 0)) (allFrom 33 client) (g .text)) in
         let b = both-r (not (eqb (length client) 0)) (allFrom 33 client) (g .text) in
@@ -134,7 +139,7 @@ module _ (s client : List ℕ) (n : ℕ) where
 
     change-as : (slot : Slot) (v : Value) (slots : List Slot) (fs : List Field) → rangedOne slot ≡ true → Filled s client slots fs
         → (eqb (slot .tag) 109 ≡ false → Filled s client (slot ∷ slots) (field (slot .tag) v ∷ fs))
-        → Filled s client (copySlot slot ∷ slots) (field (slot .tag) (copyValue n (length client) (slot .tag) v) ∷ fs)
+        → Filled s client (textSlot slot ∷ slots) (field (slot .tag) (copyValue n (length client) (slot .tag) v) ∷ fs)
     unfolding copyValue
     change-as slot v slots fs r p whole =
         split (eqb (slot .tag) 109)
@@ -152,9 +157,9 @@ module _ (s client : List ℕ) (n : ℕ) where
         (λ y. rw (x, y, a, k) (whole a))))
 
     change-one : (slot : Slot) (f : Field) (slots : List Slot) (fs : List Field) → f .tag ≡ slot .tag → rangedOne slot ≡ true → Filled s client slots fs
-        → Filled s client (slot ∷ slots) (f ∷ fs) → Filled s client (copySlot slot ∷ slots) (copyField n (length client) f ∷ fs)
+        → Filled s client (slot ∷ slots) (f ∷ fs) → Filled s client (textSlot slot ∷ slots) (copyField n (length client) f ∷ fs)
     change-one slot f slots fs t r p whole =
-        subst (λ (h : Field). Filled s client (copySlot slot ∷ slots) (h ∷ fs)) (sym (copied-is f (slot .tag) t))
+        subst (λ (h : Field). Filled s client (textSlot slot ∷ slots) (h ∷ fs)) (sym (copied-is f (slot .tag) t))
         (change-as slot (f .value) slots fs r p (λ a. subst (λ (h : Field). Filled s client (slot ∷ slots) (h ∷ fs)) (same f (slot .tag) t) whole))
       where
         same : (f : Field) (tag : ℕ) → f .tag ≡ tag → f ≡ field tag (f .value)
@@ -162,8 +167,8 @@ module _ (s client : List ℕ) (n : ℕ) where
 
     -- one entry more: the same test for the slot and for its field
     fill-one : (slot : Slot) (f : Field) (ss : List Slot) (gs : List Field) → f .tag ≡ slot .tag → Filled s client (slot ∷ ss) (f ∷ gs)
-        → (ltb 797 (slot .tag) ≡ false → Filled s client (copySlot slot ∷ with797 (λ q. q .tag) copySlot slot797 ss) (copyField n (length client) f ∷ with797 (λ h. h .tag) (copyField n (length client)) yes797 gs))
-        → Filled s client (with797 (λ q. q .tag) copySlot slot797 (slot ∷ ss)) (with797 (λ h. h .tag) (copyField n (length client)) yes797 (f ∷ gs))
+        → (ltb 797 (slot .tag) ≡ false → Filled s client (textSlot slot ∷ with797 (λ q. q .tag) textSlot slot797 ss) (copyField n (length client) f ∷ with797 (λ h. h .tag) (copyField n (length client)) yes797 gs))
+        → Filled s client (with797 (λ q. q .tag) textSlot slot797 (slot ∷ ss)) (with797 (λ h. h .tag) (copyField n (length client)) yes797 (f ∷ gs))
     unfolding with797
     fill-one slot f ss gs tag whole rest =
         split (ltb 797 (slot .tag))
@@ -171,7 +176,7 @@ module _ (s client : List ℕ) (n : ℕ) where
         (λ t. let u : ltb 797 (f .tag) ≡ false = ap (ltb 797) tag ∙ t in rw (t, u) (rest t))
 
     pub copy-fills : (slots : List Slot) (fs : List Field) → Filled s client slots fs → ranged slots ≡ true
-        → Filled s client (with797 (λ q. q .tag) copySlot slot797 slots) (with797 (λ f. f .tag) (copyField n (length client)) yes797 fs)
+        → Filled s client (with797 (λ q. q .tag) textSlot slot797 slots) (with797 (λ f. f .tag) (copyField n (length client)) yes797 fs)
     unfolding with797
     copy-fills slots fs filled-none r = filled-some yes-fits filled-none
     copy-fills slots fs (filled-some {slot} {f} {slots = ss} {fs = gs} p q) r =
@@ -183,8 +188,8 @@ module _ (s client : List ℕ) (n : ℕ) where
         fill-one slot f ss gs tag (filled-skip e o q) (λ t. change-one slot f _ _ tag (both-l (rangedOne slot) (ranged ss) r) rest (filled-skip e o rest))
 
 -- ---- the tables, kind by kind
-pub kinds-ranged : (k : Kind) → ranged (take 35 (slotsOf k)) ≡ true
-unfolding acceptedSlots replacedSlots canceledSlots tradeSlots rejectedSlots cancelRejectSlots sessionRejectSlots
+pub kinds-ranged : (k : Kind) → ranged (take 35 (shownSlots k)) ≡ true
+unfolding shownSlot acceptedSlots replacedSlots canceledSlots tradeSlots rejectedSlots cancelRejectSlots sessionRejectSlots
 kinds-ranged Accepted = refl
 kinds-ranged Replaced = refl
 kinds-ranged Canceled = refl
@@ -193,6 +198,17 @@ kinds-ranged Rejected = refl
 kinds-ranged CancelReject = refl
 kinds-ranged SessionReject = refl
 kinds-ranged Refused = refl
+
+kinds-two : (k : Kind) → with797 (λ q. q .tag) textSlot slot797 (take 35 (shownSlots k)) ≡ copySlots (slotsOf k)
+unfolding copySlots with797 copySlot textSlot shownSlot acceptedSlots replacedSlots canceledSlots tradeSlots rejectedSlots cancelRejectSlots sessionRejectSlots
+kinds-two Accepted = refl
+kinds-two Replaced = refl
+kinds-two Canceled = refl
+kinds-two Trade = refl
+kinds-two Rejected = refl
+kinds-two CancelReject = refl
+kinds-two SessionReject = refl
+kinds-two Refused = refl
 
 pub kinds-distinct : (k : Kind) → distinct (copySlots (slotsOf k)) ≡ true
 unfolding copySlots with797 copySlot acceptedSlots replacedSlots canceledSlots tradeSlots rejectedSlots cancelRejectSlots sessionRejectSlots label decimal
@@ -220,8 +236,10 @@ copy-widths Refused = lit≤ tt
 -- ---- the row of a copy of each kind
 module _ (s client : List ℕ) (n : ℕ) (g : Given s client n) (k : Kind) (fs : List Field) (p : Filled s client (slotsOf k) fs) where
   pub row-fills : Filled s client (copySlots (slotsOf k)) (copyRow n (length client) fs)
-  unfolding copySlots copyRow
-  row-fills = copy-fills s client n g (take 35 (slotsOf k)) (take 35 fs) (filled-front s client 35 (slotsOf k) fs p) (kinds-ranged k)
+  unfolding copyRow
+  row-fills =
+      subst (λ (slots : List Slot). Filled s client slots (copyRow n (length client) fs)) (kinds-two k)
+      (copy-fills s client n g (take 35 (shownSlots k)) (take 35 (shownRow fs)) (filled-front s client 35 (shownSlots k) (shownRow fs) (shown-fills s client k fs p)) (kinds-ranged k))
 
   pub row-fits : (sum : ℕ) → Fits s client (trailer sum) (copySlots (slotsOf k)) (copyRow n (length client) fs)
   row-fits sum = filled-fits s client sum (copySlots (slotsOf k)) (copyRow n (length client) fs) row-fills (kinds-distinct k)
@@ -230,10 +248,12 @@ module _ (s client : List ℕ) (n : ℕ) (g : Given s client n) (k : Kind) (fs :
   row-short = le-trans (fits-short s client (trailer 0) (copySlots (slotsOf k)) (copyRow n (length client) fs) (row-fits 0)) (copy-widths k)
 
 -- ---- what is kept
-module _ {B : Type 0} (h : Value → B) (none : B) (g : ℕ) (kept : isKept g ≡ true) (n w : ℕ) where
+module _ {B : Type 0} (h : Value → B) (none : B) (g : ℕ) (kept : isKept false g ≡ true) (n w : ℕ) where
   other : (eqb g 0 ≡ false) × (eqb g 34 ≡ false) × (eqb g 17 ≡ false) × (eqb g 109 ≡ false) × (eqb g 797 ≡ false)
   unfolding isKept
-  other = five (eqb g 0) (eqb g 34) (eqb g 17) (eqb g 109) (eqb g 797) kept
+  other =
+      five (eqb g 0) (eqb g 34) (eqb g 17) (eqb g 109) (eqb g 797)
+      (both-l (not (eqb g 0) && not (eqb g 34) && not (eqb g 17) && not (eqb g 109) && not (eqb g 797)) (not ((eqb g 59 || eqb g 110) && false)) kept)
     where
       five : (a b c d e : Bool) → (not a && not b && not c && not d && not e) ≡ true → (a ≡ false) × (b ≡ false) × (c ≡ false) × (d ≡ false) × (e ≡ false)
       five false false false false false z = (refl, refl, refl, refl, refl)
@@ -268,25 +288,9 @@ module _ {B : Type 0} (h : Value → B) (none : B) (g : ℕ) (kept : isKept g �
   last-kept (f ∷ fs) = ap (cond (eqb (f .tag) g) (h (f .value))) (last-kept fs)
 
 -- ---- what is not kept: 34, 17 and 109, where they stand in front of 797's place, and 797
-abbrev pub has : ℕ → List Slot → Bool
-has g [] = false
-has g (slot ∷ slots) = cond (ltb 797 (slot .tag)) false (cond (eqb (slot .tag) g) true (has g slots))
-
 abbrev pub hasNot797 : List Slot → Bool
 hasNot797 [] = true
 hasNot797 (slot ∷ slots) = cond (ltb 797 (slot .tag)) true (not (eqb (slot .tag) 797) && hasNot797 slots)
-
--- each tag is its slot's
-abbrev pub Tagged : List Slot → List Field → Type 0
-Tagged [] [] = Unit {0}
-Tagged [] (f ∷ fs) = ⊥
-Tagged (slot ∷ slots) [] = ⊥
-Tagged (slot ∷ slots) (f ∷ fs) = (f .tag ≡ slot .tag) × Tagged slots fs
-
-pub filled-tagged : (s stored : List ℕ) (slots : List Slot) (fs : List Field) → Filled s stored slots fs → Tagged slots fs
-filled-tagged s stored slots fs filled-none = tt
-filled-tagged s stored slots fs (filled-some {slots = ss} {fs = gs} p q) = (p .tag-is, filled-tagged s stored ss gs q)
-filled-tagged s stored slots fs (filled-skip {slots = ss} {fs = gs} e o q) = (ap (λ (h : Field). h .tag) e, filled-tagged s stored ss gs q)
 
 module _ {B : Type 0} (h : Value → B) (none : B) (n w : ℕ) where
   pub woven-new : (g : ℕ) (v : Value) → ((old : Value) → copyValue n w g old ≡ v) → (slots : List Slot) (fs : List Field) → Tagged slots fs → has g slots ≡ true
@@ -329,8 +333,8 @@ report-distinct CancelReject = refl
 report-distinct SessionReject = refl
 report-distinct Refused = refl
 
-pub last-unused : (k : Kind) → drop 35 (slotsOf k) ≡ unused ∷ []
-unfolding acceptedSlots replacedSlots canceledSlots tradeSlots rejectedSlots cancelRejectSlots sessionRejectSlots
+pub last-unused : (k : Kind) → drop 35 (shownSlots k) ≡ unused ∷ []
+unfolding shownSlot acceptedSlots replacedSlots canceledSlots tradeSlots rejectedSlots cancelRejectSlots sessionRejectSlots
 last-unused Accepted = refl
 last-unused Replaced = refl
 last-unused Canceled = refl
@@ -340,7 +344,7 @@ last-unused CancelReject = refl
 last-unused SessionReject = refl
 last-unused Refused = refl
 
--- 35 stands first and 150 is told; 34, 17 and 109 stand in front of 797's place, and 797 is not among them
+-- 35 stands first and 150 is told; 34, 17, 59, 109 and 110 stand in front of 797's place, and 797 is not among them
 abbrev pub begins : List Slot → Bool
 begins [] = false
 begins (slot ∷ slots) = not (slot .optional)
@@ -351,17 +355,19 @@ pub record Copyable (slots : List Slot) : Type 0 where
   pub copy-type : tells 35 (copySlots slots) ≡ true
   pub copy-status : tells 150 (copySlots slots) ≡ true
   pub first : begins (copySlots slots) ≡ true
-  pub has-34 : has 34 (take 35 slots) ≡ true
-  pub has-17 : has 17 (take 35 slots) ≡ true
-  pub has-109 : has 109 (take 35 slots) ≡ true
-  pub not-797 : hasNot797 (take 35 slots) ≡ true
+  pub has-34 : has 34 (take 35 (map shownSlot slots)) ≡ true
+  pub has-17 : has 17 (take 35 (map shownSlot slots)) ≡ true
+  pub has-109 : has 109 (take 35 (map shownSlot slots)) ≡ true
+  pub not-797 : hasNot797 (take 35 (map shownSlot slots)) ≡ true
+  pub has-59 : has 59 slots ≡ true
+  pub has-110 : has 110 slots ≡ true
 
 pub kinds-copyable : (k : Kind) → copiedBy 2 k ≡ true → Copyable (slotsOf k)
-unfolding copySlots with797 copySlot acceptedSlots replacedSlots canceledSlots tradeSlots label decimal
-kinds-copyable Accepted e = record { type-told = refl; status-told = refl; copy-type = refl; copy-status = refl; first = refl; has-34 = refl; has-17 = refl; has-109 = refl; not-797 = refl }
-kinds-copyable Replaced e = record { type-told = refl; status-told = refl; copy-type = refl; copy-status = refl; first = refl; has-34 = refl; has-17 = refl; has-109 = refl; not-797 = refl }
-kinds-copyable Canceled e = record { type-told = refl; status-told = refl; copy-type = refl; copy-status = refl; first = refl; has-34 = refl; has-17 = refl; has-109 = refl; not-797 = refl }
-kinds-copyable Trade e = record { type-told = refl; status-told = refl; copy-type = refl; copy-status = refl; first = refl; has-34 = refl; has-17 = refl; has-109 = refl; not-797 = refl }
+unfolding copySlots with797 copySlot shownSlot acceptedSlots replacedSlots canceledSlots tradeSlots label decimal
+kinds-copyable Accepted e = record { type-told = refl; status-told = refl; copy-type = refl; copy-status = refl; first = refl; has-34 = refl; has-17 = refl; has-109 = refl; not-797 = refl; has-59 = refl; has-110 = refl }
+kinds-copyable Replaced e = record { type-told = refl; status-told = refl; copy-type = refl; copy-status = refl; first = refl; has-34 = refl; has-17 = refl; has-109 = refl; not-797 = refl; has-59 = refl; has-110 = refl }
+kinds-copyable Canceled e = record { type-told = refl; status-told = refl; copy-type = refl; copy-status = refl; first = refl; has-34 = refl; has-17 = refl; has-109 = refl; not-797 = refl; has-59 = refl; has-110 = refl }
+kinds-copyable Trade e = record { type-told = refl; status-told = refl; copy-type = refl; copy-status = refl; first = refl; has-34 = refl; has-17 = refl; has-109 = refl; not-797 = refl; has-59 = refl; has-110 = refl }
 kinds-copyable Rejected e = absurd (false≢true e)
 kinds-copyable CancelReject e = absurd (false≢true e)
 kinds-copyable SessionReject e = absurd (false≢true e)
@@ -389,29 +395,35 @@ module _ (s stored : List ℕ) (n w : ℕ) where
       let z : ltb 797 (f .tag) ≡ false = ap (ltb 797) (p .0) ∙ t in
       rw z (woven-at i slots fs (p .1) (both-r (not (ltb 797 (slot .tag))) (lows (suc i) slots) e))
 
-  tag-at : (i : ℕ) (slots : List Slot) (fs : List Field) → Tagged slots fs → getD fs i (field 0 Absent) .tag ≡ getD slots i unused .tag
-  tag-at i [] [] p = refl
-  tag-at i [] (f ∷ fs) p = absurd p
-  tag-at i (slot ∷ slots) [] p = absurd p
-  tag-at zero (slot ∷ slots) (f ∷ fs) p = p .0
-  tag-at (suc i) (slot ∷ slots) (f ∷ fs) p = tag-at i slots fs (p .1)
-
   there-at : (i tag : ℕ) (slots : List Slot) (fs : List Field) → Filled s stored slots fs → i < 35 → lows (suc i) (take 35 slots) ≡ true → getD slots i unused .tag ≡ tag
       → isAbsent (copyValue n w tag (getD fs i (field 0 Absent) .value)) ≡ isAbsent (getD fs i (field 0 Absent) .value)
-      → isAbsent (getD (copyRow n w fs) i (field 0 Absent) .value) ≡ isAbsent (getD fs i (field 0 Absent) .value)
-  unfolding copyRow copyField
+      → isAbsent (getD (with797 (λ f. f .tag) (copyField n w) yes797 (take 35 fs)) i (field 0 Absent) .value) ≡ isAbsent (getD fs i (field 0 Absent) .value)
+  unfolding copyField
   there-at i tag slots fs p h e t c =
       ap (λ (f : Field). isAbsent (f .value)) (woven-at i (take 35 slots) (take 35 fs) (filled-tagged s stored (take 35 slots) (take 35 fs) (filled-front s stored 35 slots fs p)) e)
       ∙ ap (λ (f : Field). isAbsent (copyField n w f .value)) (getD-take 35 fs i (field 0 Absent) h)
       ∙ ap (λ (g : ℕ). isAbsent (copyValue n w g (getD fs i (field 0 Absent) .value))) (tag-at i slots fs (filled-tagged s stored slots fs p) ∙ t)
       ∙ c
 
+  -- a field of a Canceled that is neither 59 nor 110, nor the feed's own
+  canceled-at : (i tag : ℕ) (fs : List Field) → Filled s stored canceledSlots fs → i < 35 → lows (suc i) (take 35 (shownSlots Canceled)) ≡ true
+      → getD canceledSlots i unused .tag ≡ tag → getD (shownSlots Canceled) i unused .tag ≡ tag → eqb tag 59 ≡ false → eqb tag 110 ≡ false
+      → ((v : Value) → copyValue n w tag v ≡ v)
+      → isAbsent (getD (copyRow n w fs) i (field 0 Absent) .value) ≡ isAbsent (getD fs i (field 0 Absent) .value)
+  unfolding copyRow
+  canceled-at i tag fs p h e t u a b c =
+      there-at i tag (shownSlots Canceled) (shownRow fs) (shown-fills s stored Canceled fs p) h e u (ap isAbsent (c (getD (shownRow fs) i (field 0 Absent) .value)))
+      ∙ ap isAbsent (shown-at i tag canceledSlots fs (filled-tagged s stored canceledSlots fs p) t a b)
+
   pub agreed-kept : (k : Kind) (fs : List Field) → Filled s stored (slotsOf k) fs → agreed k (copyRow n w fs) ≡ agreed k fs
-  unfolding oneReason canceledSlots copyValue
+  unfolding oneReason canceledSlots shownSlot copyValue
   agreed-kept Accepted fs p = refl
   agreed-kept Replaced fs p = refl
   agreed-kept Canceled fs p =
-      rw (there-at 16 41 canceledSlots fs p (omega arith) refl refl refl, there-at 26 378 canceledSlots fs p (omega arith) refl refl refl)
+      rw (
+        canceled-at 16 41 fs p (omega arith) refl refl refl refl refl (λ v. refl),
+        canceled-at 27 378 fs p (omega arith) refl refl refl refl refl (λ v. refl),
+      )
   agreed-kept Trade fs p = refl
   agreed-kept Rejected fs p = refl
   agreed-kept CancelReject fs p = refl

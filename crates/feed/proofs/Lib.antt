@@ -5,6 +5,7 @@ pub mod Weaving
 pub mod Clients
 pub mod Shaped
 pub mod Filled
+pub mod Shown
 pub mod Copied
 pub mod Theorems
 pub mod Answers

@@ -1,6 +1,7 @@
 -- What a copy is to its report (document 02, T-01), of every kind that is copied, with any number of a feed and any text of 109 that its
--- settings can give: it has at most 512 bytes; it is read as a copy of the report's kind; every field but 34, 17, 109 and 797 has the
--- report's own bytes, and these have the number, the number, the text and Y. 8, 9 and 10 are those of every report.
+-- settings can give: it has at most 512 bytes; it is read as a copy of the report's kind; every field but 34, 17, 109 and 797, and of a
+-- Fill or Kill 59 and 110 (T-05), has the report's own bytes, and these have the number, the number, the text and Y, and 3 and 38's value.
+-- 8, 9 and 10 are those of every report.
 use Prim.Native.Nat.{ℕ, zero, suc, _+_, _≤_, _<_}
 use mathlib.Core.Path.{_≡_, refl, sym, ap, _∙_, subst}
 use mathlib.Core.Bool.{Bool, true, false, cond, not, _&&_, false≢true}
@@ -32,12 +33,13 @@ use Rattle.report.proofs.Back.{Fits, fit-bytes, backs, start, reading-back}
 use Rattle.report.proofs.Tables.{row-short as report-short}
 use Rattle.report.proofs.ReadOnly.{kinds-proper}
 use Rattle.report.proofs.Texts.{read-there}
-use Rattle.feed.specs.Rows.{with797, copyValue, copyField, yes797, copyRow, copySlots}
+use Rattle.feed.specs.Rows.{with797, isFour, isFillOrKill, valueOf, iocValue, shownRow, copyValue, copyField, yes797, copyRow, copySlots}
 use Rattle.feed.specs.Settings.{copiedBy}
 use Rattle.feed.specs.Copies.{isNone, copyBytes, copyKind, readCopyOf}
 use Rattle.feed.specs.Kept.{atTag, isKept}
 use Rattle.feed.proofs.Filled.{Filled, filled-none, filled-some, filled-skip, filled-front, filled-fits, read-fills, read-says, unused-never, firstByte, headIn, kind-in}
-use Rattle.feed.proofs.Copied.{Given, row-fills, row-fits, row-short, woven-kept, last-kept, woven-new, woven-797, report-distinct, last-unused, begins, Tagged, filled-tagged, Copyable, kinds-copyable, agreed-kept}
+use Rattle.feed.proofs.Shown.{through, Tagged, filled-tagged, kept-other, shown-kept, shown-new, back-four, shownSlots, shown-fills}
+use Rattle.feed.proofs.Copied.{Given, row-fills, row-fits, row-short, woven-kept, last-kept, woven-new, woven-797, report-distinct, last-unused, begins, Copyable, kinds-copyable, agreed-kept}
 
 -- ---- what Read takes
 record Opened (k : Kind) (q : Rows) : Type 0 where
@@ -116,11 +118,15 @@ module _ (report : List ℕ) (some : isNone (readOf report .kind) ≡ false) whe
       let f = framed-found report (slotsOf kind) fields (opened .next) framed in
       read-fills report stored (f .from) (slotsOf kind) fields (opened .next) (omega (arith, body-within report (f .from) (f .len) (f .body))) (kinds-proper kind) (f .fields)
 
-  last : fields ≡ take 35 fields ++ (field 0 Absent ∷ [])
+  -- with 59 and 110 as a copy shows them
+  abbrev shown : List Field
+  shown = shownRow fields
+
+  last : shown ≡ take 35 shown ++ (field 0 Absent ∷ [])
   last =
-      let p = filled-back report [] 35 (slotsOf kind) fields (fills []) in
-      sym (take-append-drop 35 fields)
-      ∙ ap (λ (l : List Field). take 35 fields ++ l) (only-unused report [] (drop 35 fields) (subst (λ (l : List Slot). Filled report [] l (drop 35 fields)) (last-unused kind) p))
+      let p = filled-back report [] 35 (shownSlots kind) shown (shown-fills report [] kind fields (fills [])) in
+      sym (take-append-drop 35 shown)
+      ∙ ap (λ (l : List Field). take 35 shown ++ l) (only-unused report [] (drop 35 shown) (subst (λ (l : List Slot). Filled report [] l (drop 35 shown)) (last-unused kind) p))
 
   module _ (client : List ℕ) (number : ℕ) (given : Given report client number) where
     abbrev copied : List Field
@@ -138,11 +144,14 @@ module _ (report : List ℕ) (some : isNone (readOf report .kind) ≡ false) whe
     at-most-512 = report-length (rowBytes report client copied) row-few
 
     -- what the row says of a tag that is kept
-    pub row-kept : {B : Type 0} (h : Value → B) (none : B) (g : ℕ) → isKept g ≡ true → atTag h none g copied ≡ atTag h none g fields
+    row-shown : {B : Type 0} (h : Value → B) (none : B) (g : ℕ) → isKept false g ≡ true → atTag h none g copied ≡ atTag h none g shown
     unfolding copyRow
-    row-kept h none g k =
-        woven-kept h none g k number (length client) (take 35 fields)
-        ∙ sym (ap (atTag h none g) last ∙ last-kept h none g k number (length client) (take 35 fields))
+    row-shown h none g k =
+        woven-kept h none g k number (length client) (take 35 shown)
+        ∙ sym (ap (atTag h none g) last ∙ last-kept h none g k number (length client) (take 35 shown))
+
+    pub row-kept : {B : Type 0} (h : Value → B) (none : B) (g : ℕ) → isKept (isFillOrKill fields) g ≡ true → atTag h none g copied ≡ atTag h none g fields
+    row-kept h none g k = row-shown h none g (kept-other (isFillOrKill fields) g k) ∙ shown-kept h none g fields k
 
     -- ---- its kind
     module _ (c : copiedBy 2 kind ≡ true) where
@@ -187,31 +196,35 @@ module _ (report : List ℕ) (some : isNone (readOf report .kind) ≡ false) whe
           ap (λ (r : Reading). atTag (valueBytes copy []) [] g (r .fields)) is-read
           ∙ back-says report client (valueBytes copy []) (valueBytes report client) [] g (start (rowBytes report client copied)) copied (λ i. read-there report client [] copied i)
 
-      -- every field but 34, 17, 109 and 797 has the report's own bytes
-      pub all-else-kept : (g : ℕ) → isKept g ≡ true → atTag (valueBytes copy []) [] g asRead ≡ atTag (valueBytes report []) [] g fields
-      all-else-kept g k =
+      own-bytes : (g : ℕ) → atTag (valueBytes report client) [] g fields ≡ atTag (valueBytes report []) [] g fields
+      own-bytes g =
           let f = framed-found report (slotsOf kind) fields (opened .next) framed in
-          says g ∙ row-kept (valueBytes report client) [] g k ∙ read-says report client [] g (f .from) (slotsOf kind) fields (opened .next) (f .fields)
+          read-says report client [] g (f .from) (slotsOf kind) fields (opened .next) (f .fields)
+
+      -- every field but 34, 17, 109 and 797, and of a Fill or Kill 59 and 110, has the report's own bytes
+      pub all-else-kept : (g : ℕ) → isKept (isFillOrKill fields) g ≡ true → atTag (valueBytes copy []) [] g asRead ≡ atTag (valueBytes report []) [] g fields
+      all-else-kept g k =
+          says g ∙ row-kept (valueBytes report client) [] g k ∙ own-bytes g
 
       -- and these four are the feed's
-      tagged : Tagged (take 35 (slotsOf kind)) (take 35 fields)
-      tagged = filled-tagged report client (take 35 (slotsOf kind)) (take 35 fields) (filled-front report client 35 (slotsOf kind) fields (fills client))
+      tagged : Tagged (take 35 (shownSlots kind)) (take 35 shown)
+      tagged = filled-tagged report client (take 35 (shownSlots kind)) (take 35 shown) (filled-front report client 35 (shownSlots kind) shown (shown-fills report client kind fields (fills client)))
 
       pub row-34 : {B : Type 0} (h : Value → B) (none : B) → atTag h none 34 copied ≡ h (Number number)
       unfolding copyRow copyValue
-      row-34 h none = woven-new h none number (length client) 34 (Number number) (λ old. refl) (take 35 (slotsOf kind)) (take 35 fields) tagged (table .has-34)
+      row-34 h none = woven-new h none number (length client) 34 (Number number) (λ old. refl) (take 35 (shownSlots kind)) (take 35 shown) tagged (table .has-34)
 
       pub row-17 : {B : Type 0} (h : Value → B) (none : B) → atTag h none 17 copied ≡ h (Number number)
       unfolding copyRow copyValue
-      row-17 h none = woven-new h none number (length client) 17 (Number number) (λ old. refl) (take 35 (slotsOf kind)) (take 35 fields) tagged (table .has-17)
+      row-17 h none = woven-new h none number (length client) 17 (Number number) (λ old. refl) (take 35 (shownSlots kind)) (take 35 shown) tagged (table .has-17)
 
       row-109 : atTag (valueBytes report client) [] 109 copied ≡ valueBytes report client (Stored 0 (length client))
       unfolding copyRow copyValue
-      row-109 = woven-new (valueBytes report client) [] number (length client) 109 (Stored 0 (length client)) (λ old. refl) (take 35 (slotsOf kind)) (take 35 fields) tagged (table .has-109)
+      row-109 = woven-new (valueBytes report client) [] number (length client) 109 (Stored 0 (length client)) (λ old. refl) (take 35 (shownSlots kind)) (take 35 shown) tagged (table .has-109)
 
       row-797 : atTag (valueBytes report client) [] 797 copied ≡ 89 ∷ []
       unfolding copyRow
-      row-797 = woven-797 (valueBytes report client) [] number (length client) (take 35 (slotsOf kind)) (take 35 fields) tagged (table .not-797)
+      row-797 = woven-797 (valueBytes report client) [] number (length client) (take 35 (shownSlots kind)) (take 35 shown) tagged (table .not-797)
 
       pub number-34 : atTag (valueBytes copy []) [] 34 asRead ≡ decimal number
       number-34 = says 34 ∙ row-34 (valueBytes report client) []
@@ -225,3 +238,36 @@ module _ (report : List ℕ) (some : isNone (readOf report .kind) ≡ false) whe
 
       pub yes-797 : atTag (valueBytes copy []) [] 797 asRead ≡ 89 ∷ []
       yes-797 = says 797 ∙ row-797
+
+      -- ---- a Fill or Kill is shown as Immediate or Cancel, its minimum the quantity that it has in report and copy
+      module _ (kill : isFillOrKill fields ≡ true) where
+        row-59 : {B : Type 0} (h : Value → B) (none : B) → atTag h none 59 copied ≡ h (Char 51)
+        unfolding isKept iocValue
+        row-59 h none = row-shown h none 59 refl ∙ shown-new h none 59 fields (Char 51) kill (λ old. refl) (slotsOf kind) (filled-tagged report client (slotsOf kind) fields (fills client)) (table .has-59)
+
+        row-110 : {B : Type 0} (h : Value → B) (none : B) → atTag h none 110 copied ≡ h (valueOf 38 fields)
+        unfolding isKept iocValue
+        row-110 h none =
+            row-shown h none 110 refl
+            ∙ shown-new h none 110 fields (valueOf 38 fields) kill (λ old. refl) (slotsOf kind) (filled-tagged report client (slotsOf kind) fields (fills client)) (table .has-110)
+
+        pub ioc-59 : atTag (valueBytes copy []) [] 59 asRead ≡ 51 ∷ []
+        ioc-59 = says 59 ∙ row-59 (valueBytes report client) []
+
+        pub minimum-110 : atTag (valueBytes copy []) [] 110 asRead ≡ atTag (valueBytes report []) [] 38 fields
+        minimum-110 = says 110 ∙ row-110 (valueBytes report client) [] ∙ through (valueBytes report client) 38 fields ∙ own-bytes 38
+
+        pub minimum-38 : atTag (valueBytes copy []) [] 110 asRead ≡ atTag (valueBytes copy []) [] 38 asRead
+        unfolding isKept
+        minimum-38 = minimum-110 ∙ sym (all-else-kept 38 refl)
+
+      -- so no copy shows a Fill or Kill
+      row-not-four : isFillOrKill copied ≡ false
+      unfolding isFillOrKill isKept
+      row-not-four =
+          split (isFillOrKill fields)
+          (λ t. row-59 t isFour false)
+          (λ t. let k : isKept (isFillOrKill fields) 59 ≡ true = rw t in row-kept isFour false 59 k ∙ t)
+
+      pub never-four : isFillOrKill asRead ≡ false
+      never-four = ap (λ (r : Reading). isFillOrKill (r .fields)) is-read ∙ back-four report client (start (rowBytes report client copied)) copied ∙ row-not-four

@@ -10,7 +10,7 @@ use lib.ListN.{length, take, drop, getD, set, length-set, drop-of-length-le}
 use lib.Seq.{take-suc-set, drop-set-lt, drop-cons, append-snoc, set-split, set-getD}
 use Rattle.octets.proofs.Bools.{neither-l, neither-r}
 use Rattle.report.specs.declared.Field.{Field}
-use Rattle.feed.specs.Rows.{with797, copyValue, copyField}
+use Rattle.feed.specs.Rows.{with797, shownRow, copyValue, copyField, yes797, copyRow}
 
 module _ {A : Type 0} (tagOf : A → ℕ) (change : A → A) (indicator : A) where
   -- what is still to do of the entries xs: the one that is held stands in front of them, or 797's is put among them
@@ -128,3 +128,8 @@ kept-field n w f t e k =
       neither-r (eqb (f .tag) 34) (eqb (f .tag) 17) two,
       neither-r (eqb (f .tag) 34 || eqb (f .tag) 17) (eqb (f .tag) 109) all,
     )
+
+-- ---- the whole row
+pub copy-row-is : (n w : ℕ) (fs shown row : List Field) → shown ≡ shownRow fs → row ≡ with797 (λ f. f .tag) (copyField n w) yes797 (take 35 shown) → row ≡ copyRow n w fs
+unfolding copyRow
+copy-row-is n w fs shown row e r = r ∙ ap (λ (l : List Field). with797 (λ f. f .tag) (copyField n w) yes797 (take 35 l)) e

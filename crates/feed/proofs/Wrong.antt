@@ -1,6 +1,8 @@
--- A copy of a Trade and one of an Accepted without an MPID, worked out apart from the definitions and then computed; and what comes of a
--- Rejected. They rule out, byte for byte: 34 or 17 left as the report's, 109 kept or left out, 797 at another place, 9 or 10 not worked
--- out anew; a Rejected copied, and a number raised for a report that is not copied.
+-- A copy of a Trade, one of an Accepted without an MPID, and those of the Canceled of a Fill or Kill and of an order with a minimum, worked
+-- out apart from the definitions and then computed; and what comes of a Rejected. They rule out, byte for byte: 34 or 17 left as the
+-- report's, 109 kept or left out, 797 at another place, 9 or 10 not worked out anew; a copy of a Fill or Kill that shows 59=4, has no 110, or
+-- has the report's 110 and not 38's value; the 110 of any other order changed or left out; a Rejected copied, and a number raised for
+-- a report that is not copied. And bytes that show 59=4 are read as no copy.
 use mathlib.Core.Path.{_≡_, refl}
 use mathlib.Core.List.{List, []}
 use Prim.Native.Nat.{ℕ}
@@ -14,16 +16,17 @@ use Rattle.report.specs.Fields.{label, written, fieldBytes}
 use Rattle.report.specs.Frame.{version, front, trailer, reportBytes}
 use Rattle.report.specs.Shapes.{oneIn, wordIn, recordIn, textIn, timeIn}
 use Rattle.report.specs.Parse.{valueAt, fieldAt, hop, placeOf}
-use Rattle.report.specs.Slots.{acceptedSlots, tradeSlots, rejectedSlots}
-use Rattle.report.specs.Reports.{bodyAt, trailerAt, readFramed, executionFor, kindFor, firstOf, kindOf, readOf}
+use Rattle.report.specs.Slots.{acceptedSlots, canceledSlots, tradeSlots, rejectedSlots}
+use Rattle.report.specs.Reports.{bodyAt, trailerAt, readFramed, executionFor, kindFor, firstOf, kindOf, oneReason, refused, readOf}
+use Rattle.report.specs.declared.Kind.the-variants.{Canceled}
 use Rattle.feed.specs.declared.CopyAnswer.the-variants.{BadSetting, NumbersSpent, NotCopied, Copied}
-use Rattle.feed.specs.Rows.{with797, copyValue, copyField, copyRow}
+use Rattle.feed.specs.Rows.{with797, isFillOrKill, iocValue, iocField, shownRow, copyValue, copyField, copyRow, copySlot, copySlots}
 use Rattle.feed.specs.Settings.{clientOf, isIdentifier, areIdentifiers, isSetting}
-use Rattle.feed.specs.Copies.{copyBytes, fed}
+use Rattle.feed.specs.Copies.{copyBytes, fed, readCopyOf}
 
 -- open the definitions that a copy is computed with
 computes : ℕ
-unfolding partAt sameBytes decimal places plain fixed bare bareOf exactlyOf amountOf fixedOf isDigit digitOf runOf numberAfter isNumber numOf digitAt isFraction fractionOf sizeOf levelOf isTimeLength twoAt timeShaped timeRanged isTime sumOf checkSum label written fieldBytes version front trailer reportBytes oneIn wordIn recordIn textIn timeIn valueAt fieldAt hop placeOf acceptedSlots tradeSlots rejectedSlots bodyAt trailerAt readFramed executionFor kindFor firstOf kindOf readOf with797 copyValue copyField copyRow clientOf isIdentifier areIdentifiers isSetting copyBytes fed
+unfolding partAt sameBytes decimal places plain fixed bare bareOf exactlyOf amountOf fixedOf isDigit digitOf runOf numberAfter isNumber numOf digitAt isFraction fractionOf sizeOf levelOf isTimeLength twoAt timeShaped timeRanged isTime sumOf checkSum label written fieldBytes version front trailer reportBytes oneIn wordIn recordIn textIn timeIn valueAt fieldAt hop placeOf acceptedSlots canceledSlots tradeSlots rejectedSlots bodyAt trailerAt readFramed executionFor kindFor firstOf kindOf oneReason readOf with797 isFillOrKill iocValue iocField shownRow copyValue copyField copyRow copySlot copySlots clientOf isIdentifier areIdentifiers isSetting copyBytes fed readCopyOf
 computes = 0
 
 -- the identifiers P1 and G
@@ -41,6 +44,16 @@ trade = message "8=FIX.4.2|9=243|35=8|34=9|49=V|50=DJGB|52=20260105-09:00:01|56=
 abbrev accepted : List ℕ
 accepted = message "8=FIX.4.2|9=204|35=8|34=999999999|49=V|50=DJGB|52=20260105-09:00:02|56=P|6=0.000000|11=BUY-1|14=0|17=999999999|20=0|37=255|38=500|39=0|40=2|44=-0.005|47=P|54=2|55=350|59=3|60=20260105-09:00:02|150=0|151=500|423=9|8060=6|10=054|"
 
+-- a Canceled of a Fill or Kill of 1,200: report 9; the same with a 110 of its own, and of an Immediate or Cancel with that minimum
+abbrev kill : List ℕ
+kill = message "8=FIX.4.2|9=191|35=8|34=9|49=V|50=DJGB|52=20260105-09:00:01|56=P|6=0.000000|11=BUY-1|14=0|17=9|20=0|37=7|38=1200|39=4|40=2|44=0.100|47=A|54=1|55=350|59=4|60=20260105-09:00:01|150=4|151=0|378=99|423=9|8060=1|10=034|"
+
+abbrev killAnd110 : List ℕ
+killAnd110 = message "8=FIX.4.2|9=197|35=8|34=9|49=V|50=DJGB|52=20260105-09:00:01|56=P|6=0.000000|11=BUY-1|14=0|17=9|20=0|37=7|38=1200|39=4|40=2|44=0.100|47=A|54=1|55=350|59=4|60=20260105-09:00:01|110=7|150=4|151=0|378=99|423=9|8060=1|10=047|"
+
+abbrev withMinimum : List ℕ
+withMinimum = message "8=FIX.4.2|9=197|35=8|34=9|49=V|50=DJGB|52=20260105-09:00:01|56=P|6=0.000000|11=BUY-1|14=0|17=9|20=0|37=7|38=1200|39=4|40=2|44=0.100|47=A|54=1|55=350|59=3|60=20260105-09:00:01|110=7|150=4|151=0|378=99|423=9|8060=1|10=046|"
+
 -- a Rejected: report 13
 abbrev rejected : List ℕ
 rejected = message "8=FIX.4.2|9=136|35=8|34=13|49=V|50=DJGB|52=20260105-09:00:02|56=P|6=0.000000|11=BUY-2|14=0|17=13|20=0|37=NONE|38=42|39=8|54=1|55=350|103=99|150=8|151=0|10=144|"
@@ -54,6 +67,32 @@ copy-of-trade = refl
 pub copy-of-accepted : fed accepted 2 2 [] g 999999999 1024 ≡ record { answer = Copied 239 1000000000; bytes = message "8=FIX.4.2|9=216|35=8|34=999999999|49=V|50=DJGB|52=20260105-09:00:02|56=P|6=0.000000|11=BUY-1|14=0|17=999999999|20=0|37=255|38=500|39=0|40=2|44=-0.005|47=P|54=2|55=350|59=3|60=20260105-09:00:02|109=G|150=0|151=500|423=9|797=Y|8060=6|10=150|" }
 unfolding computes
 copy-of-accepted = refl
+
+-- a Fill or Kill is shown as Immediate or Cancel with all of its quantity as the minimum, whether its report has 110 or not
+abbrev killShown : List ℕ
+killShown = message "8=FIX.4.2|9=215|35=8|34=5|49=V|50=DJGB|52=20260105-09:00:01|56=P|6=0.000000|11=BUY-1|14=0|17=5|20=0|37=7|38=1200|39=4|40=2|44=0.100|47=A|54=1|55=350|59=3|60=20260105-09:00:01|109=P1-G|110=1200|150=4|151=0|378=99|423=9|797=Y|8060=1|10=180|"
+
+pub copy-of-kill : fed kill 2 3 p1 g 5 1024 ≡ record { answer = Copied 238 6; bytes = killShown }
+unfolding computes
+copy-of-kill = refl
+
+pub copy-of-kill-and-110 : fed killAnd110 2 3 p1 g 5 1024 ≡ record { answer = Copied 238 6; bytes = killShown }
+unfolding computes
+copy-of-kill-and-110 = refl
+
+-- any other order's minimum is the report's
+pub copy-of-minimum : fed withMinimum 2 3 p1 g 5 1024 ≡ record { answer = Copied 235 6; bytes = message "8=FIX.4.2|9=212|35=8|34=5|49=V|50=DJGB|52=20260105-09:00:01|56=P|6=0.000000|11=BUY-1|14=0|17=5|20=0|37=7|38=1200|39=4|40=2|44=0.100|47=A|54=1|55=350|59=3|60=20260105-09:00:01|109=P1-G|110=7|150=4|151=0|378=99|423=9|797=Y|8060=1|10=037|" }
+unfolding computes
+copy-of-minimum = refl
+
+-- the first copy is read as one, and with 59=4 in it, 10 made true, it is none
+pub kill-read : readCopyOf killShown .kind ≡ Canceled
+unfolding computes
+kill-read = refl
+
+pub four-refused : readCopyOf (message "8=FIX.4.2|9=215|35=8|34=5|49=V|50=DJGB|52=20260105-09:00:01|56=P|6=0.000000|11=BUY-1|14=0|17=5|20=0|37=7|38=1200|39=4|40=2|44=0.100|47=A|54=1|55=350|59=4|60=20260105-09:00:01|109=P1-G|110=1200|150=4|151=0|378=99|423=9|797=Y|8060=1|10=181|") ≡ refused
+unfolding computes
+four-refused = refl
 
 -- a Rejected is not copied and takes no number, nor is an Accepted by a reconciliation feed
 pub rejected-not : fed rejected 2 3 p1 g 5 1024 ≡ record { answer = NotCopied 5; bytes = [] }

@@ -1,9 +1,10 @@
 -- A drop copy as a row of fields, made from the row that Read gives of a report, and as a table of slots, made from those of the report's
--- kind (document 02, T-01; source document 000, 5.1 and 7.5.1 to 7.5.4). 34 and 17 are the feed's number, 109 is the text of the
--- identifiers, 797=Y stands where ascending tags put it, and all else is the report's. Assumes nothing.
+-- kind (document 02, T-01 and T-05; source document 000, 5.1 and 7.5.1 to 7.5.4). 34 and 17 are the feed's number, 109 is the text of the
+-- identifiers, 797=Y stands where ascending tags put it, a Fill or Kill order has other 59 and 110, and all else is the report's.
+-- Assumes nothing.
 use Prim.Native.Nat.{ℕ}
-use mathlib.Core.Bool.{cond}
-use mathlib.Core.List.{List, [], _∷_}
+use mathlib.Core.Bool.{Bool, false, cond}
+use mathlib.Core.List.{List, [], _∷_, map}
 use lib.Dec.{eqb, ltb}
 use lib.ListN.{take}
 use Rattle.octets.specs.Characters.{byte}
@@ -14,12 +15,45 @@ use Rattle.report.specs.declared.Shape.the-variants as shape
 use Rattle.report.specs.declared.Slot.{Slot}
 use Rattle.report.specs.Fields.{field}
 use Rattle.report.specs.Slots.{always, oneOf}
+use Rattle.feed.specs.Kept.{atTag}
 
 -- ---- 797 among fields or slots: each is changed, up to the first of a higher tag, and 797's stands in front of that one
 unfoldable pub with797 : {A : Type 0} → (A → ℕ) → (A → A) → A → List A → List A
 with797 tagOf change indicator [] = indicator ∷ []
 with797 tagOf change indicator (x ∷ xs) =
     cond (ltb 797 (tagOf x)) (indicator ∷ x ∷ xs) (change x ∷ with797 tagOf change indicator xs)
+
+-- ---- Fill or Kill: a copy shows it as Immediate or Cancel, with the whole quantity as its minimum
+
+-- the value is 4
+abbrev pub isFour : Value → Bool
+isFour Absent = false
+isFour (Number n) = false
+isFour (Char c) = eqb c (byte "4")
+isFour (Word w x y z) = false
+isFour (Sent from len) = false
+isFour (Stored from len) = false
+isFour (Level level) = false
+isFour (Mean mean) = false
+
+-- the report's order is Fill or Kill: 59 is 4
+unfoldable pub isFillOrKill : List Field → Bool
+isFillOrKill fs = atTag isFour false 59 fs
+
+-- the value of the first field with a tag, absent where no field has it
+abbrev pub valueOf : ℕ → List Field → Value
+valueOf g fs = atTag (λ v. v) Absent g fs
+
+-- 59 is 3 and 110 is the quantity, whether it was there or not; all else stays
+unfoldable pub iocValue : Value → ℕ → Value → Value
+iocValue quantity tag v = cond (eqb tag 59) (Char (byte "3")) (cond (eqb tag 110) quantity v)
+
+unfoldable pub iocField : Value → Field → Field
+iocField quantity f = field (f .tag) (iocValue quantity (f .tag) (f .value))
+
+-- the fields of a report, its 59 and 110 as a copy shows them: the quantity is 38's value
+unfoldable pub shownRow : List Field → List Field
+shownRow fs = cond (isFillOrKill fs) (map (iocField (valueOf 38 fs)) fs) fs
 
 -- ---- the row
 
@@ -37,7 +71,7 @@ yes797 = field 797 (Char (byte "Y"))
 
 -- 36 fields, as a report's row has; no report uses its last one
 unfoldable pub copyRow : ℕ → ℕ → List Field → List Field
-copyRow number width fs = with797 (λ f. f .tag) (copyField number width) yes797 (take 35 fs)
+copyRow number width fs = with797 (λ f. f .tag) (copyField number width) yes797 (take 35 (shownRow fs))
 
 -- ---- the slots
 
@@ -46,8 +80,15 @@ abbrev pub longest : ℕ
 longest = 30
 
 -- 109 is always there: 1 to 30 characters from 21 to 7E hex
+abbrev pub slot109 : Slot
+slot109 = always 109 (shape.Text longest 0x21)
+
+-- 59 is always there: no copy shows Fill or Kill
+abbrev pub slot59 : Slot
+slot59 = always 59 (oneOf "03")
+
 unfoldable pub copySlot : Slot → Slot
-copySlot slot = cond (eqb (slot .tag) 109) (always 109 (shape.Text longest 0x21)) slot
+copySlot slot = cond (eqb (slot .tag) 109) slot109 (cond (eqb (slot .tag) 59) slot59 slot)
 
 -- 797 is always there: Y
 abbrev pub slot797 : Slot

@@ -1,5 +1,6 @@
 // The row of a copy from the row of its report, and the slots of a copy from those of the report's kind: each one changed up to the first
 // of a tag above 797, 797's own in front of that one, and those behind it moved on by one.
+use crate::force::shown_row;
 use report::Field;
 use report::Shape;
 use report::Slot;
@@ -49,7 +50,7 @@ fn copy_field(field: Field, number: u64, width: usize) -> Field
 pub fn copy_row(fields: [Field; 36], number: u64, width: usize) -> [Field; 36]
     ensures { λ r. ⌜ r ≡ copyRow number width fields ⌝ }
 {
-    let mut row = fields;
+    let mut row = shown_row(fields);
     let mut held = Field {
         tag: 797,
         value: Value::Char(b'Y'),
@@ -84,6 +85,19 @@ fn copy_slot(slot: Slot) -> Slot
             tag: 109,
             optional: false,
             shape: Shape::Text { most: 30, low: 33 },
+        };
+    }
+    if slot.tag == 59 {
+        return Slot {
+            tag: 59,
+            optional: false,
+            shape: Shape::OneOf {
+                a: 48,
+                b: 51,
+                c: 51,
+                d: 51,
+                e: 51,
+            },
         };
     }
     slot

@@ -21,8 +21,8 @@ use Rattle.request.proofs.Saying.{enters-spelt, replaces-spelt, cancels-spelt}
 use Rattle.matching.specs.declared.Order.{Order}
 use Rattle.matching.specs.declared.Event.{Event}
 use Rattle.matching.specs.declared.Event.the-variants.{Accepted, Replaced, Withdrawn}
-use Rattle.matching.specs.Matching.{openOf, who, change}
-use Rattle.matching.specs.Held.{Covered}
+use Rattle.matching.specs.Matching.{openOf, isImmediate, who, change}
+use Rattle.matching.specs.Held.{Covered, Sound}
 use Rattle.table.specs.Places.{tableBytes}
 use Rattle.table.specs.Heading.{nextOf}
 use Rattle.table.specs.Orders.{orderAt, filled, termBytes, amountBytes, recordOf, putId, accepted, replaced, withdrawn}
@@ -42,6 +42,13 @@ use Rattle.intake.proofs.Legibles.{enter-legible, cancel-due, cancel-le
 one-small : (x a b : ℕ) → a < 256 → b < 256 → (eqb x a || eqb x b) ≡ true → x < 256
 one-small x a b l m h =
     split (eqb x a) (λ e. omega (arith, eqb-true x a e)) (λ e. omega (arith, eqb-true x b (or-r (eqb x a) (eqb x b) h e)))
+
+-- a time in force is a byte
+force-small : (x : Order) → Sound x → x .tif < 256
+force-small x h =
+    split (eqb (x .tif) 0)
+    (λ e. omega (arith, eqb-true (x .tif) 0 e))
+    (λ e. one-small (x .tif) 3 4 (omega arith) (omega arith) (or-r (eqb (x .tif) 0) (isImmediate x) (h .tifs) e))
 
 -- ---- a new order
 
@@ -81,7 +88,7 @@ module _ (t message : List ℕ) (o : NewOrder) (a : Asking t message (Enters o))
     side-small = rw y (one-small (o .terms .side) 1 2 (omega arith) (omega arith) (new-sound t message o a .sides))
 
     pub tif-small : x .tif < 256
-    tif-small = rw y (one-small (o .terms .tif) 0 3 (omega arith) (omega arith) (new-sound t message o a .tifs))
+    tif-small = rw y (force-small (newOrderOf t message o) (new-sound t message o a))
 
   module _ (s : newStands t message o ≡ Stands) (f : ℕ) (g : f ≡ filled t) where
     pub record-small : f + 1 < 256

@@ -9,7 +9,7 @@ use lib.Dec.{eqb, ltb, leb}
 use lib.ListN.{length}
 use borrow.Author.Tests.{eqb-true, eqb-false, ltb-true, ltb-false, leb-false, le-leb, lt-ltb, not-false}
 use Rattle.octets.specs.Octets.{sameBytes}
-use Rattle.octets.proofs.Bools.{split, both-i, or-l, neither-l, neither-r}
+use Rattle.octets.proofs.Bools.{split, both-i, or-l, or-r, neither-l, neither-r}
 use Rattle.decimal.specs.Reading.{isDigit, isTime}
 use Rattle.fix.proofs.Values.{Between}
 use Rattle.request.specs.declared.NewOrder.{NewOrder}
@@ -20,7 +20,7 @@ use Rattle.request.specs.Session.{oneOf}
 use Rattle.request.proofs.Requests.{NewRight, enters-right, replaces-right}
 use Rattle.request.proofs.Saying.{NewSpelt, enters-spelt, ReplacementSpelt, replaces-spelt, CancelSpelt, cancels-spelt}
 use Rattle.matching.specs.Matching.{at, openOf}
-use Rattle.matching.specs.Held.{Sound, In, Enters as Entering, Renews}
+use Rattle.matching.specs.Held.{mayMinimum, Sound, In, Enters as Entering, Renews}
 use Rattle.table.specs.Heading.{codeOf, nextOf, isListed}
 use Rattle.table.specs.Orders.{orderAt, filled, bookOf, recordWith}
 use Rattle.table.specs.Market.{every, isPrintable, isCapacity, isClass}
@@ -115,12 +115,18 @@ new-holds t message o e =
       free = leb-false 255 (filled t) w;
     }))))
 
--- one of two numbers, and one of the classifications
+-- one of two numbers, one of three, and one of the classifications
 one-of-two : (x a b : ℕ) → oneOf x (a ∷ b ∷ []) ≡ true → (eqb x a || eqb x b) ≡ true
 unfolding oneOf
 one-of-two x a b h =
     split (eqb x a) (λ e. or-l (eqb x a) (eqb x b) e)
     (λ e. split (eqb x b) (λ d. rw (e, d)) (λ d. let z : false ≡ true = rw (e, d) at h in rw (e, d) z))
+
+one-of-three : (x a b c : ℕ) → oneOf x (a ∷ b ∷ c ∷ []) ≡ true → (eqb x a || (eqb x b || eqb x c)) ≡ true
+unfolding oneOf
+one-of-three x a b c h =
+    split (eqb x a) (λ e. or-l (eqb x a) (eqb x b || eqb x c) e)
+    (λ e. rw e (one-of-two x b c (or-r (eqb x a) (oneOf x (b ∷ c ∷ [])) h e)))
 
 one-class : (x : ℕ) → oneOf x (1 ∷ 3 ∷ 4 ∷ 5 ∷ 6 ∷ []) ≡ true → isClass x ≡ true
 unfolding oneOf isClass
@@ -146,12 +152,13 @@ module _ (t message : List ℕ) (o : NewOrder) (a : Asking t message (Enters o))
 
   -- its order is in range
   pub new-sound : Sound (newOrderOf t message o)
-  unfolding openOf
+  unfolding openOf mayMinimum
   new-sound =
       let r = new-right in
       record {
         sides = one-of-two (o .terms .side) 1 2 (r .sized .side-is);
-        tifs = one-of-two (o .terms .tif) 0 3 (r .tif-is);
+        tifs = one-of-three (o .terms .tif) 0 3 4 (r .tif-is);
+        minimum = r .minqty-is;
         level-low = r .sized .level-low;
         level-high = omega (arith, r .sized .level-high);
         qty-low = r .sized .quantity-low;

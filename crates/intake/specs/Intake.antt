@@ -51,6 +51,7 @@ orderWith o place =
       sum = 0;
       place = place;
       mpid = o .mpid;
+      minqty = o .minqty;
     }
 
 -- the answer, the table and the report area afterwards are those of s

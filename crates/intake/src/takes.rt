@@ -99,6 +99,7 @@ fn new_order(terms: Terms, place: u64) -> Order
         sum: 0,
         place,
         mpid: terms.mpid,
+        minqty: terms.minqty,
     }
 }
 

@@ -7,14 +7,14 @@ use native.Mathlib.Nat.{suc-add, zero-add}
 use native.Mathlib.Omega.{arith}
 use lib.ListN.{length}
 use lib.Dec.{ltb, eqb}
-use borrow.Author.Tests.{ltb-true, ltb-false, eqb-true, eqb-false, lt-ltb, eq-eqb}
+use borrow.Author.Tests.{ltb-true, ltb-false, eqb-true, eqb-false, lt-ltb, eq-eqb, ne-eqb}
 use Rattle.octets.proofs.Bools.{split, not-both, both-i, both-l, both-r, or-r}
 use Rattle.matching.specs.declared.Order.{Order}
 use Rattle.matching.specs.declared.Event.{Event}
 use Rattle.matching.specs.Held.{In}
 use Rattle.matching.specs.Matching.{Book, at, isBuy, isOpen, partner, ahead, better, faces, choose, best, happens, bookAfter, workAfter, run}
 use Rattle.matching.specs.Runs.{GoesOn}
-use Rattle.matching.proofs.Steps.{faces-opposite, best-none}
+use Rattle.matching.proofs.Steps.{faces-opposite, best-none, both-no}
 use Rattle.matching.proofs.Ends.{idle}
 
 -- ---- levels one ahead of another, on a side
@@ -118,20 +118,25 @@ partner-best b w r k e p i f =
     (λ u. u))
     (λ t. absurd (let q : 0 ≡ r = rw t at e in omega arith))
 
--- ---- a run of m and then of n steps is a run of m + n
-pub run-on : (modes : ℕ → ℕ) (m n : ℕ) (b : Book) (w : ℕ)
-    → let first = run modes m b w in
-    GoesOn first (run modes n (first .book) (first .work)) (run modes (m + n) b w)
+-- a number that is not the first
+no-first : (m : ℕ) → eqb (suc m) 0 ≡ false
+no-first m = ne-eqb (suc m) 0 (λ e. omega arith)
+
+-- ---- a run of m and then of n steps is a run of m + n; whether a minimum is missed is asked for by the first step there is
+pub run-on : (modes : ℕ → ℕ) (missed : Bool) (m n : ℕ) (b : Book) (w : ℕ)
+    → let first = run modes missed m b w in
+    GoesOn first (run modes (eqb m 0 && missed) n (first .book) (first .work)) (run modes missed (m + n) b w)
 unfolding run
-run-on modes zero n b w = simp zero-add (record { book = refl; work = refl; events = refl; steps = sym (zero-add _) })
-run-on modes (suc m) n b zero = simp (suc-add, idle) (record { book = refl; work = refl; events = refl; steps = refl })
-run-on modes (suc m) n b (suc k) =
-    let es = happens modes b (suc k) in
-    let g = run-on modes m n (bookAfter modes b (suc k)) (workAfter b (suc k)) in
-    simp suc-add
+run-on modes missed zero n b w = simp zero-add (record { book = refl; work = refl; events = refl; steps = sym (zero-add _) })
+run-on modes missed (suc m) n b zero = simp (suc-add, idle) (record { book = refl; work = refl; events = refl; steps = refl })
+run-on modes missed (suc m) n b (suc k) =
+    let es = happens modes missed b (suc k) in
+    let g = run-on modes false m n (bookAfter modes missed b (suc k)) (workAfter missed b (suc k)) in
+    let h = rw (both-no (eqb m 0)) at g in
+    simp (suc-add, no-first m)
     (record {
-      book = g .book;
-      work = g .work;
-      events = ap (λ (fs : List Event). es ++ fs) (g .events) ∙ sym (append-assoc es _ _);
-      steps = ap suc (g .steps) ∙ sym (suc-add _ _);
+      book = h .book;
+      work = h .work;
+      events = ap (λ (fs : List Event). es ++ fs) (h .events) ∙ sym (append-assoc es _ _);
+      steps = ap suc (h .steps) ∙ sym (suc-add _ _);
     })

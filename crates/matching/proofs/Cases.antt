@@ -1,4 +1,4 @@
--- The rehearsed cases 1 to 11 of document 01, with the mirror of the last, and two of replacements, each over any book that is the
+-- The rehearsed cases 1 to 11 of document 01, with the mirror of the last, two of replacements and eight of minimums, each over any book that is the
 -- one written down: of a table's book it is the same statement. Modes are those of the market's MPIDs; only that of the order in
 -- work is asked for.
 use mathlib.Core.Path.{_≡_, refl, ap, _∙_}
@@ -10,11 +10,11 @@ use Rattle.octets.specs.Characters.{bytes}
 use Rattle.decimal.specs.Writing.{decimal, places, plain, fixed, shareOf, meanOf}
 use Rattle.matching.specs.declared.Event.{Event}
 use Rattle.matching.specs.declared.Depth.the-variants.{Level, NoLevel}
-use Rattle.matching.specs.Matching.{Book, at, openOf, Ran, run, meets, better, faces, choose, best, sameOwner, prevention, meeting, ending, preventing, causes, placeAfter, change, after, play, partner, outcome, happens, workAfter, sumOver, countOf}
+use Rattle.matching.specs.Matching.{Book, at, openOf, Ran, run, meets, better, faces, choose, best, sameOwner, prevention, meeting, ending, preventing, causes, placeAfter, change, after, play, partner, outcome, happens, workAfter, minimumOf, wouldTrade, misses, sumOver, countOf}
 use Rattle.matching.specs.Accounts.{tally}
 use Rattle.matching.specs.Depth.{stands, behind, nearer, next, levelAt, onLevel, share, total, orders, depth}
-use Rattle.matching.specs.Rehearsed.{yield, bookA, events1, events2, events3, book4, events4, book5, events5, book6, events6, book7, events7, book8, book9, events9, book10, book11, mirror11, sell, buy, bookTurn, eventsReduced, eventsRaised, Shows, Line, Averages}
-use Rattle.matching.proofs.Modes.{same-modes, beyond}
+use Rattle.matching.specs.Rehearsed.{yield, bookA, events1, events2, events3, book4, events4, book5, events5, book6, events6, book7, events7, book8, book9, events9, book10, book11, mirror11, sell, buy, bookTurn, eventsReduced, eventsRaised, bookKill, eventsKill, eventsFill, bookLeast, eventsLeast2, eventsLeast3, Shows, Line, Averages}
+use Rattle.matching.proofs.Modes.{same-modes, same-misses, beyond}
 
 -- ---- what a run of n steps comes to where every MPID has mode m, by computing
 
@@ -22,19 +22,19 @@ abbrev always : ℕ → ℕ → ℕ
 always m mpid = m
 
 record Comes (m : ℕ) (b : Book) (w n : ℕ) (es : List Event) (os : List ℕ) : Type 0 where
-  events : run (always m) n b w .events ≡ es
-  left : map openOf (run (always m) n b w .book) ≡ os
-  steps : run (always m) n b w .steps ≡ n
-  ended : run (always m) n b w .work ≡ 0
+  events : run (always m) (misses (always m) 0 b w) n b w .events ≡ es
+  left : map openOf (run (always m) (misses (always m) 0 b w) n b w .book) ≡ os
+  steps : run (always m) (misses (always m) 0 b w) n b w .steps ≡ n
+  ended : run (always m) (misses (always m) 0 b w) n b w .work ≡ 0
 
 record Means (m : ℕ) (b : Book) (w n sum executed : ℕ) : Type 0 where
-  ended : run (always m) n b w .work ≡ 0
-  sum-is : at (run (always m) n b w .book) w .sum ≡ sum
-  executed-is : at (run (always m) n b w .book) w .executed ≡ executed
+  ended : run (always m) (misses (always m) 0 b w) n b w .work ≡ 0
+  sum-is : at (run (always m) (misses (always m) 0 b w) n b w .book) w .sum ≡ sum
+  executed-is : at (run (always m) (misses (always m) 0 b w) n b w .book) w .executed ≡ executed
 
 -- computing opens these
 computes : ℕ
-unfolding openOf run meets better faces choose best sameOwner prevention meeting ending preventing causes placeAfter change after play partner outcome happens workAfter
+unfolding openOf run meets better faces choose best sameOwner prevention meeting ending preventing causes placeAfter change after play partner outcome happens workAfter minimumOf wouldTrade misses
 computes = 0
 
 comes1 : Comes 1 bookA 5 4 events1 (0 ∷ 0 ∷ 200 ∷ 500 ∷ 0 ∷ [])
@@ -73,8 +73,41 @@ raised-is : bookTurn 300 ≡ turned 300 3
 unfolding computes
 raised-is = refl
 
+-- A with a MinQty: reached, and missed by one
+comes-least1 : Comes 1 (bookLeast 300) 5 4 events1 (0 ∷ 0 ∷ 200 ∷ 500 ∷ 0 ∷ [])
+unfolding computes
+comes-least1 = record { events = refl; left = refl; steps = refl; ended = refl }
+
+comes-least2 : Comes 2 (bookLeast 800) 5 5 eventsLeast2 (0 ∷ 0 ∷ 0 ∷ 0 ∷ 0 ∷ [])
+unfolding computes
+comes-least2 = record { events = refl; left = refl; steps = refl; ended = refl }
+
+comes-least3 : Comes 3 (bookLeast 800) 5 5 eventsLeast3 (0 ∷ 0 ∷ 0 ∷ 0 ∷ 0 ∷ [])
+unfolding computes
+comes-least3 = record { events = refl; left = refl; steps = refl; ended = refl }
+
+comes-missed1 : Comes 1 (bookLeast 301) 5 1 eventsKill (100 ∷ 200 ∷ 200 ∷ 500 ∷ 0 ∷ [])
+unfolding computes
+comes-missed1 = record { events = refl; left = refl; steps = refl; ended = refl }
+
+comes-missed2 : Comes 2 (bookLeast 801) 5 1 eventsKill (100 ∷ 200 ∷ 200 ∷ 500 ∷ 0 ∷ [])
+unfolding computes
+comes-missed2 = record { events = refl; left = refl; steps = refl; ended = refl }
+
+comes-missed3 : Comes 3 (bookLeast 801) 5 1 eventsKill (100 ∷ 200 ∷ 200 ∷ 500 ∷ 0 ∷ [])
+unfolding computes
+comes-missed3 = record { events = refl; left = refl; steps = refl; ended = refl }
+
 -- under any mode
 module _ (m : ℕ) where
+  comes-killed : Comes m (bookKill 1200) 5 1 eventsKill (100 ∷ 200 ∷ 200 ∷ 500 ∷ 0 ∷ [])
+  unfolding computes
+  comes-killed = record { events = refl; left = refl; steps = refl; ended = refl }
+
+  comes-filled : Comes m (bookKill 1000) 5 5 eventsFill (0 ∷ 0 ∷ 0 ∷ 0 ∷ 0 ∷ [])
+  unfolding computes
+  comes-filled = record { events = refl; left = refl; steps = refl; ended = refl }
+
   comes-reduced : Comes m (turned 150 1) 3 3 eventsReduced (0 ∷ 100 ∷ 0 ∷ [])
   unfolding computes
   comes-reduced = record { events = refl; left = refl; steps = refl; ended = refl }
@@ -133,10 +166,11 @@ no-level10 = refl
 
 -- ---- the same with any budget of n steps or more, under modes that have m for the MPID of w
 module _ (modes : ℕ → ℕ) (m : ℕ) (b : Book) (w n : ℕ) (in-book : w ≤ length b) (mode : modes (at b w .mpid) ≡ m) where
-  same : run (always m) n b w .work ≡ 0 → (k : ℕ) → run modes (n + k) b w ≡ run (always m) n b w
+  same : run (always m) (misses (always m) 0 b w) n b w .work ≡ 0
+      → (k : ℕ) → run modes (misses modes 0 b w) (n + k) b w ≡ run (always m) (misses (always m) 0 b w) n b w
   same z k =
-      let e = same-modes modes (always m) n b w in-book mode in
-      beyond modes n k b w (rw e z) ∙ e
+      let e = same-modes modes (always m) (misses (always m) 0 b w) n b w in-book mode in
+      rw (same-misses modes (always m) 0 b w in-book mode) (beyond modes (misses (always m) 0 b w) n k b w (rw e z) ∙ e)
 
   shown : {es : List Event} {os : List ℕ} → Comes m b w n es os → Shows modes b w es os n
   shown c =
@@ -211,6 +245,32 @@ module _ (modes : ℕ → ℕ) (b : Book) where
   -- an order whose quantity is raised trades behind it
   pub raised-behind : b ≡ bookTurn 300 → Shows modes b 3 eventsRaised (250 ∷ 0 ∷ 0 ∷ []) 3
   raised-behind e = rw (e ∙ raised-is) (shown modes (modes 13) (turned 300 3) 3 3 (omega arith) refl (comes-raised (modes 13)))
+
+  -- Fill or Kill by MPID 14: 1,200 are killed in one step and no other order is touched; 1,000 trade
+  pub kill-missed : b ≡ bookKill 1200 → Shows modes b 5 eventsKill (100 ∷ 200 ∷ 200 ∷ 500 ∷ 0 ∷ []) 1
+  kill-missed e = rw e (shown modes (modes 14) (bookKill 1200) 5 1 (omega arith) refl (comes-killed (modes 14)))
+
+  pub kill-filled : b ≡ bookKill 1000 → Shows modes b 5 eventsFill (0 ∷ 0 ∷ 0 ∷ 0 ∷ 0 ∷ []) 5
+  kill-filled e = rw e (shown modes (modes 14) (bookKill 1000) 5 5 (omega arith) refl (comes-filled (modes 14)))
+
+  -- A's 1,200 IOC with a MinQty, mode by mode: reached, and missed by one
+  pub least1 : modes 10 ≡ 1 → b ≡ bookLeast 300 → Shows modes b 5 events1 (0 ∷ 0 ∷ 200 ∷ 500 ∷ 0 ∷ []) 4
+  least1 m e = rw e (shown modes 1 (bookLeast 300) 5 4 (omega arith) m comes-least1)
+
+  pub missed1 : modes 10 ≡ 1 → b ≡ bookLeast 301 → Shows modes b 5 eventsKill (100 ∷ 200 ∷ 200 ∷ 500 ∷ 0 ∷ []) 1
+  missed1 m e = rw e (shown modes 1 (bookLeast 301) 5 1 (omega arith) m comes-missed1)
+
+  pub least2 : modes 10 ≡ 2 → b ≡ bookLeast 800 → Shows modes b 5 eventsLeast2 (0 ∷ 0 ∷ 0 ∷ 0 ∷ 0 ∷ []) 5
+  least2 m e = rw e (shown modes 2 (bookLeast 800) 5 5 (omega arith) m comes-least2)
+
+  pub missed2 : modes 10 ≡ 2 → b ≡ bookLeast 801 → Shows modes b 5 eventsKill (100 ∷ 200 ∷ 200 ∷ 500 ∷ 0 ∷ []) 1
+  missed2 m e = rw e (shown modes 2 (bookLeast 801) 5 1 (omega arith) m comes-missed2)
+
+  pub least3 : modes 10 ≡ 3 → b ≡ bookLeast 800 → Shows modes b 5 eventsLeast3 (0 ∷ 0 ∷ 0 ∷ 0 ∷ 0 ∷ []) 5
+  least3 m e = rw e (shown modes 3 (bookLeast 800) 5 5 (omega arith) m comes-least3)
+
+  pub missed3 : modes 10 ≡ 3 → b ≡ bookLeast 801 → Shows modes b 5 eventsKill (100 ∷ 200 ∷ 200 ∷ 500 ∷ 0 ∷ []) 1
+  missed3 m e = rw e (shown modes 3 (bookLeast 801) 5 1 (omega arith) m comes-missed3)
 
 -- 10: one level, with 4,999,999,995 and 5 orders
 pub case10 : (b : Book) → b ≡ book10 → (depth b 2 0 ≡ Level (yield 100) 4_999_999_995 5) × (depth b 2 1 ≡ NoLevel)

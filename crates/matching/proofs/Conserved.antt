@@ -1,7 +1,7 @@
 -- Each order's accounts: over events that can happen, the quantity accepted is what the events execute, decrement and cancel
 -- and what is open.
 use mathlib.Core.Path.{_≡_, refl, sym, ap, _∙_}
-use mathlib.Core.Bool.{true}
+use mathlib.Core.Bool.{Bool, true, false}
 use mathlib.Core.List.{List, [], _∷_, _++_}
 use mathlib.Core.Logic.{_⊎_, inl, inr}
 use Prim.Native.Nat.{ℕ, zero, suc, _+_, _≤_, _<_}
@@ -12,7 +12,7 @@ use borrow.Author.Tests.{eqb-true, eqb-false}
 use Rattle.octets.proofs.Bools.{split, not-both}
 use Rattle.matching.specs.declared.Order.{Order}
 use Rattle.matching.specs.declared.Event.{Event}
-use Rattle.matching.specs.declared.Event.the-variants.{Accepted, Replaced, Withdrawn, Canceled, Decremented, Traded, Expired}
+use Rattle.matching.specs.declared.Event.the-variants.{Accepted, Replaced, Withdrawn, Canceled, Decremented, Traded, Killed, Expired}
 use Rattle.matching.specs.Matching.{Book, none, at, openOf, who, change, after, play, run}
 use Rattle.matching.specs.Held.{Covered}
 use Rattle.matching.specs.Accounts.{tally, trades, decrements, cancels, inForce, accepted}
@@ -37,6 +37,7 @@ in-force (Withdrawn n x) q m = refl
 in-force (Canceled n x) q m = refl
 in-force (Decremented n x) q m = refl
 in-force (Traded n k x l) q m = refl
+in-force (Killed n x) q m = refl
 in-force (Expired n x) q m = refl
 
 fit-booked : (b : Book) (e : Event) → Fit b e → Booked e (at b (who e)) (change e (at b (who e)))
@@ -75,6 +76,7 @@ asked-booked b (Withdrawn n q) a = absurd a
 asked-booked b (Canceled n q) a = absurd a
 asked-booked b (Decremented n q) a = absurd a
 asked-booked b (Traded n m q l) a = absurd a
+asked-booked b (Killed n q) a = absurd a
 asked-booked b (Expired n q) a = absurd a
 
 -- the number of an event that can happen is at most one past the last
@@ -86,6 +88,7 @@ happen-low b (Withdrawn n q) (inr a) = absurd a
 happen-low b (Canceled n q) (inr a) = absurd a
 happen-low b (Decremented n q) (inr a) = absurd a
 happen-low b (Traded n m q l) (inr a) = absurd a
+happen-low b (Killed n q) (inr a) = absurd a
 happen-low b (Expired n q) (inr a) = absurd a
 
 pub happen-high : (b : Book) (e : Event) → Fit b e ⊎ Asked b e → who e ≤ suc (length b)
@@ -96,6 +99,7 @@ happen-high b (Withdrawn n q) (inr a) = absurd a
 happen-high b (Canceled n q) (inr a) = absurd a
 happen-high b (Decremented n q) (inr a) = absurd a
 happen-high b (Traded n m q l) (inr a) = absurd a
+happen-high b (Killed n q) (inr a) = absurd a
 happen-high b (Expired n q) (inr a) = absurd a
 
 booked : (b : Book) (e : Event) → Fit b e ⊎ Asked b e → Booked e (at b (who e)) (change e (at b (who e)))
@@ -152,5 +156,5 @@ follow-append [] fs b p q = q
 follow-append (e ∷ es) fs b p q = (p .0, follow-append es fs (after b e) (p .1) q)
 
 -- a run of steps
-pub run-follows : (modes : ℕ → ℕ) (n : ℕ) (b : Book) (w : ℕ) → w ≤ length b → Follow b (run modes n b w .events)
-run-follows modes n b w h = fits-follow (run modes n b w .events) b (run-fits modes n b w h)
+pub run-follows : (modes : ℕ → ℕ) (missed : Bool) (n : ℕ) (b : Book) (w : ℕ) → w ≤ length b → Follow b (run modes missed n b w .events)
+run-follows modes missed n b w h = fits-follow (run modes missed n b w .events) b (run-fits modes missed n b w h)

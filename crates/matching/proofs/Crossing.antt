@@ -1,21 +1,24 @@
 -- The book stays uncrossed: apart from the order in work at each step, and wholly once the work has ended.
-use mathlib.Core.Path.{_≡_, sym, ap, _∙_}
+use mathlib.Core.Path.{_≡_, refl, sym, ap, _∙_}
 use mathlib.Core.Bool.{true, false}
-use mathlib.Core.List.{List}
+use mathlib.Core.List.{List, [], _∷_}
+use mathlib.Core.Logic.{_≢_}
 use Prim.Native.Nat.{ℕ, _<_}
 use native.Mathlib.Omega.{arith}
 use lib.ListN.{length}
 use lib.Dec.{eqb}
-use borrow.Author.Tests.{leb-false, eqb-true, eqb-false, lt-ltb}
+use borrow.Author.Tests.{leb-false, eqb-true, eqb-false, eq-eqb, lt-ltb}
 use Rattle.octets.proofs.Bools.{split}
 use Rattle.matching.specs.declared.Order.{Order}
 use Rattle.matching.specs.declared.Event.{Event}
+use Rattle.matching.specs.declared.Event.the-variants.{Killed}
 use Rattle.matching.specs.Matching.{Book, at, openOf, isBuy, meets, faces, partner, play}
 use Rattle.matching.specs.Held.{Uncrossed}
+use Rattle.matching.specs.Accounts.{tally}
 use Rattle.matching.specs.Happens.{Fits}
 use Rattle.matching.proofs.Books.{open-low, open-high}
 use Rattle.matching.proofs.Events.{Terms, play-terms, play-open}
-use Rattle.matching.proofs.Steps.{best-none, Stepped, rests, expires, matched}
+use Rattle.matching.proofs.Steps.{best-none, Stepped, rests, kills, expires, matched}
 
 -- events that fit only close orders
 pub play-uncrossed : (b : Book) (es : List Event) (w : ℕ) → Fits b es → Uncrossed b w → Uncrossed (play b es) w
@@ -53,7 +56,17 @@ ended-uncrossed b w e x i j hi hj bi bj oi oj =
     (λ u. let q = eqb-true j w u in rw q (above (at b w) (at b i) (none-faces b w i e (rw q at oj) oi) (rw q at bj) bi oi))
     (λ u. x i j (eqb-false i w t) (eqb-false j w u) bi bj oi oj))
 
+-- one that is killed is open no more
+killed-uncrossed : (b : Book) (w : ℕ) → (p : Fits b (Killed w (openOf (at b w)) ∷ [])) → Uncrossed b w → Uncrossed (play b (Killed w (openOf (at b w)) ∷ [])) 0
+unfolding tally
+killed-uncrossed b w p x i j hi hj bi bj oi oj =
+    let es = Killed w (openOf (at b w)) ∷ [] in
+    let shut : openOf (at (play b es) w) ≡ 0 = omega (arith, rw (eq-eqb w w refl) at (play-open w es b p)) in
+    let other : (k : ℕ) → 0 < openOf (at (play b es) k) → k ≢ w = λ k o e. omega (arith, shut, rw e at o) in
+    play-uncrossed b es w p x i j (other i oi) (other j oj) bi bj oi oj
+
 pub step-uncrossed : (b : Book) (w v : ℕ) {es : List Event} → Fits b es → Uncrossed b w → Stepped b w es v → Uncrossed (play b es) v
 step-uncrossed b w v p x (rests z t) = play-uncrossed b _ 0 p (ended-uncrossed b w z x)
-step-uncrossed b w v p x (expires z t h) = play-uncrossed b _ 0 p (ended-uncrossed b w z x)
+step-uncrossed b w v p x (kills h) = killed-uncrossed b w p x
+step-uncrossed b w v p x (expires z h) = play-uncrossed b _ 0 p (ended-uncrossed b w z x)
 step-uncrossed b w v p x (matched y m) = play-uncrossed b _ w p x

@@ -1,7 +1,7 @@
 -- A message comes to its end: each match closes one of the two orders, so there are at most m + 1 steps, and at most two
 -- reports for each open opposite order and one more.
 use mathlib.Core.Path.{_≡_, refl, sym, ap}
-use mathlib.Core.Bool.{true, false, cond}
+use mathlib.Core.Bool.{Bool, true, false, cond}
 use mathlib.Core.List.{List, []}
 use mathlib.Core.Logic.{_≢_}
 use Prim.Native.Nat.{ℕ, zero, suc, _+_, _-_, _*_, _≤_, _<_, min}
@@ -13,7 +13,7 @@ use Rattle.octets.proofs.Bools.{split, not-both, both-i, both-l, both-r}
 use Rattle.matching.specs.declared.Event.{Event}
 use Rattle.matching.specs.declared.Prevention.the-variants.{CancelNewest, CancelOldest, Decrement}
 use Rattle.matching.specs.declared.Outcome.{Outcome}
-use Rattle.matching.specs.declared.Outcome.the-variants.{Trade, Prevented, Expires, Rests}
+use Rattle.matching.specs.declared.Outcome.the-variants.{Trade, Prevented, Kills, Expires, Rests}
 use Rattle.matching.specs.Matching.{causes, preventing, reports, Book, at, openOf, isOpen, isBuy, meets, faces, opposed, countOf, metBy, opposedTo, mostReports, play, happens, bookAfter, workAfter, run}
 use Rattle.matching.specs.Held.{In, amount}
 use Rattle.matching.specs.Accounts.{tally}
@@ -21,7 +21,7 @@ use Rattle.matching.specs.Runs.{Ended}
 use Rattle.matching.specs.Happens.{Fits}
 use Rattle.matching.proofs.Books.{count-lt}
 use Rattle.matching.proofs.Events.{Terms, play-terms, play-open, length-play}
-use Rattle.matching.proofs.Steps.{Pair, Meeting, trade, newest, oldest, equal, less, more, Stepped, rests, expires, matched, step-is, happens-fits, first-in, next-in}
+use Rattle.matching.proofs.Steps.{Pair, Meeting, trade, newest, oldest, equal, less, more, Stepped, rests, kills, expires, matched, step-is, happens-fits, first-in, next-in}
 
 -- ---- one of the two is closed
 pub closes : (b : Book) (w r : ℕ) {es : List Event} → r ≢ w → Meeting b w r es
@@ -114,25 +114,26 @@ unfolding left
 left-most b w = split (isOpen (at b w)) (λ t. rw t (omega arith)) (λ t. rw t (omega arith))
 
 -- with nothing in work nothing is run
-pub idle : (modes : ℕ → ℕ) (n : ℕ) (b : Book) → run modes n b 0 ≡ record { book = b; work = 0; events = []; steps = 0 }
+pub idle : (modes : ℕ → ℕ) (missed : Bool) (n : ℕ) (b : Book) → run modes missed n b 0 ≡ record { book = b; work = 0; events = []; steps = 0 }
 unfolding run
-idle modes zero b = refl
-idle modes (suc n) b = refl
+idle modes missed zero b = refl
+idle modes missed (suc n) b = refl
 
 -- the work ends within m + 1 steps
-pub run-ends : (modes : ℕ → ℕ) (n : ℕ) (b : Book) (w : ℕ) → w ≤ length b → left b w < n → Ended modes n b w (left b w)
+pub run-ends : (modes : ℕ → ℕ) (missed : Bool) (n : ℕ) (b : Book) (w : ℕ) → w ≤ length b → left b w < n → Ended modes missed n b w (left b w)
 unfolding run
-run-ends modes zero b w h l = absurd (omega arith)
-run-ends modes (suc n) b zero h l = record { ended = refl; within = omega arith }
-run-ends modes (suc n) b (suc k) h l =
-    let g = go _ _ (happens-fits modes b (suc k) (first-in b k h)) (next-in modes b k h) (step-is modes b (suc k)) (run-ends modes n) in
+run-ends modes missed zero b w h l = absurd (omega arith)
+run-ends modes missed (suc n) b zero h l = record { ended = refl; within = omega arith }
+run-ends modes missed (suc n) b (suc k) h l =
+    let g = go _ _ (happens-fits modes missed b (suc k) (first-in b k h)) (next-in modes missed b k h) (step-is modes missed b (suc k)) (run-ends modes false n) in
     record { ended = g .0; within = g .1 }
   where
     go : (es : List Event) (v : ℕ) → Fits b es → v ≤ length (play b es) → Stepped b (suc k) es v
-        → ((c : Book) (v : ℕ) → v ≤ length c → left c v < n → Ended modes n c v (left c v))
-        → (run modes n (play b es) v .work ≡ 0) × (suc (run modes n (play b es) v .steps) ≤ left b (suc k) + 1)
+        → ((c : Book) (v : ℕ) → v ≤ length c → left c v < n → Ended modes false n c v (left c v))
+        → (run modes false n (play b es) v .work ≡ 0) × (suc (run modes false n (play b es) v .steps) ≤ left b (suc k) + 1)
     go es v f i (rests z t) ih = simp idle (refl, omega arith)
-    go es v f i (expires z t x) ih = simp idle (refl, omega arith)
+    go es v f i (kills x) ih = simp idle (refl, omega arith)
+    go es v f i (expires z x) ih = simp idle (refl, omega arith)
     go es v f i (matched {r = r} p m) ih =
         let d = match-less b (suc k) r f p m in
         let g = ih (play b es) (suc k) i (omega arith) in
@@ -150,7 +151,8 @@ meeting-two (more h) = omega arith
 
 pub step-two : (b : Book) (w v : ℕ) {es : List Event} → Stepped b w es v → length es ≤ 2
 step-two b w v (rests z t) = omega arith
-step-two b w v (expires z t h) = omega arith
+step-two b w v (kills h) = omega arith
+step-two b w v (expires z h) = omega arith
 step-two b w v (matched p m) = meeting-two m
 
 -- as many as the outcome says
@@ -161,6 +163,7 @@ causes-length w r (Prevented (CancelNewest q)) = refl
 causes-length w r (Prevented (CancelOldest q)) = refl
 causes-length w r (Prevented (Decrement x y)) =
     split (eqb x y) (λ t. rw t) (λ t. rw t (split (ltb x y) (λ u. rw u) (λ u. rw u)))
+causes-length w r (Kills q) = refl
 causes-length w r (Expires q) = refl
 causes-length w r Rests = refl
 
@@ -184,7 +187,8 @@ most-reports b w = split (isOpen (at b w)) (λ t. rw t (omega arith)) (λ t. rw 
 
 pub step-reports : (b : Book) (w v : ℕ) {es : List Event} → Fits b es → Stepped b w es v → length es + mostReports (play b es) v ≤ mostReports b w
 step-reports b w v f (rests z t) = rw (none-most (play b [])) (omega arith)
-step-reports b w v {es} f (expires z t h) = omega (arith, none-most (play b es), some-most b w h)
+step-reports b w v {es} f (kills h) = omega (arith, none-most (play b es), some-most b w h)
+step-reports b w v {es} f (expires z h) = omega (arith, none-most (play b es), some-most b w h)
 step-reports b w v {es} f (matched {r = r} p m) =
     split (isOpen (at (play b es) w))
     (λ u.
@@ -193,30 +197,30 @@ step-reports b w v {es} f (matched {r = r} p m) =
     (λ u. omega (arith, meeting-two m, some-most b w (p .w-open), shut-most (play b es) w u, opposed-pos b w r p))
 
 -- the rule on numbers, kept by a step: the next number, raised by the reports, and those still to come
-pub rule-kept : (modes : ℕ → ℕ) (next most : ℕ) (b : Book) (w : ℕ) → In b w → next ≤ most → (0 < openOf (at b w) → next + 2 * opposedTo b w + 1 ≤ most)
-    → let c = bookAfter modes b w in
-    let later = next + length (happens modes b w) in
-    (later ≤ most) × (0 < openOf (at c (workAfter b w)) → later + 2 * opposedTo c (workAfter b w) + 1 ≤ most)
-rule-kept modes next most b w i h r =
-    let t = step-reports b w (workAfter b w) (happens-fits modes b w i) (step-is modes b w) in
+pub rule-kept : (modes : ℕ → ℕ) (missed : Bool) (next most : ℕ) (b : Book) (w : ℕ) → In b w → next ≤ most → (0 < openOf (at b w) → next + 2 * opposedTo b w + 1 ≤ most)
+    → let c = bookAfter modes missed b w in
+    let later = next + length (happens modes missed b w) in
+    (later ≤ most) × (0 < openOf (at c (workAfter missed b w)) → later + 2 * opposedTo c (workAfter missed b w) + 1 ≤ most)
+rule-kept modes missed next most b w i h r =
+    let t = step-reports b w (workAfter missed b w) (happens-fits modes missed b w i) (step-is modes missed b w) in
     let before : next + mostReports b w ≤ most =
     split (isOpen (at b w))
     (λ u. let o = ltb-true 0 (openOf (at b w)) u in omega (arith, some-most b w o, r o))
     (λ u. omega (arith, shut-most b w u)) in
-    (omega arith, λ o. omega (arith, some-most (bookAfter modes b w) (workAfter b w) o))
+    (omega arith, λ o. omega (arith, some-most (bookAfter modes missed b w) (workAfter missed b w) o))
 
 -- all reports of a run, and those still to come
-pub run-reports : (modes : ℕ → ℕ) (n : ℕ) (b : Book) (w : ℕ) → w ≤ length b
-    → length (run modes n b w .events) + mostReports (run modes n b w .book) (run modes n b w .work) ≤ mostReports b w
+pub run-reports : (modes : ℕ → ℕ) (missed : Bool) (n : ℕ) (b : Book) (w : ℕ) → w ≤ length b
+    → length (run modes missed n b w .events) + mostReports (run modes missed n b w .book) (run modes missed n b w .work) ≤ mostReports b w
 unfolding run
-run-reports modes zero b w h = omega arith
-run-reports modes (suc n) b zero h = omega arith
-run-reports modes (suc n) b (suc k) h =
-    let es = happens modes b (suc k) in
-    let fs = run modes n (play b es) (workAfter b (suc k)) .events in
+run-reports modes missed zero b w h = omega arith
+run-reports modes missed (suc n) b zero h = omega arith
+run-reports modes missed (suc n) b (suc k) h =
+    let es = happens modes missed b (suc k) in
+    let fs = run modes false n (play b es) (workAfter missed b (suc k)) .events in
     omega (
       arith,
       length-append es fs,
-      step-reports b (suc k) _ (happens-fits modes b (suc k) (first-in b k h)) (step-is modes b (suc k)),
-      run-reports modes n (play b es) (workAfter b (suc k)) (next-in modes b k h),
+      step-reports b (suc k) _ (happens-fits modes missed b (suc k) (first-in b k h)) (step-is modes missed b (suc k)),
+      run-reports modes false n (play b es) (workAfter missed b (suc k)) (next-in modes missed b k h),
     )

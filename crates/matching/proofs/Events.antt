@@ -1,6 +1,6 @@
 -- Events of the book: what an event changes and what it leaves, one event and then any list of them.
 use mathlib.Core.Path.{_≡_, refl, ap, _∙_}
-use mathlib.Core.Bool.{true}
+use mathlib.Core.Bool.{true, cond}
 use mathlib.Core.List.{List, [], _∷_, _++_}
 use mathlib.Core.Logic.{_≢_}
 use Prim.Native.Nat.{ℕ, suc, _+_, _-_, _*_, _≤_, _<_}
@@ -12,8 +12,8 @@ use borrow.Author.Tests.{eqb-true, eqb-false}
 use Rattle.octets.proofs.Bools.{split, not-both}
 use Rattle.matching.specs.declared.Order.{Order}
 use Rattle.matching.specs.declared.Event.{Event}
-use Rattle.matching.specs.declared.Event.the-variants.{Accepted, Replaced, Withdrawn, Canceled, Decremented, Traded, Expired}
-use Rattle.matching.specs.Matching.{Book, at, openOf, who, amounts, change, after, play}
+use Rattle.matching.specs.declared.Event.the-variants.{Accepted, Replaced, Withdrawn, Canceled, Decremented, Traded, Killed, Expired}
+use Rattle.matching.specs.Matching.{Book, at, openOf, minimumOf, who, amounts, change, after, play}
 use Rattle.matching.specs.Held.{Covered, amount, levelOf}
 use Rattle.matching.specs.Accounts.{tally, trades, decrements, cancels}
 use Rattle.matching.specs.Happens.{moves, Fit, Fits}
@@ -31,6 +31,7 @@ change-is (Withdrawn n q) o m = simp (zero-mul, add-zero)
 change-is (Canceled n q) o m = simp (zero-mul, add-zero)
 change-is (Decremented n q) o m = simp (zero-mul, add-zero)
 change-is (Traded n x q l) o m = simp add-zero
+change-is (Killed n q) o m = simp (zero-mul, add-zero)
 change-is (Expired n q) o m = simp (zero-mul, add-zero)
 
 -- what an event takes is what it executes, decrements and cancels
@@ -41,6 +42,7 @@ amount-is (Withdrawn n q) = omega arith
 amount-is (Canceled n q) = omega arith
 amount-is (Decremented n q) = omega arith
 amount-is (Traded n x q l) = omega arith
+amount-is (Killed n q) = omega arith
 amount-is (Expired n q) = omega arith
 
 -- the terms of an order, which no moving event changes
@@ -51,9 +53,10 @@ pub record Terms : Type 0 where
   pub qty : ℕ
   pub place : ℕ
   pub mpid : ℕ
+  pub minqty : ℕ
 
 abbrev pub termsOf : Order → Terms
-termsOf o = record { side = o .side; tif = o .tif; level = o .level; qty = o .qty; place = o .place; mpid = o .mpid }
+termsOf o = record { side = o .side; tif = o .tif; level = o .level; qty = o .qty; place = o .place; mpid = o .mpid; minqty = o .minqty }
 
 module _ (e : Event) (o : Order) (m : moves e ≡ true) where
   pub change-terms : termsOf (change e o) ≡ termsOf o
@@ -157,6 +160,11 @@ play-terms k [] b f = refl
 play-terms k (e ∷ es) b f =
     play-terms k es (after b e) (f .1)
     ∙ after-every b e (f .0) (λ o. termsOf o ≡ termsOf (at b k)) k refl (λ h. change-terms e _ (f .0 .moving) ∙ h)
+
+-- and so the minimum
+pub play-minimum : (k : ℕ) (es : List Event) (b : Book) → Fits b es → minimumOf (at (play b es) k) ≡ minimumOf (at b k)
+unfolding minimumOf
+play-minimum k es b f = ap (λ (t : Terms). cond (eqb (t .tif) 4) (t .qty) (t .minqty)) (play-terms k es b f)
 
 -- what is open falls by what the events take
 pub play-open : (k : ℕ) (es : List Event) (b : Book) → Fits b es → openOf (at (play b es) k) ≡ openOf (at b k) - tally amount k es

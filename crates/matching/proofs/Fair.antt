@@ -15,7 +15,7 @@ use Rattle.matching.specs.declared.Event.the-variants.{Traded}
 use Rattle.matching.specs.Matching.{Book, at, isBuy, opposite, sameOwner, who, play, happens, workAfter, run}
 use Rattle.matching.specs.Accounts.{trades, bought, sold, SelfTradeFree, selfTradeFree, apart, quiet}
 use Rattle.matching.proofs.Events.{Terms, termsOf, play-terms}
-use Rattle.matching.proofs.Steps.{trade, newest, oldest, equal, less, more, Stepped, rests, expires, matched, step-is, not-opposite, happens-fits, first-in, next-in}
+use Rattle.matching.proofs.Steps.{trade, newest, oldest, equal, less, more, Stepped, rests, kills, expires, matched, step-is, not-opposite, happens-fits, first-in, next-in}
 
 -- by the sides and owners in b
 pub data Fair (b : Book) : List Event → Type 0 where
@@ -31,7 +31,8 @@ fair-append (pair o s x) y = pair o s (fair-append x y)
 
 pub step-fair : (b : Book) (w v : ℕ) {es : List Event} → Stepped b w es v → Fair b es
 step-fair b w v (rests z t) = nothing
-step-fair b w v (expires z t h) = other refl nothing
+step-fair b w v (kills h) = other refl nothing
+step-fair b w v (expires z h) = other refl nothing
 step-fair b w v (matched p (trade o)) = pair (p .opposed) o nothing
 step-fair b w v (matched p newest) = other refl nothing
 step-fair b w v (matched p oldest) = other refl nothing
@@ -49,15 +50,15 @@ fair-alike b c h (pair {r = r} {w = w} o s x) =
     let v = h r in
     pair {r = r} {w = w} (cc (o, ap (λ (t : Terms). t .side) u, ap (λ (t : Terms). t .side) v)) (cc (s, ap (λ (t : Terms). t .mpid) u, ap (λ (t : Terms). t .mpid) v)) (fair-alike b c h x)
 
-pub run-fair : (modes : ℕ → ℕ) (n : ℕ) (b : Book) (w : ℕ) → w ≤ length b → Fair b (run modes n b w .events)
+pub run-fair : (modes : ℕ → ℕ) (missed : Bool) (n : ℕ) (b : Book) (w : ℕ) → w ≤ length b → Fair b (run modes missed n b w .events)
 unfolding run
-run-fair modes zero b w h = nothing
-run-fair modes (suc n) b zero h = nothing
-run-fair modes (suc n) b (suc k) h =
-    let es = happens modes b (suc k) in
-    fair-append (step-fair b (suc k) _ (step-is modes b (suc k)))
-    (fair-alike b (play b es) (λ j. play-terms j es b (happens-fits modes b (suc k) (first-in b k h)))
-    (run-fair modes n (play b es) (workAfter b (suc k)) (next-in modes b k h)))
+run-fair modes missed zero b w h = nothing
+run-fair modes missed (suc n) b zero h = nothing
+run-fair modes missed (suc n) b (suc k) h =
+    let es = happens modes missed b (suc k) in
+    fair-append (step-fair b (suc k) _ (step-is modes missed b (suc k)))
+    (fair-alike b (play b es) (λ j. play-terms j es b (happens-fits modes missed b (suc k) (first-in b k h)))
+    (run-fair modes false n (play b es) (workAfter missed b (suc k)) (next-in modes missed b k h)))
 
 -- ---- bought is sold
 both-sides : (x y : Bool) (q m n : ℕ) → cond x (not y) y ≡ true → m ≡ n → cond y q 0 + (cond x q 0 + m) ≡ cond y 0 q + (cond x 0 q + n)

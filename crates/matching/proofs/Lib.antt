@@ -3,7 +3,8 @@
 -- ways that a step can go; Conserved: what becomes of each quantity; Fair: bought is sold, and nobody trades with himself;
 -- Crossing: the book stays uncrossed; Ends: the work ends; Sounds: orders stay in range; Holding: a step keeps what a market
 -- asks; Requests: and so does what Submit does; Best: nothing is better than the best; Levels: the levels of a side; Modes: one
--- mode is asked for; Cases: the rehearsed cases; Theorems: what people read.
+-- mode is asked for; Minimum: what an order would trade, and what a match does to it; Turns, Offers, Looking: that this is found by
+-- looking at the book; Deciding: what comes of the decision on a minimum; Cases: the rehearsed cases; Theorems: what people read.
 pub mod Values
 pub mod Books
 pub mod Events
@@ -19,5 +20,10 @@ pub mod Requests
 pub mod Best
 pub mod Levels
 pub mod Modes
+pub mod Minimum
+pub mod Turns
+pub mod Offers
+pub mod Looking
+pub mod Deciding
 pub mod Cases
 pub mod Theorems

@@ -1,7 +1,7 @@
 -- What Submit does to the book keeps what a market asks of it: an acceptance and a replacement put their order in work, a
 -- withdrawal and a report about no order leave nothing in work, and an opened market has an empty book.
 use mathlib.Core.Path.{_≡_, refl, sym, ap, _∙_}
-use mathlib.Core.Bool.{Bool, true, _||_}
+use mathlib.Core.Bool.{Bool, true, false, _||_}
 use mathlib.Core.List.{[], _∷_}
 use mathlib.Core.Logic.{_≢_}
 use Prim.Native.Nat.{ℕ, zero, suc, _+_, _≤_, _<_}
@@ -12,8 +12,8 @@ use borrow.Author.Tests.{ltb-true, ltb-false, eqb-true, eqb-false}
 use Rattle.octets.proofs.Bools.{split}
 use Rattle.matching.specs.declared.Order.{Order}
 use Rattle.matching.specs.declared.Event.the-variants.{Accepted, Replaced, Withdrawn}
-use Rattle.matching.specs.Matching.{Book, at, openOf, opposedTo, placeAfter, change, after, play}
-use Rattle.matching.specs.Held.{Sound, In, Uncrossed, Held, Enters, Renews}
+use Rattle.matching.specs.Matching.{Book, at, openOf, isImmediate, opposedTo, placeAfter, change, after, play}
+use Rattle.matching.specs.Held.{mayMinimum, Sound, In, Uncrossed, Held, Enters, Renews}
 use Rattle.matching.specs.Happens.{Fit, Fits, Fresh, Renewed}
 use Rattle.matching.proofs.Books.{length-put, length-put-new, count-most, open-low, at-nothing}
 use Rattle.matching.proofs.Events.{after-here, after-there, play-open}
@@ -99,7 +99,7 @@ module _ (listed : ℕ → Bool) (next : ℕ) (b c : Book) (n : ℕ) (o : Order)
   unfolding opposedTo
   opposed-few = count-most _ c (length c)
 
-  closed : (k : ℕ) → at b k .tif ≡ 3 → openOf (at b k) ≡ 0
+  closed : (k : ℕ) → isImmediate (at b k) ≡ true → openOf (at b k) ≡ 0
   unfolding openOf
   closed zero e = refl
   closed (suc k) e = h .no-ioc (suc k) (λ q. omega arith) e
@@ -150,6 +150,10 @@ module _ (listed : ℕ → Bool) (next : ℕ) (b : Book) (n : ℕ) (o : Order) (
         unsummed = a .unsummed;
       }
 
+or-no : (x y : Bool) → (x || y) ≡ false → x ≡ false
+or-no true y e = e
+or-no false y e = refl
+
 -- ---- a replacement
 module _ (listed : ℕ → Bool) (next : ℕ) (b : Book) (n l q p : ℕ) (h : Held listed next b 0) (a : Renews next b n l q p) where
   s : Sound (at b n)
@@ -164,12 +168,24 @@ module _ (listed : ℕ → Bool) (next : ℕ) (b : Book) (n l q p : ℕ) (h : He
   pub renews-renewed : Renewed b n q
   renews-renewed = record { inside = a .inside; live = a .live; uncanceled = uncanceled; above = a .above }
 
+  -- an order with something open that is not in work is a Day order, and has no MinQty
+  resting-day : isImmediate (at b n) ≡ false
+  resting-day =
+      split (isImmediate (at b n))
+      (λ t. absurd (omega (arith, a .live, h .no-ioc n (λ e. omega (arith, a .inside .low)) t)))
+      (λ t. t)
+
+  replaced-minimum : mayMinimum (change (Replaced n l q p) (at b n)) ≡ true
+  unfolding change mayMinimum
+  replaced-minimum = let d = or-no (eqb (at b n .tif) 3) _ resting-day in rw d (rw d at (s .minimum))
+
   replaced-sound : Sound (change (Replaced n l q p) (at b n))
   unfolding change openOf
   replaced-sound =
       record {
         sides = s .sides;
         tifs = s .tifs;
+        minimum = replaced-minimum;
         level-low = a .level-low;
         level-high = a .level-high;
         qty-low = omega (arith, a .above);

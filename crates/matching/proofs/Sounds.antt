@@ -1,23 +1,23 @@
 -- An order stays in its ranges: through any event that fits and trades at a level in range, and through any list of them.
 use mathlib.Core.Path.{_≡_, refl, ap}
-use mathlib.Core.Bool.{true}
+use mathlib.Core.Bool.{Bool, true, false}
 use mathlib.Core.List.{List, [], _∷_}
 use Prim.Native.Nat.{ℕ, _*_, _≤_, _<_}
 use native.Mathlib.Nat.{mul-le-mul-left}
 use native.Mathlib.Omega.{arith}
 use lib.ListN.{length}
-use lib.Dec.{ltb}
-use borrow.Author.Tests.{ltb-true, ltb-false}
+use lib.Dec.{ltb, eqb}
+use borrow.Author.Tests.{ltb-true, ltb-false, leb-true, eqb-true}
 use Rattle.octets.proofs.Bools.{split}
 use Rattle.matching.specs.declared.Order.{Order}
 use Rattle.matching.specs.declared.Event.{Event}
 use Rattle.matching.specs.declared.Event.the-variants.{Traded}
 use Rattle.matching.specs.Matching.{Book, at, openOf, who, change, after, play, happens, run}
-use Rattle.matching.specs.Held.{Sound, In, amount, levelOf, Readies}
+use Rattle.matching.specs.Held.{mayMinimum, Sound, In, amount, levelOf, Readies}
 use Rattle.matching.specs.Accounts.{trades, cancels}
 use Rattle.matching.specs.Happens.{moves, Fits}
 use Rattle.matching.proofs.Events.{Terms, amount-is, change-terms, change-executed, change-canceled, change-sum, change-open, change-covered, after-every, length-after, length-play}
-use Rattle.matching.proofs.Steps.{Meeting, trade, newest, oldest, equal, less, more, Stepped, rests, expires, matched, step-is, happens-fits, run-keeps}
+use Rattle.matching.proofs.Steps.{Meeting, trade, newest, oldest, equal, less, more, Stepped, rests, kills, expires, matched, step-is, happens-fits, run-keeps}
 
 -- what an event trades is worth between 1 and 1,999,999,999 each, and its level is at most that
 pub record Worth (e : Event) : Type 0 where
@@ -48,8 +48,17 @@ meeting-worth b w r s (more h) = (quiet _ refl refl, (quiet _ refl refl, tt))
 
 pub step-worth : (b : Book) (w v : ℕ) {es : List Event} → ((k : ℕ) → In b k → Sound (at b k)) → Stepped b w es v → Worths es
 step-worth b w v s (rests z t) = tt
-step-worth b w v s (expires z t h) = (quiet _ refl refl, tt)
+step-worth b w v s (kills h) = (quiet _ refl refl, tt)
+step-worth b w v s (expires z h) = (quiet _ refl refl, tt)
 step-worth b w v s (matched {r = r} p m) = meeting-worth b w r (s r (p .inside)) m
+
+-- MinQty and the minimum are at most OrderQty
+pub minimum-most : (o : Order) → Sound o → o .minqty ≤ o .qty
+unfolding mayMinimum
+minimum-most o s =
+    split (eqb (o .tif) 3)
+    (λ t. leb-true _ _ (rw t at (s .minimum)))
+    (λ t. omega (arith, eqb-true (o .minqty) 0 (rw t at (s .minimum))))
 
 -- ---- one event
 module _ (e : Event) (o : Order) (m : moves e ≡ true) (enough : amount e ≤ openOf o) (whole : 0 < cancels e → cancels e ≡ openOf o) (v : Worth e) where
@@ -60,6 +69,7 @@ module _ (e : Event) (o : Order) (m : moves e ≡ true) (enough : amount e ≤ o
       (λ t. omega (arith, d (omega (arith, change-canceled e o m, ltb-false 0 (cancels e) t)), change-open e o m))
 
   pub change-sound : Sound o → Sound (change e o)
+  unfolding mayMinimum
   change-sound s =
       let t = change-terms e o m in
       let side : change e o .side ≡ o .side = ap (λ (t : Terms). t .side) t in
@@ -70,6 +80,7 @@ module _ (e : Event) (o : Order) (m : moves e ≡ true) (enough : amount e ≤ o
       record {
         sides = rw side (s .sides);
         tifs = rw tif (s .tifs);
+        minimum = rw (tif, qty, ap (λ (t : Terms). t .minqty) t) (s .minimum);
         level-low = rw level (s .level-low);
         level-high = rw level (s .level-high);
         qty-low = rw qty (s .qty-low);
@@ -101,12 +112,12 @@ play-ready (e ∷ es) b f v s =
     )
 
 -- ---- over any number of steps
-pub run-sound : (modes : ℕ → ℕ) (n : ℕ) (b : Book) (w : ℕ) → w ≤ length b → ((k : ℕ) → In b k → Sound (at b k))
-    → (k : ℕ) → In (run modes n b w .book) k → Sound (at (run modes n b w .book) k)
-run-sound modes n b w h s = run-keeps (λ c v. (k : ℕ) → In c k → Sound (at c k)) modes keeps n b w h s
+pub run-sound : (modes : ℕ → ℕ) (missed : Bool) (n : ℕ) (b : Book) (w : ℕ) → w ≤ length b → ((k : ℕ) → In b k → Sound (at b k))
+    → (k : ℕ) → In (run modes missed n b w .book) k → Sound (at (run modes missed n b w .book) k)
+run-sound modes missed n b w h s = run-keeps (λ c v. (k : ℕ) → In c k → Sound (at c k)) modes keeps missed n b w h s
   where
-    keeps : (b : Book) (w : ℕ) → In b w → ((k : ℕ) → In b k → Sound (at b k)) → (k : ℕ) → In (play b (happens modes b w)) k → Sound (at (play b (happens modes b w)) k)
-    keeps b w i s k j =
-        let f = happens-fits modes b w i in
-        play-sound k (happens modes b w) b f (step-worth b w _ s (step-is modes b w))
+    keeps : (missed : Bool) (b : Book) (w : ℕ) → In b w → ((k : ℕ) → In b k → Sound (at b k)) → (k : ℕ) → In (play b (happens modes missed b w)) k → Sound (at (play b (happens modes missed b w)) k)
+    keeps missed b w i s k j =
+        let f = happens-fits modes missed b w i in
+        play-sound k (happens modes missed b w) b f (step-worth b w _ s (step-is modes missed b w))
         (s k (record { low = j .low; high = rw (length-play _ b f) at (j .high) }))

@@ -1,4 +1,4 @@
--- The shape of a step: it ends the work, by an expiry or with nothing, or matches the order in work, w, with another, r, in
+-- The shape of a step: it ends the work, by a kill, by an expiry or with nothing, or matches the order in work, w, with another, r, in
 -- one of six ways. What a step does fits the book, and a run of steps plays its events.
 use mathlib.Core.Path.{_≡_, refl, sym, _∙_}
 use mathlib.Core.Bool.{Bool, true, false, cond, not, _&&_, _||_}
@@ -12,8 +12,8 @@ use borrow.Author.Tests.{ltb-true, ltb-false, eqb-true, eqb-false, lt-ltb}
 use Rattle.octets.proofs.Bools.{split, not-both, both-l, both-r}
 use Rattle.matching.specs.declared.Order.{Order}
 use Rattle.matching.specs.declared.Event.{Event}
-use Rattle.matching.specs.declared.Event.the-variants.{Canceled, Decremented, Traded, Expired}
-use Rattle.matching.specs.Matching.{Book, at, openOf, isOpen, isBuy, opposite, meets, better, faces, choose, best, sameOwner, prevention, meeting, ending, preventing, causes, who, play, partner, outcome, happens, workAfter, run}
+use Rattle.matching.specs.declared.Event.the-variants.{Canceled, Decremented, Traded, Killed, Expired}
+use Rattle.matching.specs.Matching.{Book, at, openOf, isOpen, isBuy, opposite, meets, better, faces, choose, best, isImmediate, sameOwner, prevention, meeting, ending, preventing, causes, who, play, partner, outcome, happens, workAfter, run}
 use Rattle.matching.specs.Held.{In, amount}
 use Rattle.matching.specs.Accounts.{cancels}
 use Rattle.matching.specs.Happens.{moves, Fit, Fits}
@@ -143,61 +143,76 @@ module _ (b : Book) (w r : ℕ) (i : In b w) (p : Pair b w r) where
 
 -- what a step can do
 pub data Stepped (b : Book) (w : ℕ) : List Event → ℕ → Type 0 where
-  rests : partner b w ≡ 0 → (eqb (at b w .tif) 3 && isOpen (at b w)) ≡ false → Stepped b w [] 0
-  expires : partner b w ≡ 0 → at b w .tif ≡ 3 → 0 < openOf (at b w) → Stepped b w (Expired w (openOf (at b w)) ∷ []) 0
+  rests : partner b w ≡ 0 → (isImmediate (at b w) && isOpen (at b w)) ≡ false → Stepped b w [] 0
+  kills : 0 < openOf (at b w) → Stepped b w (Killed w (openOf (at b w)) ∷ []) 0
+  expires : partner b w ≡ 0 → 0 < openOf (at b w) → Stepped b w (Expired w (openOf (at b w)) ∷ []) 0
   matched : {r : ℕ} {es : List Event} → Pair b w r → Meeting b w r es → Stepped b w es w
 
-pub step-is : (modes : ℕ → ℕ) (b : Book) (w : ℕ) → Stepped b w (happens modes b w) (workAfter b w)
+-- one with nothing open is matched with none
+shut-alone : (b : Book) (w : ℕ) → isOpen (at b w) ≡ false → partner b w ≡ 0
+unfolding partner
+shut-alone b w t = rw t
+
+pub both-no : (x : Bool) → (x && false) ≡ false
+both-no true = refl
+both-no false = refl
+
+pub step-is : (modes : ℕ → ℕ) (missed : Bool) (b : Book) (w : ℕ) → Stepped b w (happens modes missed b w) (workAfter missed b w)
 unfolding happens outcome ending causes workAfter
-step-is modes b w =
+step-is modes true b w =
+    split (isOpen (at b w))
+    (λ t. rw t (kills (ltb-true _ _ t)))
+    (λ t. rw (t, shut-alone b w t, both-no (isImmediate (at b w))) (rests (shut-alone b w t) (rw t (both-no (isImmediate (at b w))))))
+step-is modes false b w =
     split (eqb (partner b w) 0)
     (λ t. rw t
-    (split (eqb (at b w .tif) 3 && isOpen (at b w))
-    (λ u. rw u (expires (eqb-true _ _ t) (eqb-true _ _ (both-l _ _ u)) (ltb-true _ _ (both-r (eqb (at b w .tif) 3) _ u))))
+    (split (isImmediate (at b w) && isOpen (at b w))
+    (λ u. rw u (expires (eqb-true _ _ t) (ltb-true _ _ (both-r (isImmediate (at b w)) _ u))))
     (λ u. rw u (rests (eqb-true _ _ t) u))))
     (λ t. rw t (matched (paired b w _ refl (omega (arith, eqb-false))) (meeting-is b w _ _)))
 
 pub step-fits : (b : Book) (w v : ℕ) {es : List Event} → In b w → Stepped b w es v → Fits b es
 step-fits b w v i (rests z t) = tt
-step-fits b w v i (expires z t h) = (record { moving = refl; inside = i; enough = omega arith; whole = λ l. refl }, tt)
+step-fits b w v i (kills h) = (record { moving = refl; inside = i; enough = omega arith; whole = λ l. refl }, tt)
+step-fits b w v i (expires z h) = (record { moving = refl; inside = i; enough = omega arith; whole = λ l. refl }, tt)
 step-fits b w v i (matched p m) = meeting-fits b w _ i p m
 
 -- what a step does fits the book
-pub happens-fits : (modes : ℕ → ℕ) (b : Book) (w : ℕ) → In b w → Fits b (happens modes b w)
-happens-fits modes b w i = step-fits b w _ i (step-is modes b w)
+pub happens-fits : (modes : ℕ → ℕ) (missed : Bool) (b : Book) (w : ℕ) → In b w → Fits b (happens modes missed b w)
+happens-fits modes missed b w i = step-fits b w _ i (step-is modes missed b w)
 
 -- who is in work stays in the book
-pub work-in : (b : Book) (w : ℕ) → w ≤ length b → workAfter b w ≤ length b
+pub work-in : (missed : Bool) (b : Book) (w : ℕ) → w ≤ length b → workAfter missed b w ≤ length b
 unfolding workAfter
-work-in b w h = split (eqb (partner b w) 0) (λ t. rw t (omega arith)) (λ t. rw t h)
+work-in missed b w h = split (missed || eqb (partner b w) 0) (λ t. rw t (omega arith)) (λ t. rw t h)
 
 -- ---- a run plays its events, and they fit
-pub run-plays : (modes : ℕ → ℕ) (n : ℕ) (b : Book) (w : ℕ) → run modes n b w .book ≡ play b (run modes n b w .events)
+pub run-plays : (modes : ℕ → ℕ) (missed : Bool) (n : ℕ) (b : Book) (w : ℕ) → run modes missed n b w .book ≡ play b (run modes missed n b w .events)
 unfolding run play
-run-plays modes zero b w = refl
-run-plays modes (suc n) b zero = refl
-run-plays modes (suc n) b (suc k) = run-plays modes n _ _ ∙ sym (play-append (happens modes b (suc k)) _ b)
+run-plays modes missed zero b w = refl
+run-plays modes missed (suc n) b zero = refl
+run-plays modes missed (suc n) b (suc k) = run-plays modes false n _ _ ∙ sym (play-append (happens modes missed b (suc k)) _ b)
 
 pub first-in : (b : Book) (k : ℕ) → suc k ≤ length b → In b (suc k)
 first-in b k h = record { low = omega arith; high = h }
 
-pub next-in : (modes : ℕ → ℕ) (b : Book) (k : ℕ) → suc k ≤ length b → workAfter b (suc k) ≤ length (play b (happens modes b (suc k)))
-next-in modes b k h = rw (length-play _ b (happens-fits modes b (suc k) (first-in b k h))) (work-in b (suc k) h)
+pub next-in : (modes : ℕ → ℕ) (missed : Bool) (b : Book) (k : ℕ) → suc k ≤ length b → workAfter missed b (suc k) ≤ length (play b (happens modes missed b (suc k)))
+next-in modes missed b k h = rw (length-play _ b (happens-fits modes missed b (suc k) (first-in b k h))) (work-in missed b (suc k) h)
 
-pub run-fits : (modes : ℕ → ℕ) (n : ℕ) (b : Book) (w : ℕ) → w ≤ length b → Fits b (run modes n b w .events)
+pub run-fits : (modes : ℕ → ℕ) (missed : Bool) (n : ℕ) (b : Book) (w : ℕ) → w ≤ length b → Fits b (run modes missed n b w .events)
 unfolding run play
-run-fits modes zero b w h = tt
-run-fits modes (suc n) b zero h = tt
-run-fits modes (suc n) b (suc k) h =
-    let es = happens modes b (suc k) in
-    fits-append es _ b (happens-fits modes b (suc k) (first-in b k h))
-    (run-fits modes n (play b es) (workAfter b (suc k)) (next-in modes b k h))
+run-fits modes missed zero b w h = tt
+run-fits modes missed (suc n) b zero h = tt
+run-fits modes missed (suc n) b (suc k) h =
+    let es = happens modes missed b (suc k) in
+    fits-append es _ b (happens-fits modes missed b (suc k) (first-in b k h))
+    (run-fits modes false n (play b es) (workAfter missed b (suc k)) (next-in modes missed b k h))
 
 -- what a step leads from one (book, order in work) to the next keeps, a run keeps
-pub run-keeps : (P : Book → ℕ → Type 0) (modes : ℕ → ℕ) (keeps : (b : Book) (w : ℕ) → In b w → P b w → P (play b (happens modes b w)) (workAfter b w))
-    (n : ℕ) (b : Book) (w : ℕ) → w ≤ length b → P b w → P (run modes n b w .book) (run modes n b w .work)
+pub run-keeps : (P : Book → ℕ → Type 0) (modes : ℕ → ℕ) (keeps : (missed : Bool) (b : Book) (w : ℕ) → In b w → P b w → P (play b (happens modes missed b w)) (workAfter missed b w))
+    (missed : Bool) (n : ℕ) (b : Book) (w : ℕ) → w ≤ length b → P b w → P (run modes missed n b w .book) (run modes missed n b w .work)
 unfolding run
-run-keeps P modes keeps zero b w h x = x
-run-keeps P modes keeps (suc n) b zero h x = x
-run-keeps P modes keeps (suc n) b (suc k) h x =
-    run-keeps P modes keeps n _ _ (next-in modes b k h) (keeps b (suc k) (first-in b k h) x)
+run-keeps P modes keeps missed zero b w h x = x
+run-keeps P modes keeps missed (suc n) b zero h x = x
+run-keeps P modes keeps missed (suc n) b (suc k) h x =
+    run-keeps P modes keeps false n _ _ (next-in modes missed b k h) (keeps missed b (suc k) (first-in b k h) x)

@@ -1,18 +1,19 @@
 -- What holds of matching: of every run of steps over any book, of every list of events that can happen, and of every level.
 -- Each statement is in the words of specs/; the proofs are one line and lead to the laws.
 use mathlib.Core.Path.{_≡_, sym, _∙_}
-use mathlib.Core.Bool.{Bool, true, false}
+use mathlib.Core.Bool.{Bool, true, false, _&&_}
 use mathlib.Core.List.{List, []}
-use mathlib.Core.Logic.{_≢_}
-use Prim.Native.Nat.{ℕ, suc, _+_, _*_, _≤_, _<_}
+use mathlib.Core.Logic.{_≢_, _⊎_}
+use Prim.Native.Nat.{ℕ, suc, _+_, _-_, _*_, _≤_, _<_}
 use native.Mathlib.Omega.{arith}
 use lib.ListN.{length}
+use lib.Dec.{eqb}
 use Rattle.matching.specs.declared.Order.{Order}
 use Rattle.matching.specs.declared.Event.{Event}
 use Rattle.matching.specs.declared.Event.the-variants.{Accepted, Replaced, Withdrawn}
-use Rattle.matching.specs.Matching.{Book, at, openOf, isBuy, buys, ahead, better, faces, partner, metBy, opposedTo, happens, bookAfter, workAfter, placeAfter, change, after, play, run}
+use Rattle.matching.specs.Matching.{Book, at, openOf, isBuy, buys, ahead, better, faces, partner, metBy, opposedTo, happens, bookAfter, workAfter, placeAfter, change, after, play, run, minimumOf, misses}
 use Rattle.matching.specs.Accounts.{tally, trades, decrements, cancels, accepted, bought, sold, SelfTradeFree}
-use Rattle.matching.specs.Runs.{Ended, GoesOn}
+use Rattle.matching.specs.Runs.{Ended, GoesOn, KilledWhole}
 use Rattle.matching.specs.Held.{Covered, Sound, In, Uncrossed, Held, Enters, Renews}
 use Rattle.matching.specs.Happens.{Follow}
 use Rattle.matching.specs.Depth.{stands, levelAt, totalOf, ordersOf, overLevels, openOn, ordersOn}
@@ -27,62 +28,69 @@ use Rattle.matching.proofs.Holding.{step-held, run-held}
 use Rattle.matching.proofs.Requests.{opened-held, accepted-held, replaced-held, withdrawn-held}
 use Rattle.matching.proofs.Best.{by-place, partner-best, run-on}
 use Rattle.matching.proofs.Placing.{place-kept, place-raised, place-elsewhere, turn-kept}
+use Rattle.matching.proofs.Deciding.{decided-run}
 use Rattle.matching.proofs.Levels.{standing-high, totals-add-up, orders-add-up, no-more, levels-ahead, best-level}
 
 -- ---- every run of n steps of order w of book b
-module _ (modes : ℕ → ℕ) (n : ℕ) (b : Book) (w : ℕ) (in-book : w ≤ length b) where
+module _ (modes : ℕ → ℕ) (missed : Bool) (n : ℕ) (b : Book) (w : ℕ) (in-book : w ≤ length b) where
   -- conserved: the quantity of each order is what it had executed, decremented and canceled, what the events add, and what is
   -- open afterwards
   pub conserved : (k : ℕ) → Covered (at b k)
       → at b k .qty
-      ≡ at b k .executed + tally trades k (run modes n b w .events)
-      + (at b k .decremented + tally decrements k (run modes n b w .events))
-      + (at b k .canceled + tally cancels k (run modes n b w .events))
-      + openOf (at (run modes n b w .book) k)
+      ≡ at b k .executed + tally trades k (run modes missed n b w .events)
+      + (at b k .decremented + tally decrements k (run modes missed n b w .events))
+      + (at b k .canceled + tally cancels k (run modes missed n b w .events))
+      + openOf (at (run modes missed n b w .book) k)
   conserved k s =
-      let es = run modes n b w .events in
-      let f = run-fits modes n b w in-book in
+      let es = run modes missed n b w .events in
+      let f = run-fits modes missed n b w in-book in
       let g = accounts k es b (fits-follow es b f) s in
-      sym (fits-accepted k (at b k .qty) es b f) ∙ rw (← run-plays modes n b w) at g
+      sym (fits-accepted k (at b k .qty) es b f) ∙ rw (← run-plays modes missed n b w) at g
 
   -- balanced: what is bought is what is sold
-  pub balanced : bought b (run modes n b w .events) ≡ sold b (run modes n b w .events)
-  balanced = fair-balanced b (run-fair modes n b w in-book)
+  pub balanced : bought b (run modes missed n b w .events) ≡ sold b (run modes missed n b w .events)
+  balanced = fair-balanced b (run-fair modes missed n b w in-book)
 
   -- no self-trade: no two orders of one MPID trade
-  pub no-self-trade : SelfTradeFree b (run modes n b w .events)
-  no-self-trade = fair-owners b (run-fair modes n b w in-book)
+  pub no-self-trade : SelfTradeFree b (run modes missed n b w .events)
+  no-self-trade = fair-owners b (run-fair modes missed n b w in-book)
 
   -- uncrossed: apart from the order in work
-  pub uncrossed : Uncrossed b w → Uncrossed (run modes n b w .book) (run modes n b w .work)
+  pub uncrossed : Uncrossed b w → Uncrossed (run modes missed n b w .book) (run modes missed n b w .work)
   uncrossed =
-      run-keeps Uncrossed modes (λ c v i x. step-uncrossed c v _ (happens-fits modes c v i) x (step-is modes c v)) n b w in-book
+      run-keeps Uncrossed modes (λ m c v i x. step-uncrossed c v _ (happens-fits modes m c v i) x (step-is modes m c v)) missed n b w in-book
 
   -- and wholly once the work has ended
-  pub uncrossed-wholly : Uncrossed b w → run modes n b w .work ≡ 0
-      → let c = run modes n b w .book in
+  pub uncrossed-wholly : Uncrossed b w → run modes missed n b w .work ≡ 0
+      → let c = run modes missed n b w .book in
       (i j : ℕ) → isBuy (at c i) ≡ true → isBuy (at c j) ≡ false → 0 < openOf (at c i) → 0 < openOf (at c j) → at c j .level < at c i .level
   uncrossed-wholly x z i j bi bj oi oj =
-      let c = run modes n b w .book in
+      let c = run modes missed n b w .book in
       uncrossed x i j (λ e. omega (arith, open-low c i oi)) (λ e. omega (arith, open-low c j oj)) bi bj oi oj
 
   -- in range: every order keeps its ranges; executed ≤ sum ≤ executed × 1,999,999,999, and canceled above 0 means nothing open
-  pub in-range : ((k : ℕ) → In b k → Sound (at b k)) → (k : ℕ) → In (run modes n b w .book) k → Sound (at (run modes n b w .book) k)
-  in-range = run-sound modes n b w in-book
+  pub in-range : ((k : ℕ) → In b k → Sound (at b k)) → (k : ℕ) → In (run modes missed n b w .book) k → Sound (at (run modes missed n b w .book) k)
+  in-range = run-sound modes missed n b w in-book
 
   -- numbers: all reports are at most two for each open opposite order and one more
-  pub numbers : length (run modes n b w .events) ≤ 2 * opposedTo b w + 1
-  numbers = omega (arith, run-reports modes n b w in-book, most-reports b w)
+  pub numbers : length (run modes missed n b w .events) ≤ 2 * opposedTo b w + 1
+  numbers = omega (arith, run-reports modes missed n b w in-book, most-reports b w)
 
 -- done: m + 1 steps end the work, m being the open opposite orders that it meets
-pub done : (modes : ℕ → ℕ) (b : Book) (w : ℕ) → w ≤ length b → Ended modes (metBy b w + 1) b w (metBy b w)
-done modes b w h =
-    let g = run-ends modes (metBy b w + 1) b w h (omega (arith, left-most b w)) in
+pub done : (modes : ℕ → ℕ) (missed : Bool) (b : Book) (w : ℕ) → w ≤ length b → Ended modes missed (metBy b w + 1) b w (metBy b w)
+done modes missed b w h =
+    let g = run-ends modes missed (metBy b w + 1) b w h (omega (arith, left-most b w)) in
     record { ended = g .ended; within = omega (arith, g .within, left-most b w) }
 
+-- decided: an order with something open, not decided before and run to its end, was killed whole, or has traded at least its minimum
+pub minimum-kept : (modes : ℕ → ℕ) (b : Book) (w : ℕ) → In b w → (n : ℕ) → 0 < openOf (at b w)
+    → let r = run modes (misses modes 0 b w) n b w in
+    r .work ≡ 0 → KilledWhole b w r ⊎ (minimumOf (at b w) ≤ at (r .book) w .executed - at b w .executed)
+minimum-kept = decided-run
+
 -- a run of m steps and then one of n is a run of m + n
-pub goes-on : (modes : ℕ → ℕ) (m n : ℕ) (b : Book) (w : ℕ)
-    → GoesOn (run modes m b w) (run modes n (run modes m b w .book) (run modes m b w .work)) (run modes (m + n) b w)
+pub goes-on : (modes : ℕ → ℕ) (missed : Bool) (m n : ℕ) (b : Book) (w : ℕ)
+    → GoesOn (run modes missed m b w) (run modes (eqb m 0 && missed) n (run modes missed m b w .book) (run modes missed m b w .work)) (run modes missed (m + n) b w)
 goes-on = run-on
 
 -- best is best: nothing that the order in work meets is better than the one it is matched with
@@ -90,25 +98,25 @@ pub best : (b : Book) (w r k : ℕ) → partner b w ≡ r → 0 < r → In b k �
 best = partner-best
 
 -- a step has no report, one or two
-pub two-reports : (modes : ℕ → ℕ) (b : Book) (w : ℕ) → length (happens modes b w) ≤ 2
-two-reports modes b w = step-two b w _ (step-is modes b w)
+pub two-reports : (modes : ℕ → ℕ) (missed : Bool) (b : Book) (w : ℕ) → length (happens modes missed b w) ≤ 2
+two-reports modes missed b w = step-two b w _ (step-is modes missed b w)
 
 -- the rule on numbers is kept, up to any bound: the next number and, while the order in work has something open, two for each
 -- open opposite order and one more
-pub rule : (modes : ℕ → ℕ) (next most : ℕ) (b : Book) (w : ℕ) → In b w → next ≤ most → (0 < openOf (at b w) → next + 2 * opposedTo b w + 1 ≤ most)
-    → let c = bookAfter modes b w in
-    let later = next + length (happens modes b w) in
-    (later ≤ most) × (0 < openOf (at c (workAfter b w)) → later + 2 * opposedTo c (workAfter b w) + 1 ≤ most)
+pub rule : (modes : ℕ → ℕ) (missed : Bool) (next most : ℕ) (b : Book) (w : ℕ) → In b w → next ≤ most → (0 < openOf (at b w) → next + 2 * opposedTo b w + 1 ≤ most)
+    → let c = bookAfter modes missed b w in
+    let later = next + length (happens modes missed b w) in
+    (later ≤ most) × (0 < openOf (at c (workAfter missed b w)) → later + 2 * opposedTo c (workAfter missed b w) + 1 ≤ most)
 rule = rule-kept
 
 -- held: a step keeps what a market asks of its book, the rule on numbers with it, the next number having grown by the reports
-pub step-holds : (listed : ℕ → Bool) (modes : ℕ → ℕ) (next : ℕ) (b : Book) (w : ℕ) → In b w → Held listed next b w
-    → Held listed (next + length (happens modes b w)) (bookAfter modes b w) (workAfter b w)
+pub step-holds : (listed : ℕ → Bool) (modes : ℕ → ℕ) (missed : Bool) (next : ℕ) (b : Book) (w : ℕ) → In b w → Held listed next b w
+    → Held listed (next + length (happens modes missed b w)) (bookAfter modes missed b w) (workAfter missed b w)
 step-holds = step-held
 
 -- and so does a run
-pub run-holds : (listed : ℕ → Bool) (modes : ℕ → ℕ) (n next : ℕ) (b : Book) (w : ℕ) → Held listed next b w
-    → Held listed (next + length (run modes n b w .events)) (run modes n b w .book) (run modes n b w .work)
+pub run-holds : (listed : ℕ → Bool) (modes : ℕ → ℕ) (missed : Bool) (n next : ℕ) (b : Book) (w : ℕ) → Held listed next b w
+    → Held listed (next + length (run modes missed n b w .events)) (run modes missed n b w .book) (run modes missed n b w .work)
 run-holds = run-held
 
 -- so do what Submit makes of a message, nothing being in work before it, and Open

@@ -7,7 +7,7 @@ use mathlib.Core.Bool.{cond}
 use mathlib.Core.List.{List, [], _∷_}
 use lib.Dec.{eqb}
 use Rattle.matching.specs.declared.Event.{Event}
-use Rattle.matching.specs.declared.Event.the-variants.{Accepted, Replaced, Withdrawn, Canceled, Decremented, Traded, Expired}
+use Rattle.matching.specs.declared.Event.the-variants.{Accepted, Replaced, Withdrawn, Canceled, Decremented, Traded, Killed, Expired}
 use Rattle.matching.specs.Matching.{Book, at, isBuy, who}
 
 -- the sum of f over the events of order k
@@ -23,6 +23,7 @@ trades (Withdrawn n q) = 0
 trades (Canceled n q) = 0
 trades (Decremented n q) = 0
 trades (Traded n m q l) = q
+trades (Killed n q) = 0
 trades (Expired n q) = 0
 
 -- what it decrements
@@ -33,9 +34,10 @@ decrements (Withdrawn n q) = 0
 decrements (Canceled n q) = 0
 decrements (Decremented n q) = q
 decrements (Traded n m q l) = 0
+decrements (Killed n q) = 0
 decrements (Expired n q) = 0
 
--- what it cancels: as requested, by prevention, or of an IOC's rest
+-- what it cancels: as requested, by prevention, for want of a minimum, or of an immediate order's rest
 abbrev pub cancels : Event → ℕ
 cancels (Accepted n o) = 0
 cancels (Replaced n l q p) = 0
@@ -43,6 +45,7 @@ cancels (Withdrawn n q) = q
 cancels (Canceled n q) = q
 cancels (Decremented n q) = 0
 cancels (Traded n m q l) = 0
+cancels (Killed n q) = q
 cancels (Expired n q) = q
 
 -- the quantity in force after an event, having been q
@@ -53,6 +56,7 @@ inForce q (Withdrawn n x) = q
 inForce q (Canceled n x) = q
 inForce q (Decremented n x) = q
 inForce q (Traded n m x l) = q
+inForce q (Killed n x) = q
 inForce q (Expired n x) = q
 
 -- the accepted quantity of order k after events, having been q: that of the last acceptance or requested replacement

@@ -8,7 +8,7 @@ use Prim.Native.Nat.{ℕ, suc, _+_, _≤_, _<_}
 use lib.ListN.{length}
 use Rattle.matching.specs.declared.Order.{Order}
 use Rattle.matching.specs.declared.Event.{Event}
-use Rattle.matching.specs.declared.Event.the-variants.{Accepted, Replaced, Withdrawn, Canceled, Decremented, Traded, Expired}
+use Rattle.matching.specs.declared.Event.the-variants.{Accepted, Replaced, Withdrawn, Canceled, Decremented, Traded, Killed, Expired}
 use Rattle.matching.specs.Matching.{Book, at, openOf, who, after}
 use Rattle.matching.specs.Accounts.{cancels}
 use Rattle.matching.specs.Held.{In, amount}
@@ -21,6 +21,7 @@ moves (Withdrawn n q) = true
 moves (Canceled n q) = true
 moves (Decremented n q) = true
 moves (Traded n m q l) = true
+moves (Killed n q) = true
 moves (Expired n q) = true
 
 -- its order is in the book and has the amount open; what is canceled is all that is open
@@ -59,6 +60,7 @@ Asked b (Withdrawn n q) = ⊥
 Asked b (Canceled n q) = ⊥
 Asked b (Decremented n q) = ⊥
 Asked b (Traded n m q l) = ⊥
+Asked b (Killed n q) = ⊥
 Asked b (Expired n q) = ⊥
 
 -- events that can happen one after another

@@ -1,26 +1,31 @@
 -- What a market asks of its orders and of its book as far as matching goes (document 01, "The table and its calls", the
 -- clauses from the ranges of the fields on). `Held` is what every step needs and leaves. Assumes nothing.
 use mathlib.Core.Path.{_≡_}
-use mathlib.Core.Bool.{Bool, true, false, _||_}
+use mathlib.Core.Bool.{Bool, true, false, cond, _||_}
 use mathlib.Core.List.{List, [], _∷_}
 use mathlib.Core.Logic.{_≢_}
 use Prim.Native.Nat.{ℕ, suc, _+_, _*_, _≤_, _<_}
 use lib.ListN.{length}
-use lib.Dec.{eqb}
+use lib.Dec.{eqb, leb}
 use Rattle.matching.specs.declared.Order.{Order}
 use Rattle.matching.specs.declared.Event.{Event}
-use Rattle.matching.specs.declared.Event.the-variants.{Accepted, Replaced, Withdrawn, Canceled, Decremented, Traded, Expired}
-use Rattle.matching.specs.Matching.{Book, at, openOf, isBuy, opposedTo, who, after}
+use Rattle.matching.specs.declared.Event.the-variants.{Accepted, Replaced, Withdrawn, Canceled, Decremented, Traded, Killed, Expired}
+use Rattle.matching.specs.Matching.{Book, at, openOf, isBuy, isImmediate, opposedTo, who, after}
 
 -- executed, decremented and canceled are at most the quantity
 abbrev pub Covered : Order → Type 0
 Covered o = o .executed + o .decremented + o .canceled ≤ o .qty
 
+-- MinQty belongs to an IOC, and is at most OrderQty; a Day order and a Fill or Kill have none
+unfoldable pub mayMinimum : Order → Bool
+mayMinimum o = cond (eqb (o .tif) 3) (leb (o .minqty) (o .qty)) (eqb (o .minqty) 0)
+
 -- one order in its ranges: what is canceled leaves nothing open; the sum of quantity times level is what the executed
 -- quantity can come to at levels 1 to 1,999,999,999
 pub record Sound (o : Order) : Type 0 where
   pub sides : (eqb (o .side) 1 || eqb (o .side) 2) ≡ true
-  pub tifs : (eqb (o .tif) 0 || eqb (o .tif) 3) ≡ true
+  pub tifs : (eqb (o .tif) 0 || isImmediate o) ≡ true
+  pub minimum : mayMinimum o ≡ true
   pub level-low : 0 < o .level
   pub level-high : o .level ≤ 1_999_999_999
   pub qty-low : 0 < o .qty
@@ -49,7 +54,7 @@ pub record Held (listed : ℕ → Bool) (next : ℕ) (b : Book) (w : ℕ) : Type
   pub owned : (k : ℕ) → In b k → (eqb (at b k .mpid) 0 || listed (at b k .mpid)) ≡ true
   pub places-apart : (i j : ℕ) → In b i → In b j → at b i .place ≡ at b j .place → i ≡ j
   pub places-below : (k : ℕ) → In b k → at b k .place < next
-  pub no-ioc : (k : ℕ) → k ≢ w → at b k .tif ≡ 3 → openOf (at b k) ≡ 0
+  pub no-ioc : (k : ℕ) → k ≢ w → isImmediate (at b k) ≡ true → openOf (at b k) ≡ 0
   pub uncrossed : Uncrossed b w
   pub next-high : next ≤ 1_000_000_000
   pub numbers : 0 < openOf (at b w) → next + 2 * opposedTo b w + 1 ≤ 1_000_000_000
@@ -62,6 +67,7 @@ amount (Withdrawn n q) = q
 amount (Canceled n q) = q
 amount (Decremented n q) = q
 amount (Traded n m q l) = q
+amount (Killed n q) = q
 amount (Expired n q) = q
 
 abbrev pub levelOf : Event → ℕ
@@ -71,6 +77,7 @@ levelOf (Withdrawn n q) = 0
 levelOf (Canceled n q) = 0
 levelOf (Decremented n q) = 0
 levelOf (Traded n m q l) = l
+levelOf (Killed n q) = 0
 levelOf (Expired n q) = 0
 
 -- what it takes is open, and the level is in range

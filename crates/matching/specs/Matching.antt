@@ -1,9 +1,10 @@
 -- Matching, step by step: which orders meet, which is the best, what one step does and in which order it is reported, what
 -- the book is afterwards, and runs of steps (document 01, "Matching, step by step"; the three modes are those of the paper
--- on self-trade prevention). A book is a list of orders; an order is named by its number, from 1; number 0 is no order.
+-- on self-trade prevention); and the minimum that an order must reach to be matched at all (document 02, T-05). A book is a
+-- list of orders; an order is named by its number, from 1; number 0 is no order.
 -- Assumes nothing: every definition gives something for every book.
 use Prim.Native.Nat.{ℕ, zero, suc, _+_, _-_, _*_, min}
-use mathlib.Core.Bool.{Bool, cond, not, _&&_, _||_}
+use mathlib.Core.Bool.{Bool, false, cond, not, _&&_, _||_}
 use mathlib.Core.List.{List, [], _∷_, _++_}
 use lib.ListN.{length, getD, set}
 use lib.Dec.{ltb, leb, eqb}
@@ -11,9 +12,9 @@ use Rattle.matching.specs.declared.Order.{Order}
 use Rattle.matching.specs.declared.Prevention.{Prevention}
 use Rattle.matching.specs.declared.Prevention.the-variants.{CancelNewest, CancelOldest, Decrement}
 use Rattle.matching.specs.declared.Outcome.{Outcome}
-use Rattle.matching.specs.declared.Outcome.the-variants.{Trade, Prevented, Expires, Rests}
+use Rattle.matching.specs.declared.Outcome.the-variants.{Trade, Prevented, Kills, Expires, Rests}
 use Rattle.matching.specs.declared.Event.{Event}
-use Rattle.matching.specs.declared.Event.the-variants.{Accepted, Replaced, Withdrawn, Canceled, Decremented, Traded, Expired}
+use Rattle.matching.specs.declared.Event.the-variants.{Accepted, Replaced, Withdrawn, Canceled, Decremented, Traded, Killed, Expired}
 
 -- ---- the sense of levels
 
@@ -43,6 +44,14 @@ isOpen o = ltb 0 (openOf o)
 abbrev pub isBuy : Order → Bool
 isBuy o = buys (o .side)
 
+-- its time in force lets nothing of it rest: IOC, 3, and Fill or Kill, 4
+abbrev pub isImmediate : Order → Bool
+isImmediate o = eqb (o .tif) 3 || eqb (o .tif) 4
+
+-- the minimum that it must trade, 0 for none: the whole OrderQty of a Fill or Kill, and of any other order the MinQty it was sent with
+unfoldable pub minimumOf : Order → ℕ
+minimumOf o = cond (eqb (o .tif) 4) (o .qty) (o .minqty)
+
 -- one buys and the other sells
 abbrev pub opposite : Order → Order → Bool
 opposite o r = cond (isBuy o) (not (isBuy r)) (isBuy r)
@@ -71,7 +80,7 @@ Book = List Order
 
 -- no order: nothing of it is open
 abbrev pub none : Order
-none = record { side = 0; tif = 0; level = 0; qty = 0; executed = 0; decremented = 0; canceled = 0; sum = 0; place = 0; mpid = 0 }
+none = record { side = 0; tif = 0; level = 0; qty = 0; executed = 0; decremented = 0; canceled = 0; sum = 0; place = 0; mpid = 0; minqty = 0 }
 
 -- order number k of the book
 abbrev pub at : Book → ℕ → Order
@@ -120,15 +129,17 @@ meeting o r mode =
     cond (sameOwner o r) (Prevented (prevention mode (openOf o) (openOf r)))
     (Trade (min (openOf o) (openOf r)) (r .level))
 
--- what becomes of one that is matched with none: what is left of an IOC expires, any other order rests
+-- what becomes of one that is matched with none: what is left of an immediate order expires, any other order rests
 unfoldable pub ending : Order → Outcome
-ending o = cond (eqb (o .tif) 3 && isOpen o) (Expires (openOf o)) Rests
+ending o = cond (isImmediate o && isOpen o) (Expires (openOf o)) Rests
 
--- what the next step of w comes to, by the mode of each MPID
-unfoldable pub outcome : (ℕ → ℕ) → Book → ℕ → Outcome
-outcome modes b w =
+-- what the next step of w comes to, by the mode of each MPID; missed tells that w does not reach its minimum: what is open of it
+-- is then killed, and it is matched with nobody
+unfoldable pub outcome : (ℕ → ℕ) → Bool → Book → ℕ → Outcome
+outcome modes missed b w =
     let o = at b w in
-    cond (eqb (partner b w) 0) (ending o) (meeting o (at b (partner b w)) (modes (o .mpid)))
+    cond (missed && isOpen o) (Kills (openOf o))
+    (cond (eqb (partner b w) 0) (ending o) (meeting o (at b (partner b w)) (modes (o .mpid))))
 
 -- ---- events, in the order of their reports
 
@@ -146,6 +157,7 @@ preventing w r (Decrement newest oldest) =
 unfoldable pub causes : ℕ → ℕ → Outcome → List Event
 causes w r (Trade q l) = Traded r w q l ∷ Traded w r q l ∷ []
 causes w r (Prevented p) = preventing w r p
+causes w r (Kills q) = Killed w q ∷ []
 causes w r (Expires q) = Expired w q ∷ []
 causes w r Rests = []
 
@@ -159,6 +171,7 @@ who (Withdrawn n q) = n
 who (Canceled n q) = n
 who (Decremented n q) = n
 who (Traded n m q l) = n
+who (Killed n q) = n
 who (Expired n q) = n
 
 -- who keeps its place: the place of an order after a requested replacement to a level and quantity. With the same yield and a
@@ -180,6 +193,7 @@ amounts o e d c s =
       sum = s;
       place = o .place;
       mpid = o .mpid;
+      minqty = o .minqty;
     }
 
 -- an order with other terms
@@ -196,6 +210,7 @@ terms o l q p =
       sum = o .sum;
       place = p;
       mpid = o .mpid;
+      minqty = o .minqty;
     }
 
 -- an event's order afterwards
@@ -206,6 +221,7 @@ change (Withdrawn n q) o = amounts o (o .executed) (o .decremented) (o .canceled
 change (Canceled n q) o = amounts o (o .executed) (o .decremented) (o .canceled + q) (o .sum)
 change (Decremented n q) o = amounts o (o .executed) (o .decremented + q) (o .canceled) (o .sum)
 change (Traded n m q l) o = amounts o (o .executed + q) (o .decremented) (o .canceled) (o .sum + q * l)
+change (Killed n q) o = amounts o (o .executed) (o .decremented) (o .canceled + q) (o .sum)
 change (Expired n q) o = amounts o (o .executed) (o .decremented) (o .canceled + q) (o .sum)
 
 -- the book after an event, and after events one by one
@@ -219,15 +235,15 @@ play b (e ∷ es) = play (after b e) es
 -- ---- one step, and runs of steps
 
 -- the events of the next step of w, and the book after it
-unfoldable pub happens : (ℕ → ℕ) → Book → ℕ → List Event
-happens modes b w = causes w (partner b w) (outcome modes b w)
+unfoldable pub happens : (ℕ → ℕ) → Bool → Book → ℕ → List Event
+happens modes missed b w = causes w (partner b w) (outcome modes missed b w)
 
-abbrev pub bookAfter : (ℕ → ℕ) → Book → ℕ → Book
-bookAfter modes b w = play b (happens modes b w)
+abbrev pub bookAfter : (ℕ → ℕ) → Bool → Book → ℕ → Book
+bookAfter modes missed b w = play b (happens modes missed b w)
 
--- who is in work after it: w as long as it was matched with somebody; a step that matches it with none ends the work
-unfoldable pub workAfter : Book → ℕ → ℕ
-workAfter b w = cond (eqb (partner b w) 0) 0 w
+-- who is in work after it: w as long as it was matched with somebody; a step that kills it or matches it with none ends the work
+unfoldable pub workAfter : Bool → Book → ℕ → ℕ
+workAfter missed b w = cond (missed || eqb (partner b w) 0) 0 w
 
 -- what a run comes to: the book, the order in work (0 for none), all events in turn, and the steps taken
 pub record Ran : Type 0 where
@@ -236,14 +252,29 @@ pub record Ran : Type 0 where
   pub events : List Event
   pub steps : ℕ
 
--- steps of w until nothing is in work or the budget is spent
-unfoldable pub run : (ℕ → ℕ) → ℕ → Book → ℕ → Ran
-run modes zero b w = record { book = b; work = w; events = []; steps = 0 }
-run modes (suc n) b zero = record { book = b; work = 0; events = []; steps = 0 }
-run modes (suc n) b (suc k) =
+-- steps of w until nothing is in work or the budget is spent; missed is asked for by the first step alone
+unfoldable pub run : (ℕ → ℕ) → Bool → ℕ → Book → ℕ → Ran
+run modes missed zero b w = record { book = b; work = w; events = []; steps = 0 }
+run modes missed (suc n) b zero = record { book = b; work = 0; events = []; steps = 0 }
+run modes missed (suc n) b (suc k) =
     let w = suc k in
-    let rest = run modes n (bookAfter modes b w) (workAfter b w) in
-    record { book = rest .book; work = rest .work; events = happens modes b w ++ rest .events; steps = suc (rest .steps) }
+    let rest = run modes false n (bookAfter modes missed b w) (workAfter missed b w) in
+    record { book = rest .book; work = rest .work; events = happens modes missed b w ++ rest .events; steps = suc (rest .steps) }
+
+-- ---- the decision: an order that would not reach its minimum is not matched
+
+-- the quantity that the matching steps would trade: what w has executed when they have run to their end, without regard to any
+-- minimum, less what it had executed before
+unfoldable pub wouldTrade : (ℕ → ℕ) → Book → ℕ → ℕ
+wouldTrade modes b w = at (run modes false (length b + 1) b w .book) w .executed - at b w .executed
+
+-- whether w misses its minimum, where it is not decided yet; after the decision the minimum is not looked at
+unfoldable pub misses : (ℕ → ℕ) → ℕ → Book → ℕ → Bool
+misses modes decided b w = eqb decided 0 && ltb (wouldTrade modes b w) (minimumOf (at b w))
+
+-- the decision as it is noted after a step of w: an order with a minimum is decided, any other has nothing to decide
+unfoldable pub decidedAfter : Book → ℕ → ℕ
+decidedAfter b w = cond (ltb 0 (minimumOf (at b w))) 1 0
 
 -- ---- how many orders a message can still meet, and how many reports it can still cause
 
@@ -271,5 +302,6 @@ preventedReports (Decrement newest oldest) = 2
 abbrev pub reports : Outcome → ℕ
 reports (Trade q l) = 2
 reports (Prevented p) = preventedReports p
+reports (Kills q) = 1
 reports (Expires q) = 1
 reports Rests = 0

@@ -1,13 +1,13 @@
--- The rehearsed books (document 01, "Rehearsed books") and two more on replacements: how their orders are written, and what is
--- shown of each. Every case is one statement over any book that is the one written here. Assumes nothing.
+-- The rehearsed books (document 01, "Rehearsed books"), two more on replacements and eight on minimums: how their orders are written,
+-- and what is shown of each. Every case is one statement over any book that is the one written here. Assumes nothing.
 use mathlib.Core.Path.{_≡_}
-use mathlib.Core.List.{List, [], _∷_, map}
+use mathlib.Core.List.{List, [], _∷_, _++_, map}
 use Prim.Native.Nat.{ℕ, _+_, _-_}
 use Rattle.decimal.specs.Writing.{fixed, meanOf}
 use Rattle.matching.specs.declared.Order.{Order}
 use Rattle.matching.specs.declared.Event.{Event}
-use Rattle.matching.specs.declared.Event.the-variants.{Accepted, Replaced, Traded, Canceled, Decremented, Expired}
-use Rattle.matching.specs.Matching.{Book, at, openOf, play, run}
+use Rattle.matching.specs.declared.Event.the-variants.{Accepted, Replaced, Traded, Canceled, Decremented, Killed, Expired}
+use Rattle.matching.specs.Matching.{Book, at, openOf, play, run, misses}
 use Rattle.matching.specs.Accounts.{tally, trades, decrements, cancels}
 
 -- a yield of n thousandths, and of minus n thousandths, as a level
@@ -17,20 +17,26 @@ yield n = 1_000_000_000 + n
 abbrev pub minus : ℕ → ℕ
 minus n = 1_000_000_000 - n
 
--- an order just accepted: side, quantity, level, place, MPID, time in force
-abbrev pub new : ℕ → ℕ → ℕ → ℕ → ℕ → ℕ → Order
-new s q l p m t =
-    record { side = s; tif = t; level = l; qty = q; executed = 0; decremented = 0; canceled = 0; sum = 0; place = p; mpid = m }
+-- an order just accepted: side, quantity, level, place, MPID, time in force, MinQty
+abbrev pub new : ℕ → ℕ → ℕ → ℕ → ℕ → ℕ → ℕ → Order
+new s q l p m t least =
+    record { side = s; tif = t; level = l; qty = q; executed = 0; decremented = 0; canceled = 0; sum = 0; place = p; mpid = m; minqty = least }
 
--- a sell and a buy, Day: quantity, level, place, MPID; and a buy, IOC
+-- a sell and a buy, Day: quantity, level, place, MPID; a buy, IOC; the same with a MinQty; and a buy, Fill or Kill
 abbrev pub sell : ℕ → ℕ → ℕ → ℕ → Order
-sell q l p m = new 2 q l p m 0
+sell q l p m = new 2 q l p m 0 0
 
 abbrev pub buy : ℕ → ℕ → ℕ → ℕ → Order
-buy q l p m = new 1 q l p m 0
+buy q l p m = new 1 q l p m 0 0
 
 abbrev pub buyIOC : ℕ → ℕ → ℕ → ℕ → Order
-buyIOC q l p m = new 1 q l p m 3
+buyIOC q l p m = new 1 q l p m 3 0
+
+abbrev pub buyAtLeast : ℕ → ℕ → ℕ → ℕ → ℕ → Order
+buyAtLeast least q l p m = new 1 q l p m 3 least
+
+abbrev pub buyFOK : ℕ → ℕ → ℕ → ℕ → Order
+buyFOK q l p m = new 1 q l p m 4 0
 
 -- book R and one order more, number 5; A is MPID 10
 abbrev pub bookR : Order → Book
@@ -128,14 +134,40 @@ eventsReduced = trade 1 3 150 (yield 100) (trade 2 3 100 (yield 100) [])
 abbrev pub eventsRaised : List Event
 eventsRaised = trade 2 3 200 (yield 100) (trade 1 3 50 (yield 100) [])
 
+-- ---- minimums in book R, which has 1,000 to sell at 0.100 or more
+
+-- MPID 14 buys at 0.100, Fill or Kill
+abbrev pub bookKill : ℕ → Book
+bookKill quantity = bookR (buyFOK quantity (yield 100) 5 14)
+
+-- 1,200 are not there: all of it killed
+abbrev pub eventsKill : List Event
+eventsKill = Killed 5 1200 ∷ []
+
+-- 1,000 are: all of it trades
+abbrev pub eventsFill : List Event
+eventsFill = trade 1 5 100 (yield 101) (trade 2 5 200 (yield 100) (trade 3 5 200 (yield 100) (trade 4 5 500 (yield 100) [])))
+
+-- A buys 1,200 IOC with a MinQty. Under mode 1 300 trade before its own sell ends it, under modes 2 and 3 800 do; one more is not
+-- reached, and killed
+abbrev pub bookLeast : ℕ → Book
+bookLeast least = bookR (buyAtLeast least 1200 (yield 100) 5 10)
+
+-- under modes 2 and 3 the rest expires
+abbrev pub eventsLeast2 : List Event
+eventsLeast2 = events2 ++ (Expired 5 400 ∷ [])
+
+abbrev pub eventsLeast3 : List Event
+eventsLeast3 = events3 ++ (Expired 5 200 ∷ [])
+
 -- ---- what is shown
 
--- w of book b, run with any budget of n steps or more, takes n steps, has the events es, and leaves open os
+-- w of book b, not decided yet and run with any budget of n steps or more, takes n steps, has the events es, and leaves open os
 pub record Shows (modes : ℕ → ℕ) (b : Book) (w : ℕ) (es : List Event) (os : List ℕ) (n : ℕ) : Type 0 where
-  pub events : (k : ℕ) → run modes (n + k) b w .events ≡ es
-  pub left : (k : ℕ) → map openOf (run modes (n + k) b w .book) ≡ os
-  pub steps : (k : ℕ) → run modes (n + k) b w .steps ≡ n
-  pub ended : (k : ℕ) → run modes (n + k) b w .work ≡ 0
+  pub events : (k : ℕ) → run modes (misses modes 0 b w) (n + k) b w .events ≡ es
+  pub left : (k : ℕ) → map openOf (run modes (misses modes 0 b w) (n + k) b w .book) ≡ os
+  pub steps : (k : ℕ) → run modes (misses modes 0 b w) (n + k) b w .steps ≡ n
+  pub ended : (k : ℕ) → run modes (misses modes 0 b w) (n + k) b w .work ≡ 0
 
 -- the line of order k over the events es from book b on: accepted, executed, decremented, canceled and open add up
 pub record Line (b : Book) (es : List Event) (k accepted executed decremented canceled left : ℕ) : Type 0 where
@@ -146,11 +178,11 @@ pub record Line (b : Book) (es : List Event) (k accepted executed decremented ca
   pub is-left : openOf (at (play b es) k) ≡ left
   pub adds-up : accepted ≡ executed + decremented + canceled + left
 
--- w of book b, run with any budget of n steps or more, ends its work and has executed at this sum of quantity times level, of
+-- w of book b, not decided yet and run with any budget of n steps or more, ends its work and has executed at this sum of quantity times level, of
 -- which the mean is AvgPx as it is written
 pub record Averages (modes : ℕ → ℕ) (b : Book) (w n sum executed mean : ℕ) (text : List ℕ) : Type 0 where
-  pub ended : (k : ℕ) → run modes (n + k) b w .work ≡ 0
-  pub is-sum : (k : ℕ) → at (run modes (n + k) b w .book) w .sum ≡ sum
-  pub is-executed : (k : ℕ) → at (run modes (n + k) b w .book) w .executed ≡ executed
+  pub ended : (k : ℕ) → run modes (misses modes 0 b w) (n + k) b w .work ≡ 0
+  pub is-sum : (k : ℕ) → at (run modes (misses modes 0 b w) (n + k) b w .book) w .sum ≡ sum
+  pub is-executed : (k : ℕ) → at (run modes (misses modes 0 b w) (n + k) b w .book) w .executed ≡ executed
   pub is-mean : meanOf sum executed ≡ mean
   pub is-text : fixed 6 mean ≡ text

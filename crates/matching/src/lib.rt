@@ -2,13 +2,14 @@
 // an order adds to a level. The book itself is the table's.
 ghost use mathlib.Core.Path.{_≡_};
 ghost use Prim.Native.Nat.{_+_, _*_, _≤_, min};
-ghost use Rattle.matching.specs.Matching.{openOf, isOpen, isBuy, opposite, sameOwner, opposed, meets, better, faces, prevention, meeting, ending, placeAfter, change, preventedReports, reports, buys, crosses, ahead};
+ghost use Rattle.matching.specs.Matching.{openOf, isOpen, isBuy, isImmediate, minimumOf, opposite, sameOwner, opposed, meets, better, faces, prevention, meeting, ending, placeAfter, change, preventedReports, reports, buys, crosses, ahead};
 ghost use Rattle.matching.specs.Depth.{onSide, stands, behind, nearer, onLevel, share};
 ghost use Rattle.matching.specs.Held.{Covered, Sound, May};
 
-// One order: the ten numbers that matching needs. Side 1 buys and 2 sells; time in force 0 is Day and 3 IOC; the level is
+// One order: the eleven numbers that matching needs. Side 1 buys and 2 sells; time in force 0 is Day, 3 IOC and 4 Fill or Kill; the level is
 // 1,000,000,000 and the yield in thousandths; the sum is that of executed quantity times level; the place is the number of
-// the Accepted report, or of the last requested Replaced report that did not keep it; MPID 0 is none.
+// the Accepted report, or of the last requested Replaced report that did not keep it; MPID 0 is none; MinQty is 110 as it was sent, 0
+// for none.
 pub struct Order {
     pub side: u64,
     pub tif: u64,
@@ -20,6 +21,7 @@ pub struct Order {
     pub sum: u64,
     pub place: u64,
     pub mpid: u64,
+    pub minqty: u64,
 }
 
 // What self-trade prevention does, by mode, with its quantities. The order in work is the newest, the resting one the oldest.
@@ -29,16 +31,18 @@ pub enum Prevention {
     Decrement { newest: u64, oldest: u64 },
 }
 
-// What a step comes to: a trade at the resting level, a prevention, or the end of the work.
+// What a step comes to: a trade at the resting level, a prevention, or the end of the work: what is open is killed, expires or rests.
 pub enum Outcome {
     Trade { quantity: u64, level: u64 },
     Prevented(Prevention),
+    Kills { quantity: u64 },
     Expires { quantity: u64 },
     Rests,
 }
 
 // What happens to one order, named by its number: it enters the book, is replaced (the place is the one it may take) or
-// withdrawn as requested, is canceled or decremented by prevention, trades with another, or expires (an IOC's rest).
+// withdrawn as requested, is canceled or decremented by prevention, trades with another, is killed (it would not reach its minimum), or
+// expires (an immediate order's rest).
 pub enum Event {
     Accepted {
         order: u64,
@@ -67,6 +71,10 @@ pub enum Event {
         other: u64,
         quantity: u64,
         level: u64,
+    },
+    Killed {
+        order: u64,
+        quantity: u64,
     },
     Expired {
         order: u64,
@@ -101,6 +109,20 @@ impl Order {
         ensures { λ r. ⌜ r ≡ isBuy self ⌝ }
     {
         self.side == 1
+    }
+
+    // Nothing of it may rest: IOC or Fill or Kill.
+    pub fn is_immediate(self) -> bool
+        ensures { λ r. ⌜ r ≡ isImmediate self ⌝ }
+    {
+        (self.tif == 3) | (self.tif == 4)
+    }
+
+    // The minimum that it must trade, 0 for none.
+    pub fn minimum_of(self) -> u64
+        ensures { λ r. ⌜ r ≡ minimumOf self ⌝ }
+    {
+        if self.tif == 4 { self.qty } else { self.minqty }
     }
 
     // One buys and the other sells.
@@ -162,7 +184,7 @@ impl Order {
         ensures { λ r. ⌜ r ≡ ending self ⌝ }
     {
         let quantity = self.open_of();
-        if (self.tif == 3) & (0 < quantity) {
+        if self.is_immediate() & (0 < quantity) {
             return Outcome::Expires { quantity };
         }
         Outcome::Rests
@@ -215,6 +237,9 @@ impl Order {
             } => {
                 o.executed = o.executed + quantity;
                 o.sum = o.sum + quantity * level;
+            }
+            Event::Killed { order: _, quantity } => {
+                o.canceled = o.canceled + quantity;
             }
             Event::Expired { order: _, quantity } => {
                 o.canceled = o.canceled + quantity;
@@ -324,6 +349,7 @@ pub fn reports(outcome: Outcome) -> u64
             level: _,
         } => 2,
         Outcome::Prevented(p) => prevented_reports(p),
+        Outcome::Kills { quantity: _ } => 1,
         Outcome::Expires { quantity: _ } => 1,
         Outcome::Rests => 0,
     }

@@ -1,7 +1,7 @@
 -- Steps on a market are matching's steps on its book, where there is room: the book and the order in work at the end, as many steps, and a
 -- report of each event in turn.
 use mathlib.Core.Path.{_≡_, refl, ap, _∙_}
-use mathlib.Core.Bool.{true, false}
+use mathlib.Core.Bool.{Bool, true, false}
 use mathlib.Core.List.{List, [], _∷_, _++_, append-nil}
 use Prim.Native.Nat.{ℕ, zero, suc, _+_, _*_, _-_, _≤_}
 use native.Mathlib.Nat.{add-zero}
@@ -16,7 +16,7 @@ use Rattle.table.specs.Heading.{nextOf, workOf, modeOf}
 use Rattle.table.specs.Orders.{bookOf, applied}
 use Rattle.table.specs.Market.{isMarket}
 use Rattle.table.specs.Facts.{Market}
-use Rattle.table.specs.Changes.{stepEvents, stepped}
+use Rattle.table.specs.Changes.{missesNow, stepEvents, stepWork, stepped}
 use Rattle.table.proofs.Facts.{market-facts}
 use Rattle.table.proofs.Kept.{stepped-kept}
 use Rattle.ticket.specs.Tickets.{keptCause}
@@ -24,7 +24,7 @@ use Rattle.ticket.proofs.Running.{Legibles, step-legibles}
 use Rattle.readback.proofs.Events.{event-says}
 use Rattle.calls.specs.Told.{joined}
 use Rattle.calls.specs.Run.{eventReport, eventReports, stepReports, Worked, stops, still, worked, Ran as RanBy, ran, runSteps}
-use Rattle.turns.proofs.Stepping.{step-book, step-work, step-modes, step-short}
+use Rattle.turns.proofs.Stepping.{step-book, step-work, step-modes, step-decided, step-short}
 use Rattle.turns.proofs.Taking.{stops-still, worked-on}
 use Rattle.turns.proofs.Agreeing.{agrees}
 use Rattle.turns.proofs.Theorems.{run-ends}
@@ -38,19 +38,20 @@ reports-of (e ∷ es) t n h =
     let s = event-says (applied t e) [] n (keptCause (applied t e)) e (h .0) in
     (record { kind = s .is-kind; order = s .says-37; quantity = s .says-32; reason = s .says-378 }, reports-of es (applied t e) (n + 1) (h .1))
 
-step-reports : (t : List ℕ) → Market t → 1 ≤ workOf t → ReportsOf (stepReports t) (stepEvents t)
+pub step-reports : (t : List ℕ) → Market t → 1 ≤ workOf t → ReportsOf (stepReports t) (stepEvents t)
 unfolding stepReports
 step-reports t m l = reports-of (stepEvents t) t (nextOf t) (step-legibles t m l)
 
 -- ---- steps
-run-busy : (modes : ℕ → ℕ) (n : ℕ) (b : Book) (w : ℕ) → 1 ≤ w
-    → let rest = run modes n (bookAfter modes b w) (workAfter b w) in
-    run modes (suc n) b w ≡ record { book = rest .book; work = rest .work; events = happens modes b w ++ rest .events; steps = suc (rest .steps) }
+run-busy : (modes : ℕ → ℕ) (missed : Bool) (n : ℕ) (b : Book) (w : ℕ) → 1 ≤ w
+    → let rest = run modes false n (bookAfter modes missed b w) (workAfter missed b w) in
+    run modes missed (suc n) b w
+    ≡ record { book = rest .book; work = rest .work; events = happens modes missed b w ++ rest .events; steps = suc (rest .steps) }
 unfolding run
-run-busy modes n b zero l = absurd (omega arith)
-run-busy modes n b (suc k) l = refl
+run-busy modes missed n b zero l = absurd (omega arith)
+run-busy modes missed n b (suc k) l = refl
 
-reports-append : (rs qs : List (List ℕ)) (es fs : List Event) → ReportsOf rs es → ReportsOf qs fs → ReportsOf (rs ++ qs) (es ++ fs)
+pub reports-append : (rs qs : List (List ℕ)) (es fs : List Event) → ReportsOf rs es → ReportsOf qs fs → ReportsOf (rs ++ qs) (es ++ fs)
 reports-append [] qs [] fs x y = y
 reports-append [] qs (e ∷ es) fs x y = absurd x
 reports-append (r ∷ rs) qs [] fs x y = absurd x
@@ -58,8 +59,8 @@ reports-append (r ∷ rs) qs (e ∷ es) fs x y = (x .0, reports-append rs qs es 
 
 -- their reports, in turn
 worked-events : (n : ℕ) (t : List ℕ) (room : ℕ) → Market t → 1024 * n ≤ room
-    → ReportsOf (worked n t room .reports) (run (modeOf t) n (bookOf t) (workOf t) .events)
-unfolding worked run stepEvents
+    → ReportsOf (worked n t room .reports) (run (modeOf t) (missesNow t) n (bookOf t) (workOf t) .events)
+unfolding worked run stepEvents stepWork
 worked-events zero t room m h = tt
 worked-events (suc n) t room m h =
     split (eqb (workOf t) 0)
@@ -73,8 +74,8 @@ worked-events (suc n) t room m h =
     let rs = stepReports t in
     let short = step-short t (record { market = m; work = l }) in
     let g = worked-events n (stepped t) (room - length (joined rs)) (stepped-kept t m l) (omega arith) in
-    let k = rw (step-modes t m l, step-book t m l, step-work t m l) at g in
-    rw (s, run-busy (modeOf t) n (bookOf t) (workOf t) l) (reports-append rs _ _ _ (step-reports t m l) k))
+    let k = rw (step-decided t m l, step-modes t m l, step-book t m l, step-work t m l) at g in
+    rw (s, run-busy (modeOf t) (missesNow t) n (bookOf t) (workOf t) l) (reports-append rs _ _ _ (step-reports t m l) k))
 
 -- what was worked on a table is what was run on a book
 pub record Matches (w : Worked) (r : Ran) : Type 0 where
@@ -83,14 +84,14 @@ pub record Matches (w : Worked) (r : Ran) : Type 0 where
   pub steps : w .steps ≡ r .steps
   pub events : ReportsOf (w .reports) (r .events)
 
-pub worked-matches : (n : ℕ) (t : List ℕ) (room : ℕ) → Market t → 1024 * n ≤ room → Matches (worked n t room) (run (modeOf t) n (bookOf t) (workOf t))
+pub worked-matches : (n : ℕ) (t : List ℕ) (room : ℕ) → Market t → 1024 * n ≤ room → Matches (worked n t room) (run (modeOf t) (missesNow t) n (bookOf t) (workOf t))
 worked-matches n t room m h =
     let g = agrees n t room m h in
     record { book = g .book; work = g .work; steps = g .steps; events = worked-events n t room m h }
 
 -- ---- a budget beyond the end of the work
-module _ (n k : ℕ) (t : List ℕ) (room : ℕ) (m : Market t) (h : 1024 * n ≤ room) (z : run (modeOf t) n (bookOf t) (workOf t) .work ≡ 0) where
-  first : Matches (worked n t room) (run (modeOf t) n (bookOf t) (workOf t))
+module _ (n k : ℕ) (t : List ℕ) (room : ℕ) (m : Market t) (h : 1024 * n ≤ room) (z : run (modeOf t) (missesNow t) n (bookOf t) (workOf t) .work ≡ 0) where
+  first : Matches (worked n t room) (run (modeOf t) (missesNow t) n (bookOf t) (workOf t))
   first = worked-matches n t room m h
 
   rest : worked k (worked n t room .table) (room - length (joined (worked n t room .reports))) ≡ still (worked n t room .table)
@@ -98,7 +99,7 @@ module _ (n k : ℕ) (t : List ℕ) (room : ℕ) (m : Market t) (h : 1024 * n �
       let e : workOf (worked n t room .table) ≡ 0 = first .work ∙ z in
       stops-still (worked n t room .table) (room - length (joined (worked n t room .reports))) k (rw (eq-eqb (workOf (worked n t room .table)) 0 e))
 
-  pub worked-beyond : Matches (worked (n + k) t room) (run (modeOf t) n (bookOf t) (workOf t))
+  pub worked-beyond : Matches (worked (n + k) t room) (run (modeOf t) (missesNow t) n (bookOf t) (workOf t))
   worked-beyond =
       let g = worked-on n k t room in
       let e : worked (n + k) t room .table ≡ worked n t room .table = g .table ∙ ap (λ (x : Worked). x .table) rest in
@@ -120,7 +121,7 @@ pub record RunsAs (r : RanBy) (q : Ran) : Type 0 where
   pub events : ReportsOf (r .reports) (q .events)
 
 pub ran-matches : (n : ℕ) (t : List ℕ) (room budget : ℕ) → isMarket t ≡ true → 1 ≤ n → 1024 * n ≤ room → n ≤ budget
-    → run (modeOf t) n (bookOf t) (workOf t) .work ≡ 0 → RunsAs (ran t room budget) (run (modeOf t) n (bookOf t) (workOf t))
+    → run (modeOf t) (missesNow t) n (bookOf t) (workOf t) .work ≡ 0 → RunsAs (ran t room budget) (run (modeOf t) (missesNow t) n (bookOf t) (workOf t))
 unfolding ran
 ran-matches n t room budget m low h l z =
     let e : budget ≡ n + (budget - n) = omega arith in

@@ -10,12 +10,12 @@ use borrow.Author.Tests.{ltb-false, eq-eqb}
 use Rattle.octets.proofs.Bools.{split, not-both}
 use Rattle.matching.specs.declared.Order.{Order}
 use Rattle.matching.specs.declared.Event.{Event}
-use Rattle.matching.specs.declared.Event.the-variants.{Accepted, Replaced, Withdrawn, Canceled, Decremented, Traded, Expired}
+use Rattle.matching.specs.declared.Event.the-variants.{Accepted, Replaced, Withdrawn, Canceled, Decremented, Traded, Killed, Expired}
 use Rattle.matching.specs.Matching.{Book, at, openOf, sameOwner, who, after}
 use Rattle.matching.specs.Held.{In}
 use Rattle.matching.specs.Happens.{moves, Fit, Fits}
 use Rattle.matching.proofs.Events.{Terms, change-terms, after-every, after-other, length-after}
-use Rattle.matching.proofs.Steps.{Pair, Meeting, trade, newest, oldest, equal, less, more, Stepped, rests, expires, matched, step-fits}
+use Rattle.matching.proofs.Steps.{Pair, Meeting, trade, newest, oldest, equal, less, more, Stepped, rests, kills, expires, matched, step-fits}
 use Rattle.promises.proofs.Tells.{Apart, Exact}
 
 abbrev pub Exacts : Book → List Event → Type 0
@@ -42,6 +42,7 @@ module _ (b : Book) (e : Event) (f : Fit b e) where
   exact-after (Canceled n q) m d x = rw (after-other b e f n d) x
   exact-after (Decremented n q) m d x = rw (after-other b e f n d) x
   exact-after (Traded n k q l) m d x = apart-after n k x
+  exact-after (Killed n q) m d x = rw (after-other b e f n d) x
   exact-after (Expired n q) m d x = rw (after-other b e f n d) x
 
 -- ---- two owners
@@ -67,5 +68,6 @@ module _ (b : Book) (w r : ℕ) (i : In b w) (p : Pair b w r) where
 
 pub step-exact : (b : Book) (w v : ℕ) {es : List Event} → In b w → Stepped b w es v → Exacts b es
 step-exact b w v i (rests z t) = tt
-step-exact b w v i (expires z t h) = (refl, tt)
+step-exact b w v i (kills h) = (refl, tt)
+step-exact b w v i (expires z h) = (refl, tt)
 step-exact b w v i (matched p m) = meeting-exact b w _ i p (step-fits b w w i (matched p m)) m

@@ -3,7 +3,7 @@
 -- to an account; Exacts: events of a step; Leads: reports lead from table to table; Playing: events with their reports;
 -- Running: those of Run; Requested: the book after a request; Submitting: the report of Submit; Opening: an opened table;
 -- Histories: calls in turn; Telling: each report tells what it is of; Agreeing: steps against matching; Depths: levels add up;
--- Spending: steps left; Kept: from the first table on.
+-- Spending: steps left; Putting: what Submit puts in work; Minimums: what becomes of a minimum; Kept: from the first table on.
 pub mod Tells
 pub mod Exacts
 pub mod Leads
@@ -17,6 +17,8 @@ pub mod Telling
 pub mod Agreeing
 pub mod Depths
 pub mod Spending
+pub mod Putting
+pub mod Minimums
 pub mod Kept
 pub mod Theorems
 pub mod Cases

@@ -14,14 +14,15 @@ use Rattle.decimal.specs.Canonical.{bare, bareOf, exactlyOf, amountOf, fixedOf}
 use Rattle.decimal.specs.Reading.{isDigit, digitOf, runOf, numberAfter, isNumber, numOf, digitAt, isFraction, fractionOf, sizeOf, levelOf, isTimeLength, twoAt, timeShaped, timeRanged, isTime}
 use Rattle.fix.specs.Fields.{isText as isFieldText, startsTag, leading, tagOf, valueFrom, valueLen, fieldOf, fieldsAfter, fieldsFrom, stepOf, findTag, valueOf, hasTag, repeats, cleanFields, lastTagOr}
 use Rattle.fix.specs.Garbled.{headedBy, ordered, headerRight, partOf, endOf, tenAt, lengthTrue, sumOf, checkSum, sumTrue, garbledMessage, bodyPart, headOf, frameOf}
-use Rattle.request.specs.Asks.{bodyOf, saidIn, lengthIn, refusalOf, termsIn, requestIn, completed, bodyAsked, headAsked, askedOf}
-use Rattle.request.specs.Session.{kindOf, oneOf, belongs, listed, shapeOf, charSays, lookAs, judge, firstFailing, firstMissing}
-use Rattle.matching.specs.Matching.{openOf, meets, better, faces, sameOwner, sumOver, countOf, choose, best, partner, prevention, meeting, ending, outcome, preventing, causes, change, happens, workAfter, opposed, opposedTo}
-use Rattle.table.specs.Changes.{played, stepEvents, numbered, stepped, entered}
+use Rattle.request.specs.Asks.{bodyOf, saidIn, lengthIn, hasIn, refusalOf, termsIn, requestIn, completed, agreed, bodyAsked, headAsked, askedOf}
+use Rattle.request.specs.Session.{kindOf, oneOf, belongs, listed, shapeOf, charSays, lookAs, judge, firstFailing, firstMissing, minimumClashes, firstClashing}
+use Rattle.matching.specs.Matching.{openOf, meets, better, faces, sameOwner, sumOver, countOf, choose, best, partner, prevention, meeting, ending, outcome, preventing, causes, change, happens, workAfter, after, play, run, minimumOf, wouldTrade, misses, decidedAfter, opposed, opposedTo}
+use Rattle.matching.specs.Held.{mayMinimum}
+use Rattle.table.specs.Changes.{played, missesNow, stepEvents, stepWork, numbered, stepped, entered}
 use Rattle.table.specs.Heading.{entries, entryOf, isListed, modeOf, mpidBytes}
-use Rattle.table.specs.Market.{every, isPadded, isText, hasLength, hasNames, isEntry, hasList, hasSettings, hasNext, hasWork, hasSpare, restZero, isCapacity, isClass, isRecord, isRanged, isKnown, isWithin, isShut, isPriced, isOrder, hasOrders, isFreshId, hasIds, isFreshPlace, hasPlaces, isDone, noIoc, isClear, noCross, hasNumbers, isBook, isMarket}
+use Rattle.table.specs.Market.{every, isPadded, isText, hasLength, hasNames, isEntry, hasList, hasSettings, hasNext, hasWork, hasSpare, restZero, isCapacity, isClass, isRecord, isRanged, isKnown, isWithin, isShut, isPriced, isOrder, hasOrders, isFreshId, hasIds, isFreshPlace, hasPlaces, isDone, noIoc, isClear, noCross, hasNumbers, isBook, hasDecision, isMarket}
 use Rattle.table.specs.Opened.{isName, isNew, isGiven, areGiven, areNames, areSettings, namedTable, freshTable, isOpening, opened}
-use Rattle.table.specs.Orders.{orderAt, filled, ordersFrom, bookOf, idIndex, recordWith, termBytes, amountBytes, fieldBytes, recordOf, applied, accepted}
+use Rattle.table.specs.Orders.{orderAt, filled, ordersFrom, bookOf, idIndex, recordWith, termBytes, amountBytes, tailBytes, fieldBytes, recordOf, applied, accepted}
 use Rattle.calls.specs.Checks.{holder, newStands}
 use Rattle.calls.specs.Submit.{newTaken, submitted}
 use Rattle.report.specs.Fields.{label, written, fieldBytes as writtenField}
@@ -40,7 +41,7 @@ use Rattle.promises.specs.Tallies.{Account, noted, accountFrom, accountO
 
 -- open all definitions: those that the calls compute with, and those of reports and of what is told from them
 computes : ℕ
-unfolding leAt bytesOf put partAt textAt textBytes sameBytes allZero allUpTo firstFrom decimal places plain fixed shareOf meanOf bare bareOf exactlyOf amountOf fixedOf isDigit digitOf runOf numberAfter isNumber numOf digitAt isFraction fractionOf sizeOf levelOf isTimeLength twoAt timeShaped timeRanged isTime isFieldText startsTag leading tagOf valueFrom valueLen fieldOf fieldsAfter fieldsFrom stepOf findTag valueOf hasTag repeats cleanFields lastTagOr headedBy ordered headerRight partOf endOf tenAt lengthTrue sumOf checkSum sumTrue garbledMessage bodyPart headOf frameOf bodyOf saidIn lengthIn refusalOf termsIn requestIn completed bodyAsked headAsked askedOf kindOf oneOf belongs listed shapeOf charSays lookAs judge firstFailing firstMissing openOf meets better faces sameOwner sumOver countOf choose best partner prevention meeting ending outcome preventing causes change happens workAfter opposed opposedTo played stepEvents numbered stepped entered entries entryOf isListed modeOf mpidBytes every isPadded isText hasLength hasNames isEntry hasList hasSettings hasNext hasWork hasSpare restZero isCapacity isClass isRecord isRanged isKnown isWithin isShut isPriced isOrder hasOrders isFreshId hasIds isFreshPlace hasPlaces isDone noIoc isClear noCross hasNumbers isBook isMarket isName isNew isGiven areGiven areNames areSettings namedTable freshTable isOpening opened orderAt filled ordersFrom bookOf idIndex recordWith termBytes amountBytes fieldBytes recordOf applied accepted holder newStands newTaken submitted joined eventReport eventReports stepReports worked ran tableAfter reportsAfter
+unfolding leAt bytesOf put partAt textAt textBytes sameBytes allZero allUpTo firstFrom decimal places plain fixed shareOf meanOf bare bareOf exactlyOf amountOf fixedOf isDigit digitOf runOf numberAfter isNumber numOf digitAt isFraction fractionOf sizeOf levelOf isTimeLength twoAt timeShaped timeRanged isTime isFieldText startsTag leading tagOf valueFrom valueLen fieldOf fieldsAfter fieldsFrom stepOf findTag valueOf hasTag repeats cleanFields lastTagOr headedBy ordered headerRight partOf endOf tenAt lengthTrue sumOf checkSum sumTrue garbledMessage bodyPart headOf frameOf bodyOf saidIn lengthIn hasIn refusalOf termsIn requestIn completed agreed bodyAsked headAsked askedOf kindOf oneOf belongs listed shapeOf charSays lookAs judge firstFailing firstMissing minimumClashes firstClashing openOf meets better faces sameOwner sumOver countOf choose best partner prevention meeting ending outcome preventing causes change happens workAfter after play run minimumOf wouldTrade misses decidedAfter mayMinimum opposed opposedTo played missesNow stepEvents stepWork numbered stepped entered entries entryOf isListed modeOf mpidBytes every isPadded isText hasLength hasNames isEntry hasList hasSettings hasNext hasWork hasSpare restZero isCapacity isClass isRecord isRanged isKnown isWithin isShut isPriced isOrder hasOrders isFreshId hasIds isFreshPlace hasPlaces isDone noIoc isClear noCross hasNumbers isBook hasDecision isMarket isName isNew isGiven areGiven areNames areSettings namedTable freshTable isOpening opened orderAt filled ordersFrom bookOf idIndex recordWith termBytes amountBytes tailBytes fieldBytes recordOf applied accepted holder newStands newTaken submitted joined eventReport eventReports stepReports worked ran tableAfter reportsAfter
 computes = 0
 
 tells : ℕ

@@ -11,7 +11,7 @@ use borrow.Author.Tests.{eqb-true, eqb-false, eq-eqb}
 use Rattle.octets.proofs.Bools.{split, or-r}
 use Rattle.matching.specs.declared.Order.{Order}
 use Rattle.matching.specs.declared.Event.{Event}
-use Rattle.matching.specs.declared.Event.the-variants.{Accepted, Replaced, Withdrawn, Canceled, Decremented, Traded, Expired}
+use Rattle.matching.specs.declared.Event.the-variants.{Accepted, Replaced, Withdrawn, Canceled, Decremented, Traded, Killed, Expired}
 use Rattle.matching.specs.Matching.{Book, at, isBuy, who, change, after, play}
 use Rattle.matching.specs.Held.{In, Sound, Ready, Readies}
 use Rattle.matching.specs.Accounts.{trades, bought as boughtBy, sold as soldBy}
@@ -73,6 +73,7 @@ traded-one r (Withdrawn n q) o m s t = rw (t .kind) (sym (nought (eqb (o .side) 
 traded-one r (Canceled n q) o m s t = rw (t .kind) (sym (nought (eqb (o .side) s)))
 traded-one r (Decremented n q) o m s t = rw (t .kind) (sym (nought (eqb (o .side) s)))
 traded-one r (Traded n k q l) o m s t = rw (t .side, t .executed, t .kind)
+traded-one r (Killed n q) o m s t = rw (t .kind) (sym (nought (eqb (o .side) s)))
 traded-one r (Expired n q) o m s t = rw (t .kind) (sym (nought (eqb (o .side) s)))
 
 not-self : (r : Reading) (n k q l : ℕ) (o : Order) (m : ℕ) → Tells r (Traded n k q l) o m → (o .mpid ≡ m → o .mpid ≡ 0) → isSelfTrade r ≡ false
@@ -153,6 +154,7 @@ module _ (c : Book) (t : List ℕ) (e : Event) (long : length t ≡ tableBytes) 
       let p = owner-then n i in
       let v = owner-then k (z .inside) in
       not-self (readOf rep) n k a l _ _ y (λ h. p ∙ z .owners (sym p ∙ h ∙ v))
+  fair-by (Killed n a) q y z = rw (y .kind)
   fair-by (Expired n a) q y z = rw (y .kind)
 
   pub fair-then : isSelfTrade (readOf rep) ≡ false

@@ -13,6 +13,7 @@ use Rattle.matching.specs.declared.Order.{Order}
 use Rattle.matching.specs.declared.Event.the-variants.{Accepted, Replaced, Withdrawn}
 use Rattle.matching.specs.Matching.{Book, at, put as putOrder, openOf, change, after}
 use Rattle.matching.specs.Held.{In, Ready, Enters, Renews}
+use Rattle.matching.proofs.Sounds.{minimum-most}
 use Rattle.table.specs.Places.{tableBytes}
 use Rattle.table.specs.Heading.{nextOf, isListed, putWork}
 use Rattle.table.specs.Orders.{orderAt, filled, bookOf, putId, putTerms, applied, withdrawn, replaced, accepted}
@@ -51,6 +52,7 @@ enters-sized t n o m a =
           split (eqb (o .mpid) 0)
           (λ z. omega (arith, eqb-true (o .mpid) 0 z))
           (λ z. omega (arith, listed-small t (o .mpid) (m .settings) (or-r (eqb (o .mpid) 0) (isListed t (o .mpid)) (a .owned) z)));
+      minqty = omega (arith, minimum-most o s, s .qty-high);
     }
 
 module _ (t clOrdId account : List ℕ) (capacity class : ℕ) (o : Order) (m : Market t) (g : Named t clOrdId) (few : length account ≤ 10)

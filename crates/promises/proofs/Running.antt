@@ -6,14 +6,14 @@ use Prim.Native.Nat.{ℕ, zero, suc, _-_, _≤_}
 use lib.Dec.{ltb}
 use lib.ListN.{length}
 use Rattle.octets.proofs.Bools.{split}
-use Rattle.matching.specs.Matching.{Book, at, play, workAfter}
+use Rattle.matching.specs.Matching.{Book, at, play}
 use Rattle.matching.proofs.Steps.{Stepped, step-is}
 use Rattle.matching.proofs.Fair.{step-fair, fair-balanced}
 use Rattle.table.specs.Heading.{nextOf, workOf, modeOf}
 use Rattle.table.specs.Orders.{bookOf}
 use Rattle.table.specs.Market.{isMarket}
 use Rattle.table.specs.Facts.{Market}
-use Rattle.table.specs.Changes.{stepEvents, stepped}
+use Rattle.table.specs.Changes.{missesNow, stepEvents, stepWork, stepped}
 use Rattle.table.proofs.Facts.{market-facts}
 use Rattle.table.proofs.Kept.{stepped-kept}
 use Rattle.table.proofs.Applied.{fits-move}
@@ -31,9 +31,9 @@ abbrev pub StepTells : List ℕ → Type 0
 StepTells t = TellsAll t (nextOf t) (stepEvents t)
 
 module _ (t : List ℕ) (m : Market t) (l : 1 ≤ workOf t) (tells : StepTells t) where
-  shape : Stepped (bookOf t) (workOf t) (stepEvents t) (workAfter (bookOf t) (workOf t))
-  unfolding stepEvents
-  shape = step-is (modeOf t) (bookOf t) (workOf t)
+  shape : Stepped (bookOf t) (workOf t) (stepEvents t) (stepWork t)
+  unfolding stepEvents stepWork
+  shape = step-is (modeOf t) (missesNow t) (bookOf t) (workOf t)
 
   follows : Follows (bookOf t) t (nextOf t) (stepEvents t)
   follows =

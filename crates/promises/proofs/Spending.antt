@@ -11,13 +11,13 @@ use Rattle.octets.proofs.Bools.{split, not-both}
 use Rattle.matching.specs.declared.Event.{Event}
 use Rattle.matching.specs.Matching.{Book, metBy, play}
 use Rattle.matching.specs.Held.{In}
-use Rattle.matching.proofs.Steps.{Stepped, rests, expires, matched, step-is, step-fits}
+use Rattle.matching.proofs.Steps.{Stepped, rests, kills, expires, matched, step-is, step-fits}
 use Rattle.matching.proofs.Ends.{left, left-most, match-less}
 use Rattle.table.specs.Heading.{workOf, modeOf}
 use Rattle.table.specs.Orders.{bookOf}
 use Rattle.table.specs.Market.{isMarket}
 use Rattle.table.specs.Facts.{Market}
-use Rattle.table.specs.Changes.{stepped}
+use Rattle.table.specs.Changes.{missesNow, stepWork, stepped}
 use Rattle.table.proofs.Facts.{market-facts}
 use Rattle.table.proofs.Kept.{stepped-kept}
 use Rattle.calls.specs.Told.{joined, roomAsked}
@@ -33,17 +33,19 @@ still b w = cond (eqb w 0) 0 (left b w + 1)
 
 shape-less : (b : Book) (w v : ℕ) {es : List Event} → In b w → Stepped b w es v → still (play b es) v + 1 ≤ left b w + 1
 shape-less b w v i (rests z t) = omega arith
-shape-less b w v i (expires z t h) = omega arith
+shape-less b w v i (kills h) = omega arith
+shape-less b w v i (expires z h) = omega arith
 shape-less b w v i (matched p m) =
     let n : w ≡ 0 → ⊥ = λ e. omega (arith, i .low) in
     rw (ne-eqb w 0 n) (omega (arith, match-less b w _ (step-fits b w w i (matched p m)) p m))
 
 module _ (t : List ℕ) (m : Market t) (l : 1 ≤ workOf t) where
   step-less : still (bookOf (stepped t)) (workOf (stepped t)) + 1 ≤ still (bookOf t) (workOf t)
+  unfolding stepWork
   step-less =
       let n : workOf t ≡ 0 → ⊥ = λ e. omega arith in
       rw (step-book t m l, step-work t m l, ne-eqb (workOf t) 0 n)
-      (shape-less (bookOf t) (workOf t) _ (in-work t m l) (step-is (modeOf t) (bookOf t) (workOf t)))
+      (shape-less (bookOf t) (workOf t) _ (in-work t m l) (step-is (modeOf t) (missesNow t) (bookOf t) (workOf t)))
 
 worked-less : (n : ℕ) (t : List ℕ) (room : ℕ) → Market t
     → worked n t room .steps + still (bookOf (worked n t room .table)) (workOf (worked n t room .table)) ≤ still (bookOf t) (workOf t)

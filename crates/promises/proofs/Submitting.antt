@@ -18,7 +18,7 @@ use Rattle.request.specs.declared.Asked.the-variants.{Garbled, Refused, Enters,
 use Rattle.decimal.proofs.Times.{time-short}
 use Rattle.matching.specs.declared.Order.{Order}
 use Rattle.matching.specs.declared.Event.{Event}
-use Rattle.matching.specs.declared.Event.the-variants.{Accepted, Replaced, Withdrawn, Canceled, Decremented, Traded, Expired}
+use Rattle.matching.specs.declared.Event.the-variants.{Accepted, Replaced, Withdrawn, Canceled, Decremented, Traded, Killed, Expired}
 use Rattle.matching.specs.Matching.{Book, at, openOf, who, change, after}
 use Rattle.matching.proofs.Books.{length-put, length-put-new}
 use Rattle.table.specs.Heading.{nextOf}
@@ -51,6 +51,7 @@ isAsked (Withdrawn n q) = true
 isAsked (Canceled n q) = false
 isAsked (Decremented n q) = false
 isAsked (Traded n m q l) = false
+isAsked (Killed n q) = false
 isAsked (Expired n q) = false
 
 asked-traded : (e : Event) (r : Reading) (o : Order) (m s : ℕ) → isAsked e ≡ true → Tells r e o m → tradedFor s r ≡ 0
@@ -60,6 +61,7 @@ asked-traded (Withdrawn n q) r o m s a t = traded-one r _ o m s t ∙ nought (eq
 asked-traded (Canceled n q) r o m s a t = absurd (not-both a refl)
 asked-traded (Decremented n q) r o m s a t = absurd (not-both a refl)
 asked-traded (Traded n k q l) r o m s a t = absurd (not-both a refl)
+asked-traded (Killed n q) r o m s a t = absurd (not-both a refl)
 asked-traded (Expired n q) r o m s a t = absurd (not-both a refl)
 
 asked-fair : (e : Event) (r : Reading) (o : Order) (m : ℕ) → isAsked e ≡ true → Tells r e o m → isSelfTrade r ≡ false
@@ -70,6 +72,7 @@ asked-fair (Withdrawn n q) r o m a t = rw (t .kind)
 asked-fair (Canceled n q) r o m a t = absurd (not-both a refl)
 asked-fair (Decremented n q) r o m a t = absurd (not-both a refl)
 asked-fair (Traded n k q l) r o m a t = absurd (not-both a refl)
+asked-fair (Killed n q) r o m a t = absurd (not-both a refl)
 asked-fair (Expired n q) r o m a t = absurd (not-both a refl)
 
 -- the event's order is in the book after it

@@ -20,7 +20,7 @@ use Rattle.request.proofs.Requests.{enters-right}
 use Rattle.request.proofs.Saying.{enters-spelt, replaces-spelt, cancels-spelt}
 use Rattle.request.proofs.Refusals.{refused-spelt}
 use Rattle.matching.specs.declared.Event.{Event}
-use Rattle.matching.specs.declared.Event.the-variants.{Accepted, Replaced, Withdrawn, Canceled, Decremented, Traded, Expired}
+use Rattle.matching.specs.declared.Event.the-variants.{Accepted, Replaced, Withdrawn, Canceled, Decremented, Traded, Killed, Expired}
 use Rattle.matching.specs.Matching.{openOf}
 use Rattle.matching.specs.Accounts.{trades}
 use Rattle.table.specs.Heading.{nextOf, workOf, isListed}
@@ -59,6 +59,7 @@ quantity-told (Withdrawn n q) = refl
 quantity-told (Canceled n q) = refl
 quantity-told (Decremented n q) = refl
 quantity-told (Traded n m q l) = refl
+quantity-told (Killed n q) = refl
 quantity-told (Expired n q) = refl
 
 legible-tells : (t message : List ℕ) (n : ℕ) (c : Cause) (e : Event) → Legible t message n c e → TellsOn t e (ticketOf t message n c e)

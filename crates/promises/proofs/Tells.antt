@@ -42,6 +42,7 @@ told-read (event.Withdrawn n q) = refl
 told-read (event.Canceled n q) = refl
 told-read (event.Decremented n q) = refl
 told-read (event.Traded n m q l) = refl
+told-read (event.Killed n q) = refl
 told-read (event.Expired n q) = refl
 
 pub tells-read : (r : Reading) (e : Event) (o : Order) (m : ℕ) → Tells r e o m → isRefused (r .kind) ≡ false
@@ -62,6 +63,7 @@ Exact b (event.Withdrawn n q) = q ≡ openOf (at b n)
 Exact b (event.Canceled n q) = q ≡ openOf (at b n)
 Exact b (event.Decremented n q) = q ≤ openOf (at b n)
 Exact b (event.Traded n m q l) = Apart b n m
+Exact b (event.Killed n q) = q ≡ openOf (at b n)
 Exact b (event.Expired n q) = q ≡ openOf (at b n)
 
 -- ---- the account of an order by its own amounts
@@ -97,6 +99,8 @@ module _ (b : Book) (r : Reading) (m : ℕ) where
       rw (t .reason) (same-account _ _ refl refl h refl (t .left))
   account-after (event.Traded n k q l) x t =
       same-account _ _ refl (ap (λ (y : ℕ). at b n .executed + y) (t .executed)) refl refl (t .left)
+  account-after (event.Killed n q) x t =
+      same-account _ _ refl refl refl (ap (λ (y : ℕ). at b n .canceled + y) (sym x)) (t .left)
   account-after (event.Expired n q) x t =
       same-account _ _ refl refl refl (ap (λ (y : ℕ). at b n .canceled + y) (sym x)) (t .left)
 

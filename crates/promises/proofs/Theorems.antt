@@ -4,7 +4,7 @@
 use mathlib.Core.Path.{_≡_}
 use mathlib.Core.Bool.{true}
 use mathlib.Core.List.{List}
-use mathlib.Core.Logic.{_≢_}
+use mathlib.Core.Logic.{_≢_, _⊎_}
 use Prim.Native.Nat.{ℕ, _+_, _*_, _≤_, _<_}
 use native.Mathlib.Nat.{le-trans}
 use Rattle.matching.specs.Matching.{openOf, metBy}
@@ -24,11 +24,14 @@ use Rattle.market.specs.Depth.{depthAnswer}
 use Rattle.intake.proofs.Theorems.{submit-keeps}
 use Rattle.promises.specs.History.{Call, tableAfter, reportsAfter, stepsAfter, noSubmit}
 use Rattle.promises.specs.Tallies.{blank, accountOf, bought, sold, selfTrades, unread}
+use Rattle.promises.specs.Minimums.{CanceledWhole, Reached}
 use Rattle.promises.specs.Whole.{openIn, ordersIn, overDepth}
 use Rattle.promises.proofs.Kept.{Told, after-market, after-told, account-adds, account-left, account-none, submit-found, run-found, depth-found, buys-above}
 use Rattle.promises.proofs.Depths.{totals-open, orders-open}
 use Rattle.promises.proofs.Agreeing.{ran-ends}
 use Rattle.promises.proofs.Spending.{steps-most}
+use Rattle.promises.proofs.Putting.{submitted-put}
+use Rattle.promises.proofs.Minimums.{minimum-put}
 
 module _ (before venue port code : List ℕ) (first : ℕ) (mpids modes : List ℕ) (taken : isOpening before venue port code first mpids modes ≡ true)
     (calls : List Call) where
@@ -112,6 +115,12 @@ module _ (before venue port code : List ℕ) (first : ℕ) (mpids modes : List �
     pub done-in-time : (area budget : ℕ) → 1024 * (met + 1) ≤ area → met + 1 ≤ budget
         → (workOf (ran after area budget .table) ≡ 0) × (runSteps (ran after area budget .answer) ≤ met + 1)
     done-in-time area budget = ran-ends after area budget (submit-keeps table message room a-market)
+
+    -- an order that it has put in work, where nothing was in work before: however its Runs divide the steps, when its work has ended it has
+    -- executed its minimum or more, or it was canceled whole by one report and no other order has changed since it was accepted
+    pub minimum-kept : workOf table ≡ 0 → 1 ≤ workOf after → (later : List Call) → noSubmit later ≡ true → workOf (tableAfter after later) ≡ 0
+        → CanceledWhole after (tableAfter after later) (reportsAfter after later) (workOf after) ⊎ Reached after (tableAfter after later) (workOf after)
+    minimum-kept idle some later = minimum-put after (submit-keeps table message room a-market) (submitted-put table message room idle) some later
 
     -- and takes no more than m + 1 steps in all, however its Runs divide them and whatever room each has
     pub steps-in-all : (later : List Call) → noSubmit later ≡ true → stepsAfter after later ≤ met + 1

@@ -1,6 +1,8 @@
 -- What the promises are about. A reader believes History: calls one after the other, the table and the reports after them; Tallies: what
--- a member tells from reports; Whole: all that is open, and what Depth's levels come to; Shown: what Run shows on a table.
+-- a member tells from reports; Whole: all that is open, and what Depth's levels come to; Shown: what Run shows on a table;
+-- Minimums: what becomes of an order with a minimum.
 pub mod History
 pub mod Tallies
 pub mod Whole
 pub mod Shown
+pub mod Minimums

@@ -4,7 +4,7 @@ use Prim.Native.Nat.{ℕ}
 use mathlib.Core.Path.{_≡_, ap}
 use mathlib.Core.List.{List}
 use Rattle.matching.specs.declared.Event.{Event}
-use Rattle.matching.specs.declared.Event.the-variants.{Accepted, Replaced, Withdrawn, Canceled, Decremented, Traded, Expired}
+use Rattle.matching.specs.declared.Event.the-variants.{Accepted, Replaced, Withdrawn, Canceled, Decremented, Traded, Killed, Expired}
 use Rattle.matching.specs.Matching.{who}
 use Rattle.report.specs.declared.Place.{Place}
 use Rattle.report.specs.declared.Kind.the-variants as kind
@@ -39,6 +39,7 @@ module _ (t message : List ℕ) (n : ℕ) where
       by (Decremented i q) s j h = replaced-is-read message t _ _ _ s j by-decrement
       by (Traded i m q l) s j h =
           trade-is-read message t _ _ _ s j (fill-right t message n i m q l (h .heading .number-low) (h .heading .number-high) (h .details))
+      by (Killed i q) s j h = canceled-is-read message t _ _ _ s j at-the-end
       by (Expired i q) s j h = canceled-is-read message t _ _ _ s j at-the-end
 
   -- the report of an event is read: its kind and the fields of its row
@@ -62,7 +63,9 @@ module _ (t message : List ℕ) (n : ℕ) where
           says-14 = o .says-14;
           says-151 = o .says-151;
           says-54 = o .says-54;
+          says-59 = o .says-59;
           says-109 = o .says-109;
+          says-110 = o .says-110;
           says-378 = a;
           says-32 = b;
           says-375 = d;
@@ -76,6 +79,7 @@ module _ (t message : List ℕ) (n : ℕ) where
     said (Canceled i q) j k s = told (Canceled i q) k (canceled-said r _ _ (j .order-right) prevented s) (s 378) (s 32) (s 375)
     said (Decremented i q) j k s = told (Decremented i q) k (replaced-said r _ _ (j .order-right) (decremented (shownOn t i)) s) (s 378) (s 32) (s 375)
     said (Traded i m q l) j k s = told (Traded i m q l) k (trade-said r _ _ (j .order-right) (fillOn t n i m q l) s) (s 378) (s 32) (s 375)
+    said (Killed i q) j k s = told (Killed i q) k (canceled-said r _ _ (j .order-right) expired s) (s 378) (s 32) (s 375)
     said (Expired i q) j k s = told (Expired i q) k (canceled-said r _ _ (j .order-right) expired s) (s 378) (s 32) (s 375)
 
   pub event-says : (c : Cause) (e : Event) → Legible t message n c e → SaysEvent t n e (readOf (ticketOf t message n c e))

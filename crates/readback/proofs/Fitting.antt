@@ -24,7 +24,7 @@ use Rattle.rows.specs.declared.Unchanged.{Unchanged}
 use Rattle.rows.specs.declared.Faulty.{Faulty}
 use Rattle.rows.specs.Rows.{text, requested, prevented, decremented, expired, header, figuresOf, padded, acceptedFields, acceptedRow, replacedFields, replacedRow, canceledFields, canceledRow, tradeFields, tradeRow, rejectedRow, cancelRejectRow, sessionRejectRow}
 use Rattle.readback.specs.Right.{TextRight, StampRight, ShownRight, ReplacedRight, replaced-on-request, by-decrement, CanceledRight, canceled-on-request, by-prevention, at-the-end, FillRight, RefusedRight, UnchangedRight, FaultyRight}
-use Rattle.readback.proofs.Takes.{Takes, char-takes, word-takes, number-takes, or-number-takes, or-nobody-takes, side-takes, tif-takes, replaced-takes, traded-takes, capacity-takes, class-takes, asked-side-takes, status-takes, listed-takes, refusal-takes, reason-takes, two-takes, fault-takes, text-takes, code-takes, time-takes, level-takes, mean-takes, average-takes, open-takes, executed-takes, quantity-takes}
+use Rattle.readback.proofs.Takes.{Takes, char-takes, word-takes, number-takes, or-number-takes, or-nobody-takes, side-takes, tif-takes, replaced-takes, traded-takes, capacity-takes, class-takes, asked-side-takes, status-takes, listed-takes, refusal-takes, reason-takes, two-takes, fault-takes, text-takes, code-takes, time-takes, level-takes, mean-takes, average-takes, open-takes, executed-takes, quantity-takes, least-takes}
 use Rattle.readback.proofs.Rowed.{all-fit}
 
 infixr 40 _&_
@@ -40,7 +40,7 @@ module _ (sent stored : List ℕ) where
   pub accepted-fits : (sum : ℕ) (s : Stamp) (o : Shown) → StampRight sent stored s → ShownRight sent stored o → Fits sent stored (trailer sum) (slotsOf Accepted) (padded (acceptedRow s o))
   unfolding acceptedSlots acceptedFields figuresOf header label decimal
   accepted-fits sum s o i j =
-      all-fit sent stored 9 sum (take 27 acceptedSlots) (acceptedRow s o) (kinds-proper Accepted) refl
+      all-fit sent stored 8 sum (take 28 acceptedSlots) (acceptedRow s o) (kinds-proper Accepted) refl
       (char-takes sent stored 56
       & number-takes sent stored 1 999999999 (s .number) (i .number-low) (i .number-high) (omega (arith, i .number-high))
       & text-takes sent stored 8 33 (s .venue) (i .venue-right)
@@ -63,7 +63,8 @@ module _ (sent stored : List ℕ) where
       & code-takes sent stored (o .code) (j .code-right)
       & tif-takes sent stored (o .order) (j .order-right)
       & time-takes sent stored (s .time) (i .time-right)
-      & or-number-takes sent stored (o .order .mpid) (j .mpid-right)
+      & or-number-takes sent stored 1 999999 (o .order .mpid) (omega arith) (j .mpid-right) (omega (arith, j .mpid-right))
+      & least-takes sent stored (o .order) (j .order-right)
       & char-takes sent stored 48
       & open-takes sent stored (o .order) (j .order-right)
       & listed-takes sent stored 9 9 9 9 9 9 9 9 9 (omega arith) refl
@@ -74,7 +75,7 @@ module _ (sent stored : List ℕ) where
   pub replaced-takes-fits : (sum : ℕ) (s : Stamp) (o : Shown) (w : Ground) → StampRight sent stored s → ShownRight sent stored o → Takes sent stored (shape.Text 32 32) (w .orig) → (w .reason ≡ Absent) ⊎ Takes sent stored (shape.Listed 100 100 100 100 100 100 100 100) (w .reason) → Fits sent stored (trailer sum) (slotsOf Replaced) (padded (replacedRow s o w))
   unfolding replacedSlots replacedFields figuresOf header label decimal
   replaced-takes-fits sum s o w i j a b =
-      all-fit sent stored 7 sum (take 29 replacedSlots) (replacedRow s o w) (kinds-proper Replaced) refl
+      all-fit sent stored 6 sum (take 30 replacedSlots) (replacedRow s o w) (kinds-proper Replaced) refl
       (char-takes sent stored 56
       & number-takes sent stored 1 999999999 (s .number) (i .number-low) (i .number-high) (omega (arith, i .number-high))
       & text-takes sent stored 8 33 (s .venue) (i .venue-right)
@@ -98,7 +99,8 @@ module _ (sent stored : List ℕ) where
       & code-takes sent stored (o .code) (j .code-right)
       & tif-takes sent stored (o .order) (j .order-right)
       & time-takes sent stored (s .time) (i .time-right)
-      & or-number-takes sent stored (o .order .mpid) (j .mpid-right)
+      & or-number-takes sent stored 1 999999 (o .order .mpid) (omega arith) (j .mpid-right) (omega (arith, j .mpid-right))
+      & least-takes sent stored (o .order) (j .order-right)
       & char-takes sent stored 53
       & open-takes sent stored (o .order) (j .order-right)
       & b
@@ -110,7 +112,7 @@ module _ (sent stored : List ℕ) where
   pub canceled-takes-fits : (sum : ℕ) (s : Stamp) (o : Shown) (w : Ground) → StampRight sent stored s → ShownRight sent stored o → (w .orig ≡ Absent) ⊎ Takes sent stored (shape.Text 32 32) (w .orig) → (w .reason ≡ Absent) ⊎ Takes sent stored (shape.Listed 99 100 100 100 100 100 100 100) (w .reason) → Fits sent stored (trailer sum) (slotsOf Canceled) (padded (canceledRow s o w))
   unfolding canceledSlots canceledFields figuresOf header label decimal
   canceled-takes-fits sum s o w i j a b =
-      all-fit sent stored 7 sum (take 29 canceledSlots) (canceledRow s o w) (kinds-proper Canceled) refl
+      all-fit sent stored 6 sum (take 30 canceledSlots) (canceledRow s o w) (kinds-proper Canceled) refl
       (char-takes sent stored 56
       & number-takes sent stored 1 999999999 (s .number) (i .number-low) (i .number-high) (omega (arith, i .number-high))
       & text-takes sent stored 8 33 (s .venue) (i .venue-right)
@@ -134,7 +136,8 @@ module _ (sent stored : List ℕ) where
       & code-takes sent stored (o .code) (j .code-right)
       & tif-takes sent stored (o .order) (j .order-right)
       & time-takes sent stored (s .time) (i .time-right)
-      & or-number-takes sent stored (o .order .mpid) (j .mpid-right)
+      & or-number-takes sent stored 1 999999 (o .order .mpid) (omega arith) (j .mpid-right) (omega (arith, j .mpid-right))
+      & least-takes sent stored (o .order) (j .order-right)
       & char-takes sent stored 52
       & open-takes sent stored (o .order) (j .order-right)
       & b
@@ -151,7 +154,7 @@ module _ (sent stored : List ℕ) where
       replaced-takes-fits sum s o (decremented o) i j (text-takes sent stored 32 32 (o .id) (j .id-right))
       (inr (listed-takes sent stored 100 100 100 100 100 100 100 100 100 (omega arith) refl))
 
-  -- Canceled, as requested, by prevention, or an IOC's rest
+  -- Canceled, as requested, by prevention, or an immediate order that was killed or whose rest expired
   pub canceled-fits : (sum : ℕ) (s : Stamp) (o : Shown) (w : Ground) → StampRight sent stored s → ShownRight sent stored o → CanceledRight sent stored w
       → Fits sent stored (trailer sum) (slotsOf Canceled) (padded (canceledRow s o w))
   canceled-fits sum s o w i j (canceled-on-request {orig} r) =
@@ -165,7 +168,7 @@ module _ (sent stored : List ℕ) where
   pub trade-fits : (sum : ℕ) (s : Stamp) (o : Shown) (f : Fill) → StampRight sent stored s → ShownRight sent stored o → FillRight f → Fits sent stored (trailer sum) (slotsOf Trade) (padded (tradeRow s o f))
   unfolding tradeSlots tradeFields figuresOf header label decimal
   trade-fits sum s o f i j k =
-      all-fit sent stored 3 sum (take 33 tradeSlots) (tradeRow s o f) (kinds-proper Trade) refl
+      all-fit sent stored 2 sum (take 34 tradeSlots) (tradeRow s o f) (kinds-proper Trade) refl
       (char-takes sent stored 56
       & number-takes sent stored 1 999999999 (s .number) (i .number-low) (i .number-high) (omega (arith, i .number-high))
       & text-takes sent stored 8 33 (s .venue) (i .venue-right)
@@ -190,7 +193,8 @@ module _ (sent stored : List ℕ) where
       & code-takes sent stored (o .code) (j .code-right)
       & tif-takes sent stored (o .order) (j .order-right)
       & time-takes sent stored (s .time) (i .time-right)
-      & or-number-takes sent stored (o .order .mpid) (j .mpid-right)
+      & or-number-takes sent stored 1 999999 (o .order .mpid) (omega arith) (j .mpid-right) (omega (arith, j .mpid-right))
+      & least-takes sent stored (o .order) (j .order-right)
       & traded-takes sent stored (o .order)
       & open-takes sent stored (o .order) (j .order-right)
       & number-takes sent stored 0 999999 (f .other) (omega arith) (k .other-right) (omega (arith, k .other-right))

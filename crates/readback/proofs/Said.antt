@@ -9,6 +9,7 @@ use borrow.Author.Tests.{eqb-true, le-leb}
 use Rattle.octets.proofs.Bools.{split, or-r}
 use Rattle.decimal.specs.Reading.{isDigit}
 use Rattle.matching.specs.declared.Order.{Order}
+use Rattle.matching.specs.Matching.{isImmediate}
 use Rattle.matching.specs.Held.{Sound}
 use Rattle.report.specs.declared.Value.{Value}
 use Rattle.report.specs.declared.Value.the-variants.{Absent, Number, Char, Word, Sent, Stored, Level, Mean}
@@ -66,10 +67,23 @@ pub or-number-says : (n : ℕ) → numberOf (orNumber n) ≡ n
 unfolding orNumber
 or-number-says n = split (eqb n 0) (λ e. rw e (sym (eqb-true n 0 e))) (λ e. rw e)
 
+tif-small : (o : Order) → Sound o → o .tif < 10
+tif-small o h =
+    split (eqb (o .tif) 0)
+    (λ e. omega (arith, eqb-true (o .tif) 0 e))
+    (λ e.
+    let i = or-r (eqb (o .tif) 0) (isImmediate o) (h .tifs) e in
+    split (eqb (o .tif) 3)
+    (λ f. omega (arith, eqb-true (o .tif) 3 f))
+    (λ f. omega (arith, eqb-true (o .tif) 4 (or-r (eqb (o .tif) 3) (eqb (o .tif) 4) i f))))
+
 pub side-says : (o : Order) → Sound o → numberOf (digit (o .side)) ≡ o .side
 side-says o h =
     digit-says (o .side)
     (split (eqb (o .side) 1) (λ e. omega (arith, eqb-true (o .side) 1 e)) (λ e. omega (arith, eqb-true (o .side) 2 (or-r (eqb (o .side) 1) (eqb (o .side) 2) (h .sides) e))))
+
+pub tif-says : (o : Order) → Sound o → numberOf (digit (o .tif)) ≡ o .tif
+tif-says o h = digit-says (o .tif) (tif-small o h)
 
 -- ---- by kind
 module _ (r : Reading) (s : Stamp) (o : Shown) (h : Sound (o .order)) where
@@ -84,7 +98,9 @@ module _ (r : Reading) (s : Stamp) (o : Shown) (h : Sound (o .order)) where
         says-14 = e 14;
         says-151 = e 151;
         says-54 = e 54 ∙ side-says (o .order) h;
+        says-59 = e 59 ∙ tif-says (o .order) h;
         says-109 = e 109 ∙ or-number-says (o .order .mpid);
+        says-110 = e 110 ∙ or-number-says (o .order .minqty);
       }
 
   pub replaced-said : (w : Ground) → ((tag : ℕ) → says tag r ≡ saysIn tag (replacedRow s o w)) → SaysOrder r s o
@@ -98,7 +114,9 @@ module _ (r : Reading) (s : Stamp) (o : Shown) (h : Sound (o .order)) where
         says-14 = e 14;
         says-151 = e 151;
         says-54 = e 54 ∙ side-says (o .order) h;
+        says-59 = e 59 ∙ tif-says (o .order) h;
         says-109 = e 109 ∙ or-number-says (o .order .mpid);
+        says-110 = e 110 ∙ or-number-says (o .order .minqty);
       }
 
   pub canceled-said : (w : Ground) → ((tag : ℕ) → says tag r ≡ saysIn tag (canceledRow s o w)) → SaysOrder r s o
@@ -112,7 +130,9 @@ module _ (r : Reading) (s : Stamp) (o : Shown) (h : Sound (o .order)) where
         says-14 = e 14;
         says-151 = e 151;
         says-54 = e 54 ∙ side-says (o .order) h;
+        says-59 = e 59 ∙ tif-says (o .order) h;
         says-109 = e 109 ∙ or-number-says (o .order .mpid);
+        says-110 = e 110 ∙ or-number-says (o .order .minqty);
       }
 
   pub trade-said : (f : Fill) → ((tag : ℕ) → says tag r ≡ saysIn tag (tradeRow s o f)) → SaysOrder r s o
@@ -126,7 +146,9 @@ module _ (r : Reading) (s : Stamp) (o : Shown) (h : Sound (o .order)) where
         says-14 = e 14;
         says-151 = e 151;
         says-54 = e 54 ∙ side-says (o .order) h;
+        says-59 = e 59 ∙ tif-says (o .order) h;
         says-109 = e 109 ∙ or-number-says (o .order .mpid);
+        says-110 = e 110 ∙ or-number-says (o .order .minqty);
       }
 
   pub fill-said : (f : Fill) → ((tag : ℕ) → says tag r ≡ saysIn tag (tradeRow s o f)) → SaysFill r f

@@ -18,8 +18,9 @@ use Rattle.decimal.proofs.Digits.{decimal-few}
 use Rattle.decimal.proofs.Means.{mean-range}
 use Rattle.decimal.proofs.RoundTrip.{bare-back, fixed-back}
 use Rattle.matching.specs.declared.Order.{Order}
-use Rattle.matching.specs.Matching.{openOf}
+use Rattle.matching.specs.Matching.{openOf, isImmediate}
 use Rattle.matching.specs.Held.{Sound}
+use Rattle.matching.proofs.Sounds.{minimum-most}
 use Rattle.table.specs.Market.{isCapacity, isClass}
 use Rattle.report.specs.declared.Value.{Value}
 use Rattle.report.specs.declared.Value.the-variants.{Absent, Number, Char, Word, Sent, Stored, Level, Mean}
@@ -87,12 +88,12 @@ module _ (sent stored : List ℕ) where
   pub number-takes : (least most n : ℕ) → least ≤ n → n ≤ most → n < 10 ^ 9 → Takes sent stored (shape.Range least most) (Number n)
   number-takes least most n l h f = record { here = refl; picked = λ place. ap numberIn (within-back least most n l h f) }
 
-  -- an MPID, or none
-  pub or-number-takes : (n : ℕ) → n ≤ 999999 → (orNumber n ≡ Absent) ⊎ Takes sent stored (shape.Range 1 999999) (orNumber n)
+  -- an MPID or a MinQty, or none
+  pub or-number-takes : (least most n : ℕ) → least ≤ 1 → n ≤ most → n < 10 ^ 9 → (orNumber n ≡ Absent) ⊎ Takes sent stored (shape.Range least most) (orNumber n)
   unfolding orNumber
-  or-number-takes n h =
+  or-number-takes least most n l h f =
       split (eqb n 0) (λ e. rw e (inl refl))
-      (λ e. rw e (inr (number-takes 1 999999 n (omega (arith, eqb-false n 0 e)) h (omega arith))))
+      (λ e. rw e (inr (number-takes least most n (omega (arith, l, eqb-false n 0 e)) h f)))
 
   -- an order's record, or NONE
   not-none : (n : ℕ) → 1 ≤ n → n ≤ 255 → sameBytes (decimal n) (78 ∷ 79 ∷ 78 ∷ 69 ∷ []) ≡ false
@@ -131,10 +132,11 @@ module _ (sent stored : List ℕ) where
       either (Digit (shape.OneOf 49 50 50 50 50)) (o .side) 1 2 (h .sides)
       (one-digit 49 50 50 50 50 1 (omega arith) refl) (one-digit 49 50 50 50 50 2 (omega arith) refl)
 
-  pub tif-takes : (o : Order) → Sound o → Digit (shape.OneOf 48 51 51 51 51) (o .tif)
+  pub tif-takes : (o : Order) → Sound o → Digit (shape.OneOf 48 51 52 52 52) (o .tif)
   tif-takes o h =
-      either (Digit (shape.OneOf 48 51 51 51 51)) (o .tif) 0 3 (h .tifs)
-      (one-digit 48 51 51 51 51 0 (omega arith) refl) (one-digit 48 51 51 51 51 3 (omega arith) refl)
+      split (eqb (o .tif) 0) (λ t. rw (eqb-true (o .tif) 0 t) (one-digit 48 51 52 52 52 0 (omega arith) refl))
+      (λ t. either (Digit (shape.OneOf 48 51 52 52 52)) (o .tif) 3 4 (or-r (eqb (o .tif) 0) (isImmediate o) (h .tifs) t)
+      (one-digit 48 51 52 52 52 3 (omega arith) refl) (one-digit 48 51 52 52 52 4 (omega arith) refl))
 
   -- 39 of Replaced and of a Trade
   pub replaced-takes : (o : Order) → Digit (shape.OneOf 49 53 53 53 53) (replacedStatus o)
@@ -307,3 +309,8 @@ module _ (sent stored : List ℕ) where
 
   pub quantity-takes : (o : Order) → Sound o → Takes sent stored (shape.Range 0 999999999) (Number (o .qty))
   quantity-takes o h = number-takes 0 999999999 (o .qty) (omega arith) (omega (arith, h .qty-high)) (omega (arith, h .qty-high))
+
+  pub least-takes : (o : Order) → Sound o → (orNumber (o .minqty) ≡ Absent) ⊎ Takes sent stored (shape.Range 0 999999999) (orNumber (o .minqty))
+  least-takes o h =
+      let m = minimum-most o h in
+      or-number-takes 0 999999999 (o .minqty) (omega arith) (omega (arith, m, h .qty-high)) (omega (arith, m, h .qty-high))

@@ -45,13 +45,13 @@ module _ (sent stored : List ℕ) where
 
   pub accepted-is-read : (s : Stamp) (o : Shown) → StampRight sent stored s → ShownRight sent stored o → Reads Accepted (acceptedRow s o)
   unfolding acceptedFields header figuresOf label decimal executionFor
-  accepted-is-read s o i j = execution-read sent stored (acceptedRow s o) Accepted 23 48 (λ sum. accepted-fits sent stored sum s o i j) refl refl refl refl refl
+  accepted-is-read s o i j = execution-read sent stored (acceptedRow s o) Accepted 24 48 (λ sum. accepted-fits sent stored sum s o i j) refl refl refl refl refl
 
   pub replaced-is-read : (s : Stamp) (o : Shown) (w : Ground) → StampRight sent stored s → ShownRight sent stored o → ReplacedRight sent stored o w
       → Reads Replaced (replacedRow s o w)
   unfolding replacedFields header figuresOf label decimal executionFor
   replaced-is-read s o w i j k =
-      execution-read sent stored (replacedRow s o w) Replaced 24 53 (λ sum. replaced-fits sent stored sum s o w i j k) refl refl refl refl refl
+      execution-read sent stored (replacedRow s o w) Replaced 25 53 (λ sum. replaced-fits sent stored sum s o w i j k) refl refl refl refl refl
 
   one-ground : (s : Stamp) (o : Shown) (w : Ground) → CanceledRight sent stored w → oneReason (padded (canceledRow s o w)) ≡ true
   unfolding canceledFields header figuresOf oneReason
@@ -63,7 +63,7 @@ module _ (sent stored : List ℕ) where
       → Reads Canceled (canceledRow s o w)
   unfolding canceledFields header figuresOf label decimal executionFor
   canceled-is-read s o w i j k =
-      execution-read sent stored (canceledRow s o w) Canceled 24 52 (λ sum. canceled-fits sent stored sum s o w i j k) refl refl refl refl (one-ground s o w k)
+      execution-read sent stored (canceledRow s o w) Canceled 25 52 (λ sum. canceled-fits sent stored sum s o w i j k) refl refl refl refl (one-ground s o w k)
 
   trade-status : (o : Order) → executionFor (48 + tradeStatus o % 10) ≡ Trade
   unfolding tradeStatus executionFor
@@ -72,7 +72,7 @@ module _ (sent stored : List ℕ) where
   pub trade-is-read : (s : Stamp) (o : Shown) (f : Fill) → StampRight sent stored s → ShownRight sent stored o → FillRight f → Reads Trade (tradeRow s o f)
   unfolding tradeFields header figuresOf digit label decimal
   trade-is-read s o f i j k =
-      execution-read sent stored (tradeRow s o f) Trade 25 (48 + tradeStatus (o .order) % 10) (λ sum. trade-fits sent stored sum s o f i j k) refl refl refl
+      execution-read sent stored (tradeRow s o f) Trade 26 (48 + tradeStatus (o .order) % 10) (λ sum. trade-fits sent stored sum s o f i j k) refl refl refl
       (trade-status (o .order)) refl
 
   pub rejected-is-read : (s : Stamp) (q : Rejection) → StampRight sent stored s → RefusedRight sent stored q → Reads Rejected (rejectedRow s q)
@@ -124,7 +124,7 @@ module _ (sent stored : List ℕ) where
       fill-said (readingAs (tradeRow s o f)) s o (j .order-right) f
       (row-says sent stored Trade (tradeRow s o f) (readingAs (tradeRow s o f)) (trade-is-read s o f i j k))
 
-  -- 378: absent unless the order was canceled or decremented by prevention, or is an IOC's rest
+  -- 378: absent unless the order was canceled or decremented by prevention, was killed, or is an immediate order's rest
   pub accepted-says-378 : (s : Stamp) (o : Shown) → StampRight sent stored s → ShownRight sent stored o → says 378 (readingAs (acceptedRow s o)) ≡ 0
   unfolding acceptedFields header figuresOf
   accepted-says-378 s o i j = row-says sent stored Accepted (acceptedRow s o) (readingAs (acceptedRow s o)) (accepted-is-read s o i j) 378

@@ -67,7 +67,7 @@ module _ (sent stored : List ℕ) where
     pub venue-right : TextRight 8 33 (s .venue)
     pub port-right : TextRight 8 33 (s .port)
 
-  -- ---- an order; it has an account or none, and MPID 0 is none
+  -- ---- an order; it has an account or none, MPID 0 is none, and so is MinQty 0
   pub record ShownRight (o : Shown) : Type 0 where
     pub orderid-low : 1 ≤ o .orderid
     pub orderid-high : o .orderid ≤ 255
@@ -84,7 +84,7 @@ module _ (sent stored : List ℕ) where
     replaced-on-request : {orig : Value} → IdRight orig → ReplacedRight o (requested orig)
     by-decrement : ReplacedRight o (decremented o)
 
-  -- ---- 41 and 378 of Canceled: requested, by prevention, or an IOC's rest
+  -- ---- 41 and 378 of Canceled: requested, by prevention, or an immediate order that was killed or whose rest expired
   pub data CanceledRight : Ground → Type 0 where
     canceled-on-request : {orig : Value} → IdRight orig → CanceledRight (requested orig)
     by-prevention : CanceledRight prevented

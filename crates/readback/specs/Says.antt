@@ -36,7 +36,8 @@ saysIn tag (f ∷ fs) = cond (eqb (f .tag) tag) (numberOf (f .value)) (saysIn ta
 unfoldable pub says : ℕ → Reading → ℕ
 says tag r = saysIn tag (r .fields)
 
--- ---- what the report of an order says of it: 34 and 17, 37, 38, 14, 151, 54 and 109, which is 0 where it has no MPID
+-- ---- what the report of an order says of it: 34 and 17, 37, 38, 14, 151, 54, 59, 109, which is 0 where it has no MPID, and 110, which
+-- is 0 where it has no MinQty
 pub record SaysOrder (r : Reading) (s : Stamp) (o : Shown) : Type 0 where
   pub says-34 : says 34 r ≡ s .number
   pub says-17 : says 17 r ≡ s .number
@@ -45,7 +46,9 @@ pub record SaysOrder (r : Reading) (s : Stamp) (o : Shown) : Type 0 where
   pub says-14 : says 14 r ≡ o .order .executed
   pub says-151 : says 151 r ≡ openOf (o .order)
   pub says-54 : says 54 r ≡ o .order .side
+  pub says-59 : says 59 r ≡ o .order .tif
   pub says-109 : says 109 r ≡ o .order .mpid
+  pub says-110 : says 110 r ≡ o .order .minqty
 
 -- what a Trade says of its fill: 32, 375, 851 and 880
 pub record SaysFill (r : Reading) (f : Fill) : Type 0 where

@@ -1,10 +1,11 @@
--- What the report of an event says when it is read (document 01, "The reports"; Demand 3 takes its tallies from these): its kind, and
--- the numbers of the order after the event, with 32 and 375 of a trade and 378 of what prevention or an IOC's end did. Assumes nothing.
+-- What the report of an event says when it is read (document 01, "The reports", from which Demand 3 takes its tallies; document 02,
+-- T-05): its kind, and the numbers of the order after the event, with 32 and 375 of a trade and 378 of what prevention, a minimum that
+-- is not reached or the end of an immediate order did. Assumes nothing.
 use Prim.Native.Nat.{ℕ}
 use mathlib.Core.Path.{_≡_}
 use mathlib.Core.List.{List}
 use Rattle.matching.specs.declared.Event.{Event}
-use Rattle.matching.specs.declared.Event.the-variants.{Accepted, Replaced, Withdrawn, Canceled, Decremented, Traded, Expired}
+use Rattle.matching.specs.declared.Event.the-variants.{Accepted, Replaced, Withdrawn, Canceled, Decremented, Traded, Killed, Expired}
 use Rattle.matching.specs.Matching.{openOf, who}
 use Rattle.table.specs.Orders.{orderAt}
 use Rattle.report.specs.declared.Kind.{Kind}
@@ -21,9 +22,10 @@ kindTold (Withdrawn i q) = kind.Canceled
 kindTold (Canceled i q) = kind.Canceled
 kindTold (Decremented i q) = kind.Replaced
 kindTold (Traded i m q l) = kind.Trade
+kindTold (Killed i q) = kind.Canceled
 kindTold (Expired i q) = kind.Canceled
 
--- its 378: 100 by prevention, 99 for an IOC's rest, 0 where it is absent
+-- its 378: 100 by prevention, 99 for an order killed for want of its minimum and for an immediate order's rest, 0 where it is absent
 abbrev pub reasonTold : Event → ℕ
 reasonTold (Accepted i o) = 0
 reasonTold (Replaced i l q p) = 0
@@ -31,6 +33,7 @@ reasonTold (Withdrawn i q) = 0
 reasonTold (Canceled i q) = 100
 reasonTold (Decremented i q) = 100
 reasonTold (Traded i m q l) = 0
+reasonTold (Killed i q) = 99
 reasonTold (Expired i q) = 99
 
 -- its 32, what was traded: 0 where nothing was
@@ -41,6 +44,7 @@ quantityTold (Withdrawn i q) = 0
 quantityTold (Canceled i q) = 0
 quantityTold (Decremented i q) = 0
 quantityTold (Traded i m q l) = q
+quantityTold (Killed i q) = 0
 quantityTold (Expired i q) = 0
 
 -- its 375, the other's MPID in a trade, 0 for none
@@ -51,6 +55,7 @@ otherTold t (Withdrawn i q) = 0
 otherTold t (Canceled i q) = 0
 otherTold t (Decremented i q) = 0
 otherTold t (Traded i m q l) = orderAt t m .mpid
+otherTold t (Killed i q) = 0
 otherTold t (Expired i q) = 0
 
 -- report number n of event e, the table after it being t
@@ -63,7 +68,9 @@ pub record SaysEvent (t : List ℕ) (n : ℕ) (e : Event) (r : Reading) : Type 0
   pub says-14 : says 14 r ≡ orderAt t (who e) .executed
   pub says-151 : says 151 r ≡ openOf (orderAt t (who e))
   pub says-54 : says 54 r ≡ orderAt t (who e) .side
+  pub says-59 : says 59 r ≡ orderAt t (who e) .tif
   pub says-109 : says 109 r ≡ orderAt t (who e) .mpid
+  pub says-110 : says 110 r ≡ orderAt t (who e) .minqty
   pub says-378 : says 378 r ≡ reasonTold e
   pub says-32 : says 32 r ≡ quantityTold e
   pub says-375 : says 375 r ≡ otherTold t e

@@ -270,7 +270,7 @@ module _ (sent stored : List ℕ) where
   unfolding oneReason
   agreed-back Accepted at fs = refl
   agreed-back Replaced at fs = refl
-  agreed-back Canceled at fs = rw (backs-absent at 16 fs, backs-absent at 26 fs)
+  agreed-back Canceled at fs = rw (backs-absent at 16 fs, backs-absent at 27 fs)
   agreed-back Trade at fs = refl
   agreed-back Rejected at fs = refl
   agreed-back CancelReject at fs = refl

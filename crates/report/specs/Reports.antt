@@ -93,9 +93,9 @@ kindOf s = kindFor (firstOf s 35) (firstOf s 150)
 
 -- ---- the whole
 
--- exactly one of 41, the 17th field of a Canceled, and 378, its 27th, is there
+-- exactly one of 41, the 17th field of a Canceled, and 378, its 28th, is there
 unfoldable pub oneReason : List Field → Bool
-oneReason fs = cond (isAbsent (getD fs 16 (field 0 Absent) .value)) (not (isAbsent (getD fs 26 (field 0 Absent) .value))) (isAbsent (getD fs 26 (field 0 Absent) .value))
+oneReason fs = cond (isAbsent (getD fs 16 (field 0 Absent) .value)) (not (isAbsent (getD fs 27 (field 0 Absent) .value))) (isAbsent (getD fs 27 (field 0 Absent) .value))
 
 -- the fields that stand are those of one way of writing the kind
 abbrev pub agreed : Kind → List Field → Bool

@@ -1,6 +1,6 @@
 -- The seven kinds of reports as tables of slots, in the order in which their fields stand: the tag, whether the field may be
--- missing, what its value may be. From sections 7.2 and 7.5.1 to 7.5.4 of source document 000, without 110 and 797, and document
--- 01, "The reports". Assumes nothing.
+-- missing, what its value may be. From sections 7.2 and 7.5.1 to 7.5.4 of source document 000, without 797, document 01, "The
+-- reports", and document 02, T-05. Assumes nothing.
 use Prim.Native.Nat.{ℕ}
 use Prim.Native.String.{String}
 use mathlib.Core.Bool.{Bool, true, false}
@@ -56,14 +56,15 @@ acceptedSlots =
     ∷ always 47 (oneOf "AP")
     ∷ always 54 (oneOf "12")
     ∷ always 55 shape.Digits
-    ∷ always 59 (oneOf "03")
+    ∷ always 59 (oneOf "034")
     ∷ always 60 shape.Time
     ∷ maybe 109 (shape.Range 1 999999)
+    ∷ maybe 110 (shape.Range 0 999999999)
     ∷ always 150 (oneOf "0")
     ∷ always 151 (shape.Range 0 999999999)
     ∷ always 423 (shape.Listed 9 9 9 9 9 9 9 9)
     ∷ always 8060 (oneOf "13456")
-    ∷ replicate 9 unused)
+    ∷ replicate 8 unused)
 
 -- 7.5.2, Order Replaced: requested, or a decrement with 378
 unfoldable pub replacedSlots : List Slot
@@ -84,15 +85,16 @@ replacedSlots =
     ∷ always 47 (oneOf "AP")
     ∷ always 54 (oneOf "12")
     ∷ always 55 shape.Digits
-    ∷ always 59 (oneOf "03")
+    ∷ always 59 (oneOf "034")
     ∷ always 60 shape.Time
     ∷ maybe 109 (shape.Range 1 999999)
+    ∷ maybe 110 (shape.Range 0 999999999)
     ∷ always 150 (oneOf "5")
     ∷ always 151 (shape.Range 0 999999999)
     ∷ maybe 378 (shape.Listed 100 100 100 100 100 100 100 100)
     ∷ always 423 (shape.Listed 9 9 9 9 9 9 9 9)
     ∷ always 8060 (oneOf "13456")
-    ∷ replicate 7 unused)
+    ∷ replicate 6 unused)
 
 -- 7.5.3, Order Canceled: requested with 41, else with 378
 unfoldable pub canceledSlots : List Slot
@@ -113,15 +115,16 @@ canceledSlots =
     ∷ always 47 (oneOf "AP")
     ∷ always 54 (oneOf "12")
     ∷ always 55 shape.Digits
-    ∷ always 59 (oneOf "03")
+    ∷ always 59 (oneOf "034")
     ∷ always 60 shape.Time
     ∷ maybe 109 (shape.Range 1 999999)
+    ∷ maybe 110 (shape.Range 0 999999999)
     ∷ always 150 (oneOf "4")
     ∷ always 151 (shape.Range 0 999999999)
     ∷ maybe 378 (shape.Listed 99 100 100 100 100 100 100 100)
     ∷ always 423 (shape.Listed 9 9 9 9 9 9 9 9)
     ∷ always 8060 (oneOf "13456")
-    ∷ replicate 7 unused)
+    ∷ replicate 6 unused)
 
 -- 7.5.4, Trade
 unfoldable pub tradeSlots : List Slot
@@ -143,9 +146,10 @@ tradeSlots =
     ∷ always 47 (oneOf "AP")
     ∷ always 54 (oneOf "12")
     ∷ always 55 shape.Digits
-    ∷ always 59 (oneOf "03")
+    ∷ always 59 (oneOf "034")
     ∷ always 60 shape.Time
     ∷ maybe 109 (shape.Range 1 999999)
+    ∷ maybe 110 (shape.Range 0 999999999)
     ∷ always 150 (oneOf "12")
     ∷ always 151 (shape.Range 0 999999999)
     ∷ always 375 (shape.Range 0 999999)
@@ -154,7 +158,7 @@ tradeSlots =
     ∷ always 851 (shape.Listed 1 2 2 2 2 2 2 2)
     ∷ always 880 (shape.Range 1 999999999)
     ∷ always 8060 (oneOf "13456")
-    ∷ replicate 3 unused)
+    ∷ replicate 2 unused)
 
 -- an order rejected, 103 saying why
 unfoldable pub rejectedSlots : List Slot

@@ -199,7 +199,7 @@ fn one_reason(fields: [Field; 36]) -> bool
     ensures { λ r. ⌜ r ≡ oneReason fields ⌝ }
 {
     let f = fields[16];
-    let g = fields[26];
+    let g = fields[27];
     let orig = f.value;
     let restated = g.value;
     let b = is_absent(restated);

@@ -177,9 +177,9 @@ fn accepted_slots() -> [Slot; 36]
             shape: Shape::OneOf {
                 a: 48,
                 b: 51,
-                c: 51,
-                d: 51,
-                e: 51,
+                c: 52,
+                d: 52,
+                e: 52,
             },
         },
         Slot {
@@ -193,6 +193,14 @@ fn accepted_slots() -> [Slot; 36]
             shape: Shape::Range {
                 least: 1,
                 most: 999999,
+            },
+        },
+        Slot {
+            tag: 110,
+            optional: true,
+            shape: Shape::Range {
+                least: 0,
+                most: 999999999,
             },
         },
         Slot {
@@ -239,7 +247,6 @@ fn accepted_slots() -> [Slot; 36]
                 e: 54,
             },
         },
-        unused,
         unused,
         unused,
         unused,
@@ -428,9 +435,9 @@ fn replaced_slots() -> [Slot; 36]
             shape: Shape::OneOf {
                 a: 48,
                 b: 51,
-                c: 51,
-                d: 51,
-                e: 51,
+                c: 52,
+                d: 52,
+                e: 52,
             },
         },
         Slot {
@@ -444,6 +451,14 @@ fn replaced_slots() -> [Slot; 36]
             shape: Shape::Range {
                 least: 1,
                 most: 999999,
+            },
+        },
+        Slot {
+            tag: 110,
+            optional: true,
+            shape: Shape::Range {
+                least: 0,
+                most: 999999999,
             },
         },
         Slot {
@@ -504,7 +519,6 @@ fn replaced_slots() -> [Slot; 36]
                 e: 54,
             },
         },
-        unused,
         unused,
         unused,
         unused,
@@ -691,9 +705,9 @@ fn canceled_slots() -> [Slot; 36]
             shape: Shape::OneOf {
                 a: 48,
                 b: 51,
-                c: 51,
-                d: 51,
-                e: 51,
+                c: 52,
+                d: 52,
+                e: 52,
             },
         },
         Slot {
@@ -707,6 +721,14 @@ fn canceled_slots() -> [Slot; 36]
             shape: Shape::Range {
                 least: 1,
                 most: 999999,
+            },
+        },
+        Slot {
+            tag: 110,
+            optional: true,
+            shape: Shape::Range {
+                least: 0,
+                most: 999999999,
             },
         },
         Slot {
@@ -767,7 +789,6 @@ fn canceled_slots() -> [Slot; 36]
                 e: 54,
             },
         },
-        unused,
         unused,
         unused,
         unused,
@@ -962,9 +983,9 @@ fn trade_slots() -> [Slot; 36]
             shape: Shape::OneOf {
                 a: 48,
                 b: 51,
-                c: 51,
-                d: 51,
-                e: 51,
+                c: 52,
+                d: 52,
+                e: 52,
             },
         },
         Slot {
@@ -978,6 +999,14 @@ fn trade_slots() -> [Slot; 36]
             shape: Shape::Range {
                 least: 1,
                 most: 999999,
+            },
+        },
+        Slot {
+            tag: 110,
+            optional: true,
+            shape: Shape::Range {
+                least: 0,
+                most: 999999999,
             },
         },
         Slot {
@@ -1068,7 +1097,6 @@ fn trade_slots() -> [Slot; 36]
                 e: 54,
             },
         },
-        unused,
         unused,
         unused,
     ]

@@ -1,4 +1,5 @@
--- From the rows to the answer: the smallest missing tag, the request, and the session rejects before them.
+-- From the rows to the answer: the first tag that clashes, the smallest that is missing, the request, and the session rejects
+-- before them.
 use Prim.Native.Nat.{ℕ, zero, suc, _+_, _-_, _^_, _≤_, _<_}
 use mathlib.Core.Path.{_≡_, refl, sym, ap, subst, _∙_}
 use mathlib.Core.List.{List, [], _∷_}
@@ -6,7 +7,7 @@ use mathlib.Core.Bool.{Bool, true, false, cond, not, _&&_, _||_}
 use native.Mathlib.Omega.{arith}
 use native.Mathlib.Nat.{suc-ne-zero}
 use native.Mathlib.Numerals.{add-one}
-use lib.Dec.{eqb}
+use lib.Dec.{ltb, eqb}
 use lib.ListN.{length, getD, set, take, drop, replicate, length-take, length-drop, drop-of-length-le}
 use lib.Seq.{drop-cons}
 use borrow.Author.Tests.{eq-eqb, ne-eqb, eqb-true, eqb-false, not-true, not-false}
@@ -28,9 +29,9 @@ use Rattle.request.specs.declared.Verdict.{Verdict}
 use Rattle.request.specs.declared.Terms.{Terms}
 use Rattle.request.specs.declared.Asked.{Asked}
 use Rattle.request.specs.declared.Asked.the-variants.{Garbled, Refused, Enters, Replaces, Cancels}
-use Rattle.request.specs.Session.{kindOf, needed, optional, oneOf, belongs, listed, judge, orElse, firstFailing, firstMissing}
-use Rattle.request.specs.Asks.{lengthFound, saidIn, lengthIn, textIn, termsIn, requestIn, refusalOf, completed, afterBody, bodyAsked, isKnown, bodyOf, headAsked, askedOf}
-use Rattle.request.specs.Gathers.{slot, Starts, Admitted, keptSays, keptLens, Gathered, Walked, firstUnset, textRow, termsRow, requestRow, completedRow}
+use Rattle.request.specs.Session.{kindOf, needed, optional, oneOf, belongs, listed, judge, orElse, firstFailing, minimumClashes, firstClashing, firstMissing}
+use Rattle.request.specs.Asks.{lengthFound, saidIn, lengthIn, hasIn, textIn, termsIn, requestIn, refusalOf, completed, agreed, afterBody, bodyAsked, isKnown, bodyOf, headAsked, askedOf}
+use Rattle.request.specs.Gathers.{slots, slot, Starts, Admitted, keptSays, keptLens, Gathered, Walked, firstUnset, rowAt, hasRow, textRow, termsRow, requestRow, completedRow, agreedRow}
 use Rattle.request.proofs.Keys.{eachIs}
 use Rattle.request.proofs.Gathering.{says-means}
 
@@ -57,13 +58,14 @@ abbrev pub Unset : List ℕ → List ℕ → ℕ → Type 0
 Unset ts lens i = (i ≤ length ts) × (firstUnset ts lens ≡ firstUnset (drop i ts) lens)
 
 module _ (ts lens : List ℕ) (i : ℕ) (inv : Unset ts lens i) where
-  pub unset-here : i < length ts → getD lens (slot (getD ts i 0)) 0 ≡ 0 → getD ts i 0 ≡ firstUnset ts lens
-  unfolding firstUnset
-  unset-here h e = rw (inv .1, drop-cons ts i 0, eq-eqb (getD lens (slot (getD ts i 0)) 0) 0 e)
+  module _ (h : i < length ts) (x : ℕ) (ex : x ≡ getD lens (slot (getD ts i 0)) 0) where
+    pub unset-here : x ≡ 0 → getD ts i 0 ≡ firstUnset ts lens
+    unfolding firstUnset
+    unset-here e = rw (inv .1, drop-cons ts i 0, eq-eqb (getD lens (slot (getD ts i 0)) 0) 0 (sym ex ∙ e))
 
-  pub unset-more : i < length ts → (getD lens (slot (getD ts i 0)) 0 ≡ 0 → ⊥) → Unset ts lens (i + 1)
-  unfolding firstUnset
-  unset-more h e = (omega arith, rw (inv .1, drop-cons ts i 0, ne-eqb (getD lens (slot (getD ts i 0)) 0) 0 e, add-one))
+    pub unset-more : (x ≡ 0 → ⊥) → Unset ts lens (i + 1)
+    unfolding firstUnset
+    unset-more e = (omega arith, rw (inv .1, drop-cons ts i 0, ne-eqb (getD lens (slot (getD ts i 0)) 0) 0 (λ z. e (ex ∙ z)), add-one))
 
   pub unset-none : length ts ≤ i → 0 ≡ firstUnset ts lens
   unfolding firstUnset
@@ -75,6 +77,26 @@ unset-kind k l lens r e h = rw e h
 pub unset-unknown : (k : Kind) (lens : List ℕ) → k ≡ Unknown → 0 ≡ firstUnset (needed k) lens
 unfolding firstUnset
 unset-unknown k lens e = rw e
+
+-- ---- the first tag that clashes
+pub has-is : (lens : List ℕ) (t x : ℕ) → x ≡ rowAt lens t → not (eqb x 0) ≡ hasRow lens t
+unfolding hasRow
+has-is lens t x e = rw e
+
+pub minimum-is : (says lens : List ℕ) (a b c : Bool) (x y z : ℕ) → a ≡ hasRow lens 110 → b ≡ hasRow lens 59 → c ≡ hasRow lens 38
+    → x ≡ rowAt says 110 → y ≡ rowAt says 59 → z ≡ rowAt says 38
+    → (a && ((b && (eqb y 0 || eqb y 4)) || (c && ltb z x))) ≡ minimumClashes (hasRow lens) (rowAt says)
+unfolding minimumClashes
+minimum-is says lens a b c x y z ea eb ec ex ey ez = rw (ea, eb, ec, ex, ey, ez)
+
+module _ (says lens : List ℕ) (a : Bool) (e : a ≡ minimumClashes (hasRow lens) (rowAt says)) where
+  pub clash-minimum : a ≡ true → 110 ≡ firstClashing (hasRow lens) (rowAt says)
+  unfolding firstClashing
+  clash-minimum h = rw (← e, h)
+
+  pub clash-none : a ≡ false → 0 ≡ firstClashing (hasRow lens) (rowAt says)
+  unfolding firstClashing
+  clash-none h = rw (← e, h)
 
 -- ---- where the body passes, a tag has no length exactly if no field has it
 passes-first : (x : Judged) (t : ℕ) (rest : Verdict) → orElse x t rest ≡ Verdict.Passes → rest ≡ Verdict.Passes
@@ -121,7 +143,7 @@ module _ (k : Kind) (b : List ℕ) (from : ℕ) (says lens : List ℕ) (rows : G
 
   terms : termsRow says ≡ termsIn b from
   unfolding termsRow termsIn listed belongs oneOf
-  terms = rw (at 38 refl, at 44 refl, at 54 refl, at 59 refl, at 47 refl, at 8060 refl, at 109 refl)
+  terms = rw (at 38 refl, at 44 refl, at 54 refl, at 59 refl, at 47 refl, at 8060 refl, at 109 refl, at 110 refl)
 
   requests : (l : Kind) (h : Head) → requestRow l h says lens ≡ requestIn l h b from
   unfolding requestRow requestIn listed belongs oneOf
@@ -130,9 +152,25 @@ module _ (k : Kind) (b : List ℕ) (from : ℕ) (says lens : List ℕ) (rows : G
   requests Cancel h = rw (text 11 refl, text 41 refl, text 55 refl, at 54 refl)
   requests Unknown h = refl
 
+  has : (t : ℕ) → listed t ≡ true → hasRow lens t ≡ hasIn b t
+  unfolding hasRow hasIn lengthIn
+  has t h = rw (rows t h .1, length-has k b from t (fieldsOf b) passes) (twice (hasTag t (fieldsOf b)))
+    where
+      twice : (a : Bool) → not (not a) ≡ a
+      twice true = refl
+      twice false = refl
+
+  clashes : firstClashing (hasRow lens) (rowAt says) ≡ firstClashing (hasIn b) (saidIn b from)
+  unfolding firstClashing minimumClashes listed belongs oneOf
+  clashes = rw (has 110 refl, has 59 refl, has 38 refl, at 59 refl, at 38 refl, at 110 refl)
+
   complete : (h : Head) → completedRow k h says lens ≡ completed k h b from
   unfolding completedRow completed
   complete h = rw (unset-missing (needed k) (all-needed k), requests k h)
+
+  agree : (h : Head) → agreedRow k h says lens ≡ agreed k h b from
+  unfolding agreedRow agreed
+  agree h = rw (clashes, complete h)
 
 -- ---- the request of each type, by the rows
 module _ (k : Kind) (h : Head) (says lens : List ℕ) (id code : Part) (ei : id ≡ textRow says lens 11) (ec : code ≡ textRow says lens 55) where
@@ -165,16 +203,25 @@ module _ (k : Kind) (h : Head) (says lens : List ℕ) (t : ℕ) (e : t ≡ first
   unfolding completedRow
   completes-is z g = g ∙ rw (← e, eq-eqb t 0 z)
 
+module _ (k : Kind) (h : Head) (says lens : List ℕ) (t : ℕ) (e : t ≡ firstClashing (hasRow lens) (rowAt says)) (r : Asked) where
+  pub agrees-clash : (t ≡ 0 → ⊥) → r ≡ refusalOf h 5 t → r ≡ agreedRow k h says lens
+  unfolding agreedRow
+  agrees-clash d g = g ∙ rw (← e, ne-eqb t 0 d)
+
+  pub agrees-is : t ≡ 0 → r ≡ completedRow k h says lens → r ≡ agreedRow k h says lens
+  unfolding agreedRow
+  agrees-is z g = g ∙ rw (← e, eq-eqb t 0 z)
+
 module _ (k : Kind) (h : Head) (b x : List ℕ) (from : ℕ) (v : Verdict) (says lens : List ℕ) (eb : b ≡ x) (w : Walked k b from v says lens) (r : Asked) where
   pub decides-fails : (reason tag : ℕ) → v ≡ Verdict.Fails reason tag → r ≡ refusalOf h reason tag → r ≡ bodyAsked k h x from
   unfolding bodyAsked
   decides-fails reason tag g er = er ∙ rw (← eb) (rw (← w .verdict, g))
 
-  pub decides-passes : v ≡ Verdict.Passes → r ≡ completedRow k h says lens → r ≡ bodyAsked k h x from
+  pub decides-passes : v ≡ Verdict.Passes → r ≡ agreedRow k h says lens → r ≡ bodyAsked k h x from
   unfolding bodyAsked
-  decides-passes g er = er ∙ complete k b from says lens (w .rows g) (sym (w .verdict) ∙ g) h ∙ rw (← eb) (rw (← w .verdict, g))
+  decides-passes g er = er ∙ agree k b from says lens (w .rows g) (sym (w .verdict) ∙ g) h ∙ rw (← eb) (rw (← w .verdict, g))
 
-pub starts : (s v row : List ℕ) (start len : ℕ) → v ≡ partAt s start len → Held row start 7 (fieldsOf (partAt s start len)) → Starts v row start (replicate 28 0) (replicate 28 0)
+pub starts : (s v row : List ℕ) (start len : ℕ) → v ≡ partAt s start len → Held row start 7 (fieldsOf (partAt s start len)) → Starts v row start (replicate slots 0) (replicate slots 0)
 starts s v row start len e h = record { no-says = refl; no-lens = refl; held = rw e h }
 
 -- ---- the type

@@ -23,7 +23,7 @@ use Rattle.request.specs.declared.Judged.{Judged}
 use Rattle.request.specs.declared.Verdict.{Verdict}
 use Rattle.request.specs.Session.{needed, optional, oneOf, belongs, listed, shapeOf, lookAs, judge, orElse, firstFailing, firstMissing}
 use Rattle.request.specs.Asks.{numberSaid, saidFound, lengthFound, saidIn, lengthIn}
-use Rattle.request.specs.Gathers.{slot, Starts, keptSays, keptLens, Gathered, Walked, firstUnset}
+use Rattle.request.specs.Gathers.{slots, slot, Starts, keptSays, keptLens, Gathered, Walked, firstUnset}
 use Rattle.request.proofs.Keys.{eachIs, each-at}
 
 zeros : (n i : ℕ) → _≡_ {A = ℕ} (getD (replicate n 0) i 0) 0
@@ -33,7 +33,7 @@ zeros (suc n) (suc i) = zeros n i
 
 -- ---- the listed tags
 abbrev tags : List ℕ
-tags = 1 ∷ 11 ∷ 21 ∷ 38 ∷ 40 ∷ 41 ∷ 44 ∷ 47 ∷ 54 ∷ 55 ∷ 59 ∷ 60 ∷ 109 ∷ 8060 ∷ []
+tags = 1 ∷ 11 ∷ 21 ∷ 38 ∷ 40 ∷ 41 ∷ 44 ∷ 47 ∷ 54 ∷ 55 ∷ 59 ∷ 60 ∷ 109 ∷ 110 ∷ 8060 ∷ []
 
 in-tags : (ts : List ℕ) (t : ℕ) → eachIs (λ k. oneOf k tags) ts ≡ true → oneOf t ts ≡ true → oneOf t tags ≡ true
 in-tags ts t e o = each-at (λ k. oneOf k tags) ts t e o
@@ -144,8 +144,8 @@ says-means k b from f n q =
 
 -- ---- the invariant: the verdict on all is that on those left, and the rows hold what the fields before them say
 pub record Gathering (k : Kind) (b : List ℕ) (from : ℕ) (left : List Fld) (says lens : List ℕ) : Type 0 where
-  pub says-room : length says ≡ 28
-  pub lens-room : length lens ≡ 28
+  pub says-room : length says ≡ slots
+  pub lens-room : length lens ≡ slots
   pub verdict : firstFailing k b from (fieldsOf b) ≡ firstFailing k b from left
   pub fresh : (t : ℕ) → listed t ≡ true → getD lens (slot t) 0 ≡ 0 → (getD says (slot t) 0 ≡ 0) × (findTag t (fieldsOf b) ≡ findTag t left)
   pub held : (t : ℕ) → listed t ≡ true → (getD lens (slot t) 0 ≡ 0 → ⊥) → (getD says (slot t) 0 ≡ saidIn b from t) × (getD lens (slot t) 0 ≡ lengthIn b t)
@@ -165,8 +165,8 @@ gather-start k b row from says lens h =
         says-room = rw (h .no-says);
         lens-room = rw (h .no-lens);
         verdict = refl;
-        fresh = λ t l z. (rw (h .no-says) (zeros 28 (slot t)), refl);
-        held = λ t l z. absurd (z (rw (h .no-lens) (zeros 28 (slot t))));
+        fresh = λ t l z. (rw (h .no-says) (zeros slots (slot t)), refl);
+        held = λ t l z. absurd (z (rw (h .no-lens) (zeros slots (slot t))));
       };
     }
 

@@ -25,8 +25,8 @@ use Rattle.request.specs.declared.Verdict.{Verdict}
 use Rattle.request.specs.declared.Refusal.{Refusal}
 use Rattle.request.specs.declared.Asked.{Asked}
 use Rattle.request.specs.declared.Asked.the-variants.{Garbled, Refused, Enters, Replaces, Cancels}
-use Rattle.request.specs.Session.{kindOf, needed, oneOf, belongs, listed, Shape, Text, Digits, Amount, Yield, Time, Among, Unlisted, shapeOf, charSays, digitsAt, amountOf, levelSaid, lookAs, judge, orElse, firstFailing, firstMissing}
-use Rattle.request.specs.Asks.{bodyOf, requestIn, refusalOf, completed, afterBody, bodyAsked, isKnown, headAsked, askedOf}
+use Rattle.request.specs.Session.{kindOf, needed, oneOf, belongs, listed, Shape, Text, Digits, Amount, Yield, Time, Among, Unlisted, shapeOf, charSays, digitsAt, amountOf, levelSaid, lookAs, judge, orElse, firstFailing, minimumClashes, firstClashing, firstMissing}
+use Rattle.request.specs.Asks.{bodyOf, saidIn, hasIn, requestIn, refusalOf, completed, agreed, afterBody, bodyAsked, isKnown, headAsked, askedOf}
 use Rattle.request.proofs.Keys.{eachIs}
 
 -- the reasons for which a message is rejected
@@ -110,6 +110,11 @@ failing-named k b from [] = tt
 failing-named k b from (f ∷ fs) =
     named-first f fs (judge k b from f) (firstFailing k b from fs) (judge-reason k b from f) (named-more f fs (firstFailing k b from fs) (failing-named k b from fs))
 
+-- ---- a tag that clashes is one of those that are asked
+clashing-below : (has : ℕ → Bool) (says : ℕ → ℕ) → firstClashing has says ≤ 9999
+unfolding firstClashing
+clashing-below has says = by-cond (λ n. n ≤ 9999) (minimumClashes has says) 110 0 (λ y. omega arith) (λ n. omega arith)
+
 -- ---- a tag that is missing is one of those that are needed
 missing-below : (ts : List ℕ) (fs : List Fld) → eachIs (λ t. leb t 9999) ts ≡ true → firstMissing ts fs ≤ 9999
 unfolding eachIs firstMissing
@@ -155,12 +160,19 @@ module _ (s : List ℕ) (g : garbledMessage s ≡ false) where
       by-cond (Right s) (eqb t 0) _ _ (λ y. request-right k)
       (λ n. refusal-right 1 t refl (omega (arith, eqb-false t 0 n)) (missing-below (needed k) (fieldsOf (bodyOf s)) (needed-below k)))
 
+  agreed-right : (k : Kind) → Right s (agreed k (headOf s) (bodyOf s) (bodyPart s .start))
+  unfolding agreed oneOf
+  agreed-right k =
+      let t = firstClashing (hasIn (bodyOf s)) (saidIn (bodyOf s) (bodyPart s .start)) in
+      by-cond (Right s) (eqb t 0) _ _ (λ y. completed-right k)
+      (λ n. refusal-right 5 t refl (omega (arith, eqb-false t 0 n)) (clashing-below _ _))
+
   unbroken : hasTag 0 (fieldsOf (bodyOf s)) ≡ false
   unfolding bodyOf
   unbroken = body-unbroken s g
 
   after-right : (k : Kind) (v : Verdict) → Named (fieldsOf (bodyOf s)) v → Right s (afterBody k (headOf s) (bodyOf s) (bodyPart s .start) v)
-  after-right k Verdict.Passes w = completed-right k
+  after-right k Verdict.Passes w = agreed-right k
   after-right k (Verdict.Fails r t) w =
       let some : t ≡ 0 → ⊥ = λ e. not-both (w .1) (rw e unbroken) in
       refusal-right r t (w .0) (omega arith) (omega (arith, fields-below (bodyOf s) t (w .1)))

@@ -3,9 +3,12 @@
 use Prim.Native.Nat.{ℕ, zero, suc, _+_, _≤_, _<_}
 use mathlib.Core.Path.{_≡_, refl, sym, ap, subst, _∙_}
 use mathlib.Core.List.{List, [], _∷_}
-use mathlib.Core.Bool.{Bool, true, false}
+use mathlib.Core.Bool.{Bool, true, false, cond}
 use native.Mathlib.Omega.{arith}
 use native.Mathlib.Nat.{suc-ne-zero}
+use lib.Dec.{leb, eqb}
+use borrow.Author.Tests.{le-leb}
+use Rattle.octets.proofs.Bools.{split}
 use Rattle.fix.specs.declared.fields.Found.{Found}
 use Rattle.fix.specs.declared.fields.Found.the-variants.{At, Nothing}
 use Rattle.fix.specs.declared.frame.Head.{Head}
@@ -19,9 +22,10 @@ use Rattle.request.specs.declared.Replacement.{Replacement as Replacemen
 use Rattle.request.specs.declared.Cancellation.{Cancellation}
 use Rattle.request.specs.declared.Asked.{Asked}
 use Rattle.request.specs.declared.Asked.the-variants.{Enters, Replaces, Cancels}
-use Rattle.request.specs.Session.{kindOf, needed, oneOf, shapeOf, Text, firstFailing}
-use Rattle.request.specs.Asks.{bodyOf, saidIn, lengthIn, textIn, termsIn, requestIn, refusalOf, askedOf}
-use Rattle.request.proofs.Told.{Told, Stands, stands-told, needed-told, quantity-range, level-in, mpid-range, side-in, tif-in, capacity-in, class-in, text-in, Passed, request-passed}
+use Rattle.request.specs.Session.{kindOf, needed, oneOf, shapeOf, Text, firstFailing, firstClashing}
+use Rattle.request.specs.Asks.{bodyOf, saidIn, lengthIn, hasIn, textIn, termsIn, requestIn, refusalOf, askedOf}
+use Rattle.request.proofs.Clashes.{minimum-below, minimum-tif}
+use Rattle.request.proofs.Told.{Told, Stands, lacks-nothing, stands-told, needed-has, needed-told, quantity-range, level-in, mpid-range, minqty-range, side-in, tif-in, capacity-in, class-in, text-in, Passed, request-passed}
 
 -- 38 and 44 and 54, and the length of 11
 pub record Sized (quantity level side id : ℕ) : Type 0 where
@@ -64,10 +68,28 @@ module _ (b : List ℕ) (from : ℕ) (p : firstFailing NewOrder b from (fieldsOf
   mpid-by (At start len) e = mpid-range b from (stands-told NewOrder b from 109 p (record { start = start; len = len; at = e })) .1
   mpid-by Nothing e = rw e (omega arith)
 
+  minqty-by : (f : Found) → findTag 110 (fieldsOf b) ≡ f → saidIn b from 110 < 1000000000
+  unfolding saidIn
+  minqty-by (At start len) e = minqty-range b from (stands-told NewOrder b from 110 p (record { start = start; len = len; at = e })) .1
+  minqty-by Nothing e = rw e (omega arith)
+
   account-by : (f : Found) → findTag 1 (fieldsOf b) ≡ f → lengthIn b 1 ≤ 10
   unfolding lengthIn shapeOf oneOf
   account-by (At start len) e = text-in b from 1 10 (omega arith) refl (stands-told NewOrder b from 1 p (record { start = start; len = len; at = e })) .1
   account-by Nothing e = rw e (omega arith)
+
+-- a minimum goes with 59=3 and is not above 38; without one 110 says 0
+module _ (b : List ℕ) (from : ℕ) where
+  minqty-none : hasIn b 110 ≡ false → saidIn b from 110 ≡ 0
+  unfolding hasIn saidIn
+  minqty-none n = rw (lacks-nothing 110 (fieldsOf b) n)
+
+  minimum-by : firstClashing (hasIn b) (saidIn b from) ≡ 0 → hasIn b 59 ≡ true → hasIn b 38 ≡ true → oneOf (saidIn b from 59) (0 ∷ 3 ∷ 4 ∷ []) ≡ true
+      → cond (eqb (saidIn b from 59) 3) (leb (saidIn b from 110) (saidIn b from 38)) (eqb (saidIn b from 110) 0) ≡ true
+  minimum-by a tif quantity one =
+      split (hasIn b 110)
+      (λ y. rw (minimum-tif (hasIn b) (saidIn b from) a y tif quantity one) (le-leb _ _ (minimum-below (hasIn b) (saidIn b from) a y tif quantity)))
+      (λ n. rw (minqty-none n) (split (eqb (saidIn b from 59) 3) (λ y. rw y (le-leb 0 (saidIn b from 38) (omega arith))) (λ d. rw d)))
 
 -- 38, 44, 54 and 11 of a body that has them all
 sized-by : (b : List ℕ) (from : ℕ) → Told b from 38 → Told b from 44 → Told b from 54 → Told b from 11
@@ -88,10 +110,12 @@ sized-by b from q l s i =
 -- ---- a new order
 pub record NewRight (o : NewOrderAsked) : Type 0 where
   pub sized : Sized (o .terms .quantity) (o .terms .level) (o .terms .side) (o .id .len)
-  pub tif-is : oneOf (o .terms .tif) (0 ∷ 3 ∷ []) ≡ true
+  pub tif-is : oneOf (o .terms .tif) (0 ∷ 3 ∷ 4 ∷ []) ≡ true
   pub capacity-is : oneOf (o .terms .capacity) (65 ∷ 80 ∷ []) ≡ true
   pub class-is : oneOf (o .terms .class) (1 ∷ 3 ∷ 4 ∷ 5 ∷ 6 ∷ []) ≡ true
   pub mpid-high : o .terms .mpid < 1000000
+  pub minqty-high : o .terms .minqty < 1000000000
+  pub minqty-is : cond (eqb (o .terms .tif) 3) (leb (o .terms .minqty) (o .terms .quantity)) (eqb (o .terms .minqty) 0) ≡ true
   pub account-high : o .account .len ≤ 10
 
 new-right : (s : List ℕ) (o : NewOrderAsked) → Passed s NewOrder (Enters o) → NewRight o
@@ -100,6 +124,7 @@ new-right s o w =
     let b = bodyOf s in
     let from = bodyPart s .start in
     let told : (t : ℕ) → oneOf t (needed NewOrder) ≡ true → Told b from t = λ t m. needed-told NewOrder b from t (w .passes) (w .complete) m in
+    let has : (t : ℕ) → oneOf t (needed NewOrder) ≡ true → hasIn b t ≡ true = λ t m. needed-has NewOrder b t (w .complete) m in
     let q : record { time = headOf s .time; id = textIn b from 11; account = textIn b from 1; code = textIn b from 55; terms = termsIn b from } ≡ o = cc in
     rw (← q)
     (record {
@@ -108,6 +133,8 @@ new-right s o w =
       capacity-is = capacity-in b from (told 47 refl);
       class-is = class-in b from (told 8060 refl);
       mpid-high = mpid-by b from (w .passes) (findTag 109 (fieldsOf b)) refl;
+      minqty-high = minqty-by b from (w .passes) (findTag 110 (fieldsOf b)) refl;
+      minqty-is = minimum-by b from (w .agrees) (has 59 refl) (has 38 refl) (tif-in b from (told 59 refl));
       account-high = account-by b from (w .passes) (findTag 1 (fieldsOf b)) refl;
     })
 

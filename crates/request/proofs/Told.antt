@@ -10,7 +10,7 @@ use lib.Dec.{ltb, leb, eqb}
 use lib.ListN.{length, getD, take, drop, length-take, length-drop}
 use borrow.Author.Tests.{eq-eqb, ne-eqb, eqb-true, eqb-false, leb-true, not-true, not-false}
 use Rattle.octets.specs.Octets.{partAt, sameBytes}
-use Rattle.octets.proofs.Bools.{split, both-l, both-r, or-r, not-both}
+use Rattle.octets.proofs.Bools.{split, both-l, both-r, or-r, neither-l, neither-r, not-both}
 use Rattle.decimal.specs.declared.Said.{Said}
 use Rattle.decimal.specs.declared.Said.the-variants.{Value, Wrong}
 use Rattle.decimal.specs.Reading.{isDigit, numOf, levelOf}
@@ -27,8 +27,8 @@ use Rattle.request.specs.declared.Judged.{Judged}
 use Rattle.request.specs.declared.Verdict.{Verdict}
 use Rattle.request.specs.declared.Asked.{Asked}
 use Rattle.request.specs.declared.Asked.the-variants.{Garbled, Refused, Enters, Replaces, Cancels}
-use Rattle.request.specs.Session.{kindOf, needed, oneOf, Text, Digits, Amount, Yield, Time, Among, shapeOf, charSays, lookAs, judge, orElse, firstFailing, firstMissing}
-use Rattle.request.specs.Asks.{bodyOf, saidIn, lengthIn, requestIn, refusalOf, completed, afterBody, bodyAsked, isKnown, headAsked, askedOf}
+use Rattle.request.specs.Session.{kindOf, needed, oneOf, Text, Digits, Amount, Yield, Time, Among, shapeOf, charSays, lookAs, judge, orElse, firstFailing, firstClashing, firstMissing}
+use Rattle.request.specs.Asks.{bodyOf, saidIn, lengthIn, hasIn, requestIn, refusalOf, completed, agreed, afterBody, bodyAsked, isKnown, headAsked, askedOf}
 use Rattle.request.proofs.Keys.{eachIs, each-at}
 use Rattle.request.proofs.Gathering.{Means, says-means}
 
@@ -92,6 +92,12 @@ has-stands t [] h = absurd (not-both h refl)
 has-stands t (f ∷ fs) h =
     split (eqb (f .tag) t) (λ y. record { start = f .start; len = f .len; at = rw y })
     (λ n. let w = has-stands t fs (rw n at h) in record { start = w .start; len = w .len; at = rw n (w .at) })
+
+-- a tag that no field has says nothing
+pub lacks-nothing : (t : ℕ) (fs : List Fld) → hasTag t fs ≡ false → findTag t fs ≡ Nothing
+unfolding hasTag findTag
+lacks-nothing t [] h = refl
+lacks-nothing t (f ∷ fs) h = rw (neither-l (eqb (f .tag) t) (hasTag t fs) h) (lacks-nothing t fs (neither-r (eqb (f .tag) t) (hasTag t fs) h))
 
 -- ---- what a value of each shape says
 module _ (at n : ℕ) (v : List ℕ) (m : ℕ) where
@@ -171,9 +177,14 @@ no-zero Replacement = refl
 no-zero Cancel = refl
 no-zero Unknown = refl
 
+pub needed-has : (k : Kind) (b : List ℕ) (t : ℕ) → firstMissing (needed k) (fieldsOf b) ≡ 0 → oneOf t (needed k) ≡ true → hasIn b t ≡ true
+unfolding hasIn
+needed-has k b t m o = missing-has (needed k) (fieldsOf b) t (no-zero k) m o
+
 pub needed-told : (k : Kind) (b : List ℕ) (from t : ℕ) → firstFailing k b from (fieldsOf b) ≡ Verdict.Passes → firstMissing (needed k) (fieldsOf b) ≡ 0 → oneOf t (needed k) ≡ true
     → Told b from t
-needed-told k b from t p m o = stands-told k b from t p (has-stands t (fieldsOf b) (missing-has (needed k) (fieldsOf b) t (no-zero k) m o))
+unfolding hasIn
+needed-told k b from t p m o = stands-told k b from t p (has-stands t (fieldsOf b) (needed-has k b t m o))
 
 -- a value within the body has the length that its field says
 told-length : (b : List ℕ) (from t : ℕ) → 0 < t → (w : Told b from t) → length (partAt b (w .start) (w .len)) ≡ w .len
@@ -194,6 +205,10 @@ module _ (b : List ℕ) (from : ℕ) where
   unfolding shapeOf oneOf
   mpid-range w = amount-range (from + w .start) 6 (partAt b (w .start) (w .len)) (saidIn b from 109) (w .looks)
 
+  pub minqty-range : Told b from 110 → (0 < saidIn b from 110) × (saidIn b from 110 < 1000000000)
+  unfolding shapeOf oneOf
+  minqty-range w = amount-range (from + w .start) 9 (partAt b (w .start) (w .len)) (saidIn b from 110) (w .looks)
+
   -- one of some characters says one of their numbers
   one-said : (t : ℕ) (cs ns : List ℕ) (w : Told b from t) → shapeOf t ≡ Among cs → eachIs (λ c. oneOf (charSays c) ns) cs ≡ true → oneOf (saidIn b from t) ns ≡ true
   one-said t cs ns w e all =
@@ -205,9 +220,9 @@ module _ (b : List ℕ) (from : ℕ) where
   unfolding shapeOf oneOf eachIs charSays isDigit
   side-in w = one-said 54 (49 ∷ 50 ∷ []) (1 ∷ 2 ∷ []) w refl refl
 
-  pub tif-in : Told b from 59 → oneOf (saidIn b from 59) (0 ∷ 3 ∷ []) ≡ true
+  pub tif-in : Told b from 59 → oneOf (saidIn b from 59) (0 ∷ 3 ∷ 4 ∷ []) ≡ true
   unfolding shapeOf oneOf eachIs charSays isDigit
-  tif-in w = one-said 59 (48 ∷ 51 ∷ []) (0 ∷ 3 ∷ []) w refl refl
+  tif-in w = one-said 59 (48 ∷ 51 ∷ 52 ∷ []) (0 ∷ 3 ∷ 4 ∷ []) w refl refl
 
   pub capacity-in : Told b from 47 → oneOf (saidIn b from 47) (65 ∷ 80 ∷ []) ≡ true
   unfolding shapeOf oneOf eachIs charSays isDigit
@@ -237,6 +252,7 @@ isRequest (Cancels o) = true
 pub record Passed (s : List ℕ) (k : Kind) (x : Asked) : Type 0 where
   pub clear : garbledMessage s ≡ false
   pub passes : firstFailing k (bodyOf s) (bodyPart s .start) (fieldsOf (bodyOf s)) ≡ Verdict.Passes
+  pub agrees : firstClashing (hasIn (bodyOf s)) (saidIn (bodyOf s) (bodyPart s .start)) ≡ 0
   pub complete : firstMissing (needed k) (fieldsOf (bodyOf s)) ≡ 0
   pub asks : requestIn k (headOf s) (bodyOf s) (bodyPart s .start) ≡ x
 
@@ -247,12 +263,16 @@ refused-none s r t x e h = not-both (rw (← e) at h) refl
 module _ (venue port s : List ℕ) (x : Asked) (h : isRequest x ≡ true) where
   passed-body : (k : Kind) (v : Verdict) → garbledMessage s ≡ false → firstFailing k (bodyOf s) (bodyPart s .start) (fieldsOf (bodyOf s)) ≡ v
       → afterBody k (headOf s) (bodyOf s) (bodyPart s .start) v ≡ x → Passed s k x
-  unfolding completed
+  unfolding agreed completed
   passed-body k (Verdict.Fails r t) c e q = absurd (refused-none s r t x q h)
   passed-body k Verdict.Passes c e q =
-      split (eqb (firstMissing (needed k) (fieldsOf (bodyOf s))) 0)
-      (λ y. record { clear = c; passes = e; complete = eqb-true _ 0 y; asks = rw y at q })
-      (λ n. absurd (refused-none s 1 (firstMissing (needed k) (fieldsOf (bodyOf s))) x (rw n at q) h))
+      let clash = firstClashing (hasIn (bodyOf s)) (saidIn (bodyOf s) (bodyPart s .start)) in
+      let lacks = firstMissing (needed k) (fieldsOf (bodyOf s)) in
+      split (eqb clash 0)
+      (λ a. split (eqb lacks 0)
+      (λ y. record { clear = c; passes = e; agrees = eqb-true _ 0 a; complete = eqb-true _ 0 y; asks = rw (a, y) at q })
+      (λ n. absurd (refused-none s 1 lacks x (rw (a, n) at q) h)))
+      (λ d. absurd (refused-none s 5 clash x (rw d at q) h))
 
   pub request-passed : askedOf venue port s ≡ x → Passed s (kindOf (valueOf s 35)) x
   unfolding askedOf headAsked bodyAsked

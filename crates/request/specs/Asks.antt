@@ -1,6 +1,6 @@
 -- What a message asks of the market that has this venue id and this port id: it is garbled, or it gets a session Reject, or it
--- asks for a new order, a replacement or a cancel. From "Reading a message" of document 01. A text is given by where it
--- stands in the message, a number as a number. Assumes nothing: every list of bytes has one answer.
+-- asks for a new order, a replacement or a cancel. From "Reading a message" of document 01 and T-05 of document 02. A text is
+-- given by where it stands in the message, a number as a number. Assumes nothing: every list of bytes has one answer.
 use Prim.Native.Nat.{ℕ, _+_}
 use mathlib.Core.List.{List, [], _∷_}
 use mathlib.Core.Bool.{Bool, true, false, cond, not}
@@ -10,7 +10,7 @@ use Rattle.fix.specs.declared.fields.Found.{Found}
 use Rattle.fix.specs.declared.fields.Found.the-variants.{At, Nothing}
 use Rattle.fix.specs.declared.frame.Part.{Part}
 use Rattle.fix.specs.declared.frame.Head.{Head}
-use Rattle.fix.specs.Fields.{Fld, fieldsOf, findTag, valueOf}
+use Rattle.fix.specs.Fields.{Fld, fieldsOf, findTag, hasTag, valueOf}
 use Rattle.fix.specs.Garbled.{garbledMessage, headOf, bodyPart}
 use Rattle.request.specs.declared.Kind.{Kind}
 use Rattle.request.specs.declared.Kind.the-variants.{NewOrder, Replacement, Cancel, Unknown}
@@ -21,7 +21,7 @@ use Rattle.request.specs.declared.Refusal.{Refusal}
 use Rattle.request.specs.declared.Terms.{Terms}
 use Rattle.request.specs.declared.Asked.{Asked}
 use Rattle.request.specs.declared.Asked.the-variants.{Garbled, Refused, Enters, Replaces, Cancels}
-use Rattle.request.specs.Session.{kindOf, needed, shapeOf, lookAs, firstFailing, firstMissing}
+use Rattle.request.specs.Session.{kindOf, needed, shapeOf, lookAs, firstFailing, firstClashing, firstMissing}
 
 -- ---- the body: the part of the message between field 56 and field 10
 
@@ -48,6 +48,10 @@ saidIn b from t = saidFound b from t (findTag t (fieldsOf b))
 unfoldable pub lengthIn : List ℕ → ℕ → ℕ
 lengthIn b t = lengthFound (findTag t (fieldsOf b))
 
+-- some field of the body has the tag
+unfoldable pub hasIn : List ℕ → ℕ → Bool
+hasIn b t = hasTag t (fieldsOf b)
+
 -- where a text stands
 abbrev pub textIn : List ℕ → ℕ → ℕ → Part
 textIn b from t = record { start = saidIn b from t; len = lengthIn b t }
@@ -71,6 +75,7 @@ termsIn b from =
       capacity = saidIn b from 47;
       class = saidIn b from 8060;
       mpid = saidIn b from 109;
+      minqty = saidIn b from 110;
     }
 
 -- what a complete message of the type asks
@@ -85,15 +90,21 @@ requestIn Unknown h b from = refusalOf h 11 35
 
 -- ---- from the left
 
--- the body passed: the smallest needed tag that is missing, or the request
+-- the fields agree: the smallest needed tag that is missing, or the request
 unfoldable pub completed : Kind → Head → List ℕ → ℕ → Asked
 completed k h b from =
     let t = firstMissing (needed k) (fieldsOf b) in
     cond (eqb t 0) (requestIn k h b from) (refusalOf h 1 t)
 
+-- each field by itself passed: the first that clashes with others, or what follows
+unfoldable pub agreed : Kind → Head → List ℕ → ℕ → Asked
+agreed k h b from =
+    let t = firstClashing (hasIn b) (saidIn b from) in
+    cond (eqb t 0) (completed k h b from) (refusalOf h 5 t)
+
 abbrev pub afterBody : Kind → Head → List ℕ → ℕ → Verdict → Asked
 afterBody k h b from (Verdict.Fails r t) = refusalOf h r t
-afterBody k h b from Verdict.Passes = completed k h b from
+afterBody k h b from Verdict.Passes = agreed k h b from
 
 -- the type is known, and the ids are right: the body decides
 unfoldable pub bodyAsked : Kind → Head → List ℕ → ℕ → Asked

@@ -2,7 +2,7 @@
 use Prim.Native.Nat.{ℕ, _+_, _-_, _%_, _^_, _<_}
 use mathlib.Core.Path.{_≡_}
 use mathlib.Core.List.{List, [], _∷_}
-use mathlib.Core.Bool.{Bool, true, false, cond}
+use mathlib.Core.Bool.{Bool, true, false, cond, not}
 use lib.ListN.{length, getD, set, replicate}
 use lib.Dec.{eqb}
 use Rattle.octets.specs.Octets.{partAt}
@@ -17,29 +17,37 @@ use Rattle.request.specs.declared.Terms.{Terms}
 use Rattle.request.specs.declared.Asked.{Asked}
 use Rattle.request.specs.declared.Asked.the-variants.{Enters, Replaces, Cancels}
 use Rattle.request.specs.declared.Verdict.{Verdict}
-use Rattle.request.specs.Session.{needed, listed, firstFailing}
+use Rattle.request.specs.Session.{needed, listed, firstFailing, firstClashing}
 use Rattle.request.specs.Asks.{saidIn, lengthIn, refusalOf}
 
--- the listed tags have 14 different remainders by 28
+-- the length of a row: the listed tags have different remainders by it
+abbrev pub slots : ℕ
+slots = 45
+
+-- the place of a tag in a row
 abbrev pub slot : ℕ → ℕ
-slot t = t % 28
+slot t = t % slots
+
+-- what a row has for a tag
+abbrev pub rowAt : List ℕ → ℕ → ℕ
+rowAt row t = getD row (slot t) 0
 
 -- the rows are empty, and the row of the message holds the fields of the body
 pub record Starts (b row : List ℕ) (from : ℕ) (says lens : List ℕ) : Type 0 where
-  pub no-says : says ≡ replicate 28 0
-  pub no-lens : lens ≡ replicate 28 0
+  pub no-says : says ≡ replicate slots 0
+  pub no-lens : lens ≡ replicate slots 0
   pub held : Held row from 7 (fieldsOf b)
 
 -- the rows with a field more, where its tag has nothing there yet
 unfoldable pub keptSays : List ℕ → List ℕ → ℕ → ℕ → List ℕ
-keptSays says lens t n = cond (eqb (getD lens (slot t) 0) 0) (set says (slot t) n) says
+keptSays says lens t n = cond (eqb (rowAt lens t) 0) (set says (slot t) n) says
 
 unfoldable pub keptLens : List ℕ → ℕ → ℕ → List ℕ
-keptLens lens t len = cond (eqb (getD lens (slot t) 0) 0) (set lens (slot t) len) lens
+keptLens lens t len = cond (eqb (rowAt lens t) 0) (set lens (slot t) len) lens
 
 -- the two rows hold, for each listed tag, what its value says and how long it is
 abbrev pub Gathered : List ℕ → ℕ → List ℕ → List ℕ → Type 0
-Gathered b from says lens = (t : ℕ) → listed t ≡ true → (getD says (slot t) 0 ≡ saidIn b from t) × (getD lens (slot t) 0 ≡ lengthIn b t)
+Gathered b from says lens = (t : ℕ) → listed t ≡ true → (rowAt says t ≡ saidIn b from t) × (rowAt lens t ≡ lengthIn b t)
 
 -- the verdict on a body, with the rows that it leaves where it passes
 pub record Walked (k : Kind) (b : List ℕ) (from : ℕ) (r : Verdict) (says lens : List ℕ) : Type 0 where
@@ -54,34 +62,45 @@ pub record Admitted (s : List ℕ) (h : Head) (row : List ℕ) : Type 0 where
 -- the first of the tags with no length in the row
 unfoldable pub firstUnset : List ℕ → List ℕ → ℕ
 firstUnset [] lens = 0
-firstUnset (t ∷ ts) lens = cond (eqb (getD lens (slot t) 0) 0) t (firstUnset ts lens)
+firstUnset (t ∷ ts) lens = cond (eqb (rowAt lens t) 0) t (firstUnset ts lens)
 
 -- ---- what the rows say
+
+-- a tag that stands in the message has a length: no value that passed is empty
+unfoldable pub hasRow : List ℕ → ℕ → Bool
+hasRow lens t = not (eqb (rowAt lens t) 0)
+
 abbrev pub textRow : List ℕ → List ℕ → ℕ → Part
-textRow says lens t = record { start = getD says (slot t) 0; len = getD lens (slot t) 0 }
+textRow says lens t = record { start = rowAt says t; len = rowAt lens t }
 
 unfoldable pub termsRow : List ℕ → Terms
 termsRow says =
     record {
-      quantity = getD says (slot 38) 0;
-      level = getD says (slot 44) 0;
-      side = getD says (slot 54) 0;
-      tif = getD says (slot 59) 0;
-      capacity = getD says (slot 47) 0;
-      class = getD says (slot 8060) 0;
-      mpid = getD says (slot 109) 0;
+      quantity = rowAt says 38;
+      level = rowAt says 44;
+      side = rowAt says 54;
+      tif = rowAt says 59;
+      capacity = rowAt says 47;
+      class = rowAt says 8060;
+      mpid = rowAt says 109;
+      minqty = rowAt says 110;
     }
 
 unfoldable pub requestRow : Kind → Head → List ℕ → List ℕ → Asked
 requestRow NewOrder h says lens =
     Enters (record { time = h .time; id = textRow says lens 11; account = textRow says lens 1; code = textRow says lens 55; terms = termsRow says })
 requestRow Replacement h says lens =
-    Replaces (record { time = h .time; id = textRow says lens 11; original = textRow says lens 41; code = textRow says lens 55; quantity = getD says (slot 38) 0; level = getD says (slot 44) 0; side = getD says (slot 54) 0 })
+    Replaces (record { time = h .time; id = textRow says lens 11; original = textRow says lens 41; code = textRow says lens 55; quantity = rowAt says 38; level = rowAt says 44; side = rowAt says 54 })
 requestRow Cancel h says lens =
-    Cancels (record { time = h .time; id = textRow says lens 11; original = textRow says lens 41; code = textRow says lens 55; side = getD says (slot 54) 0 })
+    Cancels (record { time = h .time; id = textRow says lens 11; original = textRow says lens 41; code = textRow says lens 55; side = rowAt says 54 })
 requestRow Unknown h says lens = refusalOf h 11 35
 
 unfoldable pub completedRow : Kind → Head → List ℕ → List ℕ → Asked
 completedRow k h says lens =
     let t = firstUnset (needed k) lens in
     cond (eqb t 0) (requestRow k h says lens) (refusalOf h 1 t)
+
+unfoldable pub agreedRow : Kind → Head → List ℕ → List ℕ → Asked
+agreedRow k h says lens =
+    let t = firstClashing (hasRow lens) (rowAt says) in
+    cond (eqb t 0) (completedRow k h says lens) (refusalOf h 5 t)

@@ -1,6 +1,7 @@
 -- Which fields a message of each type has, what their values may be, and the first reason for which a body is rejected. From
--- "Reading a message" of document 01, the part on the session Reject: fields are asked from the left, each for the reasons
--- 3, 2, 4, 6 and 5 in this order; then the smallest needed tag that is missing, for the reason 1. Assumes nothing.
+-- "Reading a message" of document 01, the part on the session Reject, and T-05 of document 02: fields are asked from the left,
+-- each for the reasons 3, 2, 4, 6 and 5 in this order; then one that clashes with others, for the reason 5; then the smallest
+-- needed tag that is missing, for the reason 1. Assumes nothing.
 use Prim.Native.Nat.{ℕ, _+_, _-_}
 use mathlib.Core.List.{List, [], _∷_}
 use mathlib.Core.Bool.{Bool, true, false, cond, not, _&&_, _||_}
@@ -34,7 +35,7 @@ needed Unknown = []
 
 -- the tags that it may have besides
 abbrev pub optional : Kind → List ℕ
-optional NewOrder = 1 ∷ 109 ∷ []
+optional NewOrder = 1 ∷ 109 ∷ 110 ∷ []
 optional Replacement = []
 optional Cancel = 38 ∷ []
 optional Unknown = []
@@ -70,7 +71,7 @@ shapeOf t =
     cond (oneOf t (1 ∷ [])) (Text 10)
     (cond (oneOf t (11 ∷ 41 ∷ [])) (Text 32)
     (cond (oneOf t (55 ∷ [])) (Digits 9)
-    (cond (oneOf t (38 ∷ [])) (Amount 9)
+    (cond (oneOf t (38 ∷ 110 ∷ [])) (Amount 9)
     (cond (oneOf t (109 ∷ [])) (Amount 6)
     (cond (oneOf t (44 ∷ [])) Yield
     (cond (oneOf t (60 ∷ [])) Time
@@ -78,7 +79,7 @@ shapeOf t =
     (cond (oneOf t (40 ∷ [])) (Among (bytes "2"))
     (cond (oneOf t (47 ∷ [])) (Among (bytes "AP"))
     (cond (oneOf t (54 ∷ [])) (Among (bytes "12"))
-    (cond (oneOf t (59 ∷ [])) (Among (bytes "03"))
+    (cond (oneOf t (59 ∷ [])) (Among (bytes "034"))
     (cond (oneOf t (8060 ∷ [])) (Among (bytes "13456")) Unlisted))))))))))))
 
 -- the number that one character says: a digit itself, another its code
@@ -136,6 +137,22 @@ orElse (Fails r) t rest = Verdict.Fails r t
 unfoldable pub firstFailing : Kind → List ℕ → ℕ → List Fld → Verdict
 firstFailing k b from [] = Verdict.Passes
 firstFailing k b from (f ∷ fs) = orElse (judge k b from f) (f .tag) (firstFailing k b from fs)
+
+-- ---- fields against each other: `has` tells which tags a message has, and `says` what the value of each says
+
+-- 110, the least that a new order takes, goes with 59=3 alone and is not above 38. Where 59 or 38 is not there, nothing is said
+-- of it.
+unfoldable pub minimumClashes : (ℕ → Bool) → (ℕ → ℕ) → Bool
+minimumClashes has says =
+    has 110 && ((has 59 && (eqb (says 59) 0 || eqb (says 59) 4)) || (has 38 && ltb (says 38) (says 110)))
+
+-- the first tag whose value clashes with others, and 0 where none does: a row for each test, with the tag that it refuses
+unfoldable pub firstClashing : (ℕ → Bool) → (ℕ → ℕ) → ℕ
+firstClashing has says =
+    cond (minimumClashes has says) 110
+    0
+
+-- ---- tags that a message lacks
 
 -- the first of the tags ts that no field has, and 0 where each has one
 unfoldable pub firstMissing : List ℕ → List Fld → ℕ

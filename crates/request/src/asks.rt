@@ -7,7 +7,10 @@ use crate::Refusal;
 use crate::Replacement;
 use crate::Terms;
 use crate::Verdict;
+use crate::body::SLOTS;
+use crate::body::clashing;
 use crate::body::gather;
+use crate::body::in_row;
 use crate::body::missing;
 use fix::frame::Frame;
 use fix::frame::Head;
@@ -18,13 +21,12 @@ use octets::part::same;
 ghost use mathlib.Core.Path.{_≡_};
 ghost use mathlib.Core.List.{[], _∷_};
 ghost use Prim.Native.Nat.{ℕ, _+_, _-_, _^_, _≤_, _<_};
-ghost use lib.ListN.{length, getD};
 ghost use Rattle.octets.specs.Octets.{partAt};
 ghost use Rattle.fix.specs.Fields.{fieldsOf};
 ghost use Rattle.fix.specs.Steps.{Held};
 ghost use Rattle.request.specs.Session.{kindOf};
 ghost use Rattle.request.specs.Asks.{isKnown, refusalOf, bodyAsked, headAsked, askedOf};
-ghost use Rattle.request.specs.Gathers.{slot, Admitted, textRow, termsRow, requestRow, completedRow};
+ghost use Rattle.request.specs.Gathers.{Admitted, textRow, termsRow, requestRow, completedRow, agreedRow};
 
 // The type that the value of 35 names.
 fn kind_of(v: &[u8]) -> Kind
@@ -69,16 +71,8 @@ fn refuses(h: Head, reason: u64, tag: u64) -> Asked
     })
 }
 
-// What a row has for a tag.
-fn in_row(row: &[u64; 28], tag: u64) -> u64
-    ensures { λ r. ⌜ r ≡ getD (now (row .entry)) (slot tag) 0 ⌝ }
-{
-    let j = (tag % 28) as usize;
-    row[j]
-}
-
 // Where the text of a tag stands, by the rows.
-fn text_at(says: &[u64; 28], lens: &[u64; 28], tag: u64) -> Part
+fn text_at(says: &[u64; SLOTS], lens: &[u64; SLOTS], tag: u64) -> Part
     ensures { λ r. ⌜ r ≡ textRow (now (says .entry)) (now (lens .entry)) tag ⌝ }
 {
     Part {
@@ -88,7 +82,7 @@ fn text_at(says: &[u64; 28], lens: &[u64; 28], tag: u64) -> Part
 }
 
 // The numbers of a new order, by the row.
-fn terms_at(says: &[u64; 28]) -> Terms
+fn terms_at(says: &[u64; SLOTS]) -> Terms
     ensures { λ r. ⌜ r ≡ termsRow (now (says .entry)) ⌝ }
 {
     Terms {
@@ -99,11 +93,12 @@ fn terms_at(says: &[u64; 28]) -> Terms
         capacity: in_row(says, 47),
         class: in_row(says, 8060),
         mpid: in_row(says, 109),
+        minqty: in_row(says, 110),
     }
 }
 
 // What a complete message of the type asks, by the rows.
-fn request(kind: Kind, h: Head, says: &[u64; 28], lens: &[u64; 28]) -> Asked
+fn request(kind: Kind, h: Head, says: &[u64; SLOTS], lens: &[u64; SLOTS]) -> Asked
     ensures { λ r. ⌜ r ≡ requestRow kind h (now (says .entry)) (now (lens .entry)) ⌝ }
 {
     let time = h.time;
@@ -137,8 +132,8 @@ fn request(kind: Kind, h: Head, says: &[u64; 28], lens: &[u64; 28]) -> Asked
     }
 }
 
-// The body passed: a needed tag is missing, or this is the request.
-fn completes(kind: Kind, h: Head, says: &[u64; 28], lens: &[u64; 28]) -> Asked
+// The fields agree: a needed tag is missing, or this is the request.
+fn completes(kind: Kind, h: Head, says: &[u64; SLOTS], lens: &[u64; SLOTS]) -> Asked
     ensures { λ r. ⌜ r ≡ completedRow kind h (now (says .entry)) (now (lens .entry)) ⌝ }
 {
     let t = missing(kind, lens);
@@ -148,18 +143,29 @@ fn completes(kind: Kind, h: Head, says: &[u64; 28], lens: &[u64; 28]) -> Asked
     request(kind, h, says, lens)
 }
 
+// Each field by itself passed: one clashes with others, or what follows decides.
+fn agrees(kind: Kind, h: Head, says: &[u64; SLOTS], lens: &[u64; SLOTS]) -> Asked
+    ensures { λ r. ⌜ r ≡ agreedRow kind h (now (says .entry)) (now (lens .entry)) ⌝ }
+{
+    let t = clashing(says, lens);
+    if t != 0 {
+        return refuses(h, 5, t);
+    }
+    completes(kind, h, says, lens)
+}
+
 // The body, a part from the middle of the message, is handed on to the reader of fields and decides.
 fn decides(s: &[u8], kind: Kind, h: Head, row: &[u16; 1023]) -> Asked
     requires { ⌜ Held (now row) (h .body .start) 7 (fieldsOf (partAt (now s) (h .body .start) (h .body .len))) ⌝ }
     ensures { λ r. ⌜ r ≡ bodyAsked kind h (partAt (now (s .entry)) (h .body .start) (h .body .len)) (h .body .start) ⌝ }
 {
-    let mut says: [u64; 28] = [0; 28];
-    let mut lens: [u64; 28] = [0; 28];
+    let mut says: [u64; SLOTS] = [0; SLOTS];
+    let mut lens: [u64; SLOTS] = [0; SLOTS];
     let from = h.body.start;
     let body = part_at(s, from, h.body.len);
     match gather(kind, body, from, row, &mut says, &mut lens) {
         Verdict::Fails { reason, tag } => refuses(h, reason, tag),
-        Verdict::Passes => completes(kind, h, &says, &lens),
+        Verdict::Passes => agrees(kind, h, &says, &lens),
     }
 }
 

@@ -1,4 +1,5 @@
-// The fields of a body from the left: the first that fails, and what the others say.
+// The fields of a body from the left: the first that fails, and what the others say, kept by tag in two rows; from these the
+// first tag that clashes with others, and the first that is missing.
 use crate::Judged;
 use crate::Kind;
 use crate::Verdict;
@@ -13,8 +14,19 @@ ghost use mathlib.Core.List.{[], _∷_};
 ghost use Prim.Native.Nat.{ℕ, _+_, _-_, _^_, _≤_, _<_};
 ghost use lib.ListN.{length, getD};
 ghost use Rattle.fix.specs.Fields.{fieldsOf};
-ghost use Rattle.request.specs.Session.{judge, needed};
-ghost use Rattle.request.specs.Gathers.{Starts, keptSays, keptLens, Walked, firstUnset};
+ghost use Rattle.request.specs.Session.{judge, needed, minimumClashes, firstClashing};
+ghost use Rattle.request.specs.Gathers.{rowAt, Starts, keptSays, keptLens, Walked, hasRow, firstUnset};
+
+// The length of a row. A tag's place is its remainder by it; those of the listed tags differ.
+pub const SLOTS: usize = 45;
+
+// What a row has for a tag.
+pub fn in_row(row: &[u64; SLOTS], tag: u64) -> u64
+    ensures { λ r. ⌜ r ≡ rowAt (now (row .entry)) tag ⌝ }
+{
+    let j = tag as usize % SLOTS;
+    row[j]
+}
 
 // What a field says, or why it fails: its value stands at place `start` of the body, which stands at place `from` of the
 // message.
@@ -35,11 +47,11 @@ fn judged(kind: Kind, b: &[u8], from: u64, tag: u64, start: usize, len: usize) -
 }
 
 // Puts what a value says and its length into the rows, where its tag has nothing there yet.
-fn keep(says: &mut [u64; 28], lens: &mut [u64; 28], tag: u64, n: u64, len: usize)
+fn keep(says: &mut [u64; SLOTS], lens: &mut [u64; SLOTS], tag: u64, n: u64, len: usize)
     ensures { λ _. ⌜ (now (says .exit) ≡ keptSays (now (says .entry)) (now (lens .entry)) tag n)
         × (now (lens .exit) ≡ keptLens (now (lens .entry)) tag len) ⌝ }
 {
-    let j = (tag % 28) as usize;
+    let j = tag as usize % SLOTS;
     if lens[j] == 0 {
         says[j] = n;
         lens[j] = len as u64;
@@ -53,8 +65,8 @@ pub fn gather(
     b: &[u8],
     from: usize,
     row: &[u16; 1023],
-    says: &mut [u64; 28],
-    lens: &mut [u64; 28],
+    says: &mut [u64; SLOTS],
+    lens: &mut [u64; SLOTS],
 ) -> Verdict
     requires { ⌜ Starts (now b) (now row) from (now says) (now lens) ⌝ }
     ensures { λ r. ⌜ Walked kind (now (b .entry)) from r (now (says .exit)) (now (lens .exit)) ⌝ }
@@ -79,15 +91,41 @@ pub fn gather(
     }
 }
 
+// Whether the message has a tag, by the row of lengths.
+fn has_row(lens: &[u64; SLOTS], tag: u64) -> bool
+    ensures { λ r. ⌜ r ≡ hasRow (now (lens .entry)) tag ⌝ }
+{
+    in_row(lens, tag) != 0
+}
+
+// Whether 110 clashes with 59 or 38.
+fn minimum_clashes(says: &[u64; SLOTS], lens: &[u64; SLOTS]) -> bool
+    ensures { λ r. ⌜ r ≡ minimumClashes (hasRow (now (lens .entry))) (rowAt (now (says .entry))) ⌝ }
+{
+    let tif = in_row(says, 59);
+    let other = has_row(lens, 59) & ((tif == 0) | (tif == 4));
+    let above = has_row(lens, 38) & (in_row(says, 38) < in_row(says, 110));
+    has_row(lens, 110) & (other | above)
+}
+
+// The first tag whose value clashes with others, and 0 where none does.
+pub fn clashing(says: &[u64; SLOTS], lens: &[u64; SLOTS]) -> u64
+    ensures { λ r. ⌜ r ≡ firstClashing (hasRow (now (lens .entry))) (rowAt (now (says .entry))) ⌝ }
+{
+    if minimum_clashes(says, lens) {
+        return 110;
+    }
+    0
+}
+
 // The first of the tags that has no length in the row, and 0 where each has one.
-fn first_unset(tags: &[u64], lens: &[u64; 28]) -> u64
+fn first_unset(tags: &[u64], lens: &[u64; SLOTS]) -> u64
     ensures { λ r. ⌜ r ≡ firstUnset (now (tags .entry)) (now (lens .entry)) ⌝ }
 {
     let mut i = 0;
     while i < tags.len() {
         let t = tags[i];
-        let j = (t % 28) as usize;
-        if lens[j] == 0 {
+        if in_row(lens, t) == 0 {
             return t;
         }
         i += 1;
@@ -96,7 +134,7 @@ fn first_unset(tags: &[u64], lens: &[u64; 28]) -> u64
 }
 
 // The smallest tag that the type needs and the body lacks, and 0 where it lacks none.
-pub fn missing(kind: Kind, lens: &[u64; 28]) -> u64
+pub fn missing(kind: Kind, lens: &[u64; SLOTS]) -> u64
     ensures { λ r. ⌜ r ≡ firstUnset (needed kind) (now (lens .entry)) ⌝ }
 {
     match kind {

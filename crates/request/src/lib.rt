@@ -34,8 +34,8 @@ pub struct Refusal {
     pub time: Part,
 }
 
-// The numbers of a new order: 38, 44 as a level, 54 (1 buys, 2 sells), 59 (0 Day, 3 IOC), 47 (a character), 8060, and 109 or
-// 0 where it has none.
+// The numbers of a new order: 38, 44 as a level, 54 (1 buys, 2 sells), 59 (0 Day, 3 IOC, 4 Fill or Kill), 47 (a character),
+// 8060, and 109 and 110, each 0 where it has none.
 pub struct Terms {
     pub quantity: u64,
     pub level: u64,
@@ -44,6 +44,7 @@ pub struct Terms {
     pub capacity: u64,
     pub class: u64,
     pub mpid: u64,
+    pub minqty: u64,
 }
 
 // A new order: where 52, 11, 1 (of length 0 where it has none) and 55 stand, and its numbers.

@@ -123,6 +123,7 @@ pub fn look(at: u64, tag: u64, v: &[u8]) -> Judged
         41 => text(at, v, 32),
         55 => digits(at, v, 9),
         38 => amount(at, v, 9),
+        110 => amount(at, v, 9),
         109 => amount(at, v, 6),
         44 => level(at, v),
         60 => time(at, v),
@@ -130,7 +131,7 @@ pub fn look(at: u64, tag: u64, v: &[u8]) -> Judged
         40 => among(at, v, b"2"),
         47 => among(at, v, b"AP"),
         54 => among(at, v, b"12"),
-        59 => among(at, v, b"03"),
+        59 => among(at, v, b"034"),
         8060 => among(at, v, b"13456"),
         _ => Judged::Fails(3),
     }
@@ -142,7 +143,7 @@ fn in_new_order(tag: u64) -> bool
 {
     match tag {
         1 | 11 | 21 | 38 | 40 | 44 | 47 | 54 | 59 | 109 | 8060 => true,
-        55 | 60 => true,
+        55 | 60 | 110 => true,
         _ => false,
     }
 }

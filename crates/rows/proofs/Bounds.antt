@@ -22,7 +22,7 @@ use Rattle.rows.specs.declared.Unchanged.{Unchanged}
 use Rattle.rows.specs.declared.Faulty.{Faulty}
 use Rattle.rows.specs.Rows.{header, figuresOf, tradeStatus, replacedStatus, padded, acceptedFields, acceptedRow, replacedFields, replacedRow, canceledFields, canceledRow, tradeFields, tradeRow, rejectedRow, cancelRejectRow, sessionRejectRow}
 use Rattle.rows.specs.Ranges.{StampIn, ShownIn, GroundIn, FillIn, RefusedIn, UnchangedIn, FaultyIn}
-use Rattle.rows.proofs.Widths.{Fit, roomOf, row-room, row-padded, _&_, char-short, word-short, number-short, digit-short, text-short, or-number-short, or-nobody-short, level-short, mean-short, open-short, executed-short, quantity-short}
+use Rattle.rows.proofs.Widths.{Fit, roomOf, row-room, row-padded, _&_, char-short, word-short, number-short, digit-short, text-short, or-number-short, or-nobody-short, level-short, mean-short, open-short, executed-short, quantity-short, least-short}
 
 module _ (sent stored : List ℕ) where
   -- a row that fits the widths, which come to at most 489 bytes
@@ -33,7 +33,7 @@ module _ (sent stored : List ℕ) where
   pub accepted-short : (s : Stamp) (o : Shown) → StampIn sent stored s → ShownIn sent stored o → length (rowBytes sent stored (acceptedRow s o)) ≤ 489
   unfolding acceptedFields header figuresOf decimal
   accepted-short s o i j =
-      short-row (1 ∷ 9 ∷ 8 ∷ 4 ∷ 21 ∷ 8 ∷ 10 ∷ 14 ∷ 32 ∷ 9 ∷ 9 ∷ 1 ∷ 9 ∷ 9 ∷ 1 ∷ 1 ∷ 11 ∷ 1 ∷ 1 ∷ 9 ∷ 1 ∷ 21 ∷ 6 ∷ 1 ∷ 9 ∷ 1 ∷ 1 ∷ []) (acceptedRow s o)
+      short-row (1 ∷ 9 ∷ 8 ∷ 4 ∷ 21 ∷ 8 ∷ 10 ∷ 14 ∷ 32 ∷ 9 ∷ 9 ∷ 1 ∷ 9 ∷ 9 ∷ 1 ∷ 1 ∷ 11 ∷ 1 ∷ 1 ∷ 9 ∷ 1 ∷ 21 ∷ 6 ∷ 9 ∷ 1 ∷ 9 ∷ 1 ∷ 1 ∷ []) (acceptedRow s o)
       (char-short sent stored 56
       & number-short sent stored 8 (s .number) (i .number-in)
       & i .venue-in
@@ -57,6 +57,7 @@ module _ (sent stored : List ℕ) where
       & digit-short sent stored (o .order .tif)
       & i .time-in
       & or-number-short sent stored 5 (o .order .mpid) (j .mpid-in)
+      & least-short sent stored (o .order) (j .order-in)
       & char-short sent stored 48
       & open-short sent stored (o .order) (j .order-in)
       & number-short sent stored 0 (9) (lit< tt)
@@ -68,7 +69,7 @@ module _ (sent stored : List ℕ) where
   pub replaced-short : (s : Stamp) (o : Shown) (w : Ground) → StampIn sent stored s → ShownIn sent stored o → GroundIn sent stored w → length (rowBytes sent stored (replacedRow s o w)) ≤ 489
   unfolding replacedFields header figuresOf decimal
   replaced-short s o w i j k =
-      short-row (1 ∷ 9 ∷ 8 ∷ 4 ∷ 21 ∷ 8 ∷ 10 ∷ 14 ∷ 32 ∷ 9 ∷ 9 ∷ 1 ∷ 9 ∷ 9 ∷ 1 ∷ 1 ∷ 32 ∷ 11 ∷ 1 ∷ 1 ∷ 9 ∷ 1 ∷ 21 ∷ 6 ∷ 1 ∷ 9 ∷ 3 ∷ 1 ∷ 1 ∷ []) (replacedRow s o w)
+      short-row (1 ∷ 9 ∷ 8 ∷ 4 ∷ 21 ∷ 8 ∷ 10 ∷ 14 ∷ 32 ∷ 9 ∷ 9 ∷ 1 ∷ 9 ∷ 9 ∷ 1 ∷ 1 ∷ 32 ∷ 11 ∷ 1 ∷ 1 ∷ 9 ∷ 1 ∷ 21 ∷ 6 ∷ 9 ∷ 1 ∷ 9 ∷ 3 ∷ 1 ∷ 1 ∷ []) (replacedRow s o w)
       (char-short sent stored 56
       & number-short sent stored 8 (s .number) (i .number-in)
       & i .venue-in
@@ -93,6 +94,7 @@ module _ (sent stored : List ℕ) where
       & digit-short sent stored (o .order .tif)
       & i .time-in
       & or-number-short sent stored 5 (o .order .mpid) (j .mpid-in)
+      & least-short sent stored (o .order) (j .order-in)
       & char-short sent stored 53
       & open-short sent stored (o .order) (j .order-in)
       & k .reason-in
@@ -105,7 +107,7 @@ module _ (sent stored : List ℕ) where
   pub canceled-short : (s : Stamp) (o : Shown) (w : Ground) → StampIn sent stored s → ShownIn sent stored o → GroundIn sent stored w → length (rowBytes sent stored (canceledRow s o w)) ≤ 489
   unfolding canceledFields header figuresOf decimal
   canceled-short s o w i j k =
-      short-row (1 ∷ 9 ∷ 8 ∷ 4 ∷ 21 ∷ 8 ∷ 10 ∷ 14 ∷ 32 ∷ 9 ∷ 9 ∷ 1 ∷ 9 ∷ 9 ∷ 1 ∷ 1 ∷ 32 ∷ 11 ∷ 1 ∷ 1 ∷ 9 ∷ 1 ∷ 21 ∷ 6 ∷ 1 ∷ 9 ∷ 3 ∷ 1 ∷ 1 ∷ []) (canceledRow s o w)
+      short-row (1 ∷ 9 ∷ 8 ∷ 4 ∷ 21 ∷ 8 ∷ 10 ∷ 14 ∷ 32 ∷ 9 ∷ 9 ∷ 1 ∷ 9 ∷ 9 ∷ 1 ∷ 1 ∷ 32 ∷ 11 ∷ 1 ∷ 1 ∷ 9 ∷ 1 ∷ 21 ∷ 6 ∷ 9 ∷ 1 ∷ 9 ∷ 3 ∷ 1 ∷ 1 ∷ []) (canceledRow s o w)
       (char-short sent stored 56
       & number-short sent stored 8 (s .number) (i .number-in)
       & i .venue-in
@@ -130,6 +132,7 @@ module _ (sent stored : List ℕ) where
       & digit-short sent stored (o .order .tif)
       & i .time-in
       & or-number-short sent stored 5 (o .order .mpid) (j .mpid-in)
+      & least-short sent stored (o .order) (j .order-in)
       & char-short sent stored 52
       & open-short sent stored (o .order) (j .order-in)
       & k .reason-in
@@ -142,7 +145,7 @@ module _ (sent stored : List ℕ) where
   pub trade-short : (s : Stamp) (o : Shown) (f : Fill) → StampIn sent stored s → ShownIn sent stored o → FillIn f → length (rowBytes sent stored (tradeRow s o f)) ≤ 489
   unfolding tradeFields header figuresOf decimal
   trade-short s o f i j k =
-      short-row (1 ∷ 9 ∷ 8 ∷ 4 ∷ 21 ∷ 8 ∷ 10 ∷ 14 ∷ 32 ∷ 9 ∷ 9 ∷ 1 ∷ 11 ∷ 9 ∷ 9 ∷ 9 ∷ 1 ∷ 1 ∷ 11 ∷ 1 ∷ 1 ∷ 9 ∷ 1 ∷ 21 ∷ 6 ∷ 1 ∷ 9 ∷ 6 ∷ 1 ∷ 1 ∷ 1 ∷ 9 ∷ 1 ∷ []) (tradeRow s o f)
+      short-row (1 ∷ 9 ∷ 8 ∷ 4 ∷ 21 ∷ 8 ∷ 10 ∷ 14 ∷ 32 ∷ 9 ∷ 9 ∷ 1 ∷ 11 ∷ 9 ∷ 9 ∷ 9 ∷ 1 ∷ 1 ∷ 11 ∷ 1 ∷ 1 ∷ 9 ∷ 1 ∷ 21 ∷ 6 ∷ 9 ∷ 1 ∷ 9 ∷ 6 ∷ 1 ∷ 1 ∷ 1 ∷ 9 ∷ 1 ∷ []) (tradeRow s o f)
       (char-short sent stored 56
       & number-short sent stored 8 (s .number) (i .number-in)
       & i .venue-in
@@ -168,6 +171,7 @@ module _ (sent stored : List ℕ) where
       & digit-short sent stored (o .order .tif)
       & i .time-in
       & or-number-short sent stored 5 (o .order .mpid) (j .mpid-in)
+      & least-short sent stored (o .order) (j .order-in)
       & digit-short sent stored (tradeStatus (o .order))
       & open-short sent stored (o .order) (j .order-in)
       & number-short sent stored 5 (f .other) (k .other-in)

@@ -16,6 +16,7 @@ use Rattle.decimal.proofs.RoundTrip.{fixed-length}
 use Rattle.matching.specs.declared.Order.{Order}
 use Rattle.matching.specs.Matching.{openOf}
 use Rattle.matching.specs.Held.{Sound}
+use Rattle.matching.proofs.Sounds.{minimum-most}
 use Rattle.report.specs.declared.Place.{Place}
 use Rattle.report.specs.declared.Value.{Value}
 use Rattle.report.specs.declared.Value.the-variants.{Absent, Number, Char, Word, Sent, Stored, Level, Mean}
@@ -123,3 +124,6 @@ module _ (sent stored : List ℕ) where
 
   pub quantity-short : (o : Order) → Sound o → Short sent stored 9 (Number (o .qty))
   quantity-short o h = decimal-few 8 (o .qty) (omega (arith, h .qty-high))
+
+  pub least-short : (o : Order) → Sound o → Short sent stored 9 (orNumber (o .minqty))
+  least-short o h = or-number-short 8 (o .minqty) (omega (arith, h .qty-high, minimum-most o h))

@@ -1,7 +1,7 @@
--- The seven kinds of report, each as its row of fields (document 01, "The reports"; source document 000, 7.2 and 7.5.1 to
--- 7.5.4, without 110 and 797): the header's fields from 35 on, then the body's with their tags ascending; 8, 9 and 10 are the
--- frame's. 34 and 17 are the report's number, 52 and 60 the causing message's 52; all of an order is taken after the event,
--- and its 38 is the quantity accepted, also after a decrement. Assumes nothing.
+-- The seven kinds of report, each as its row of fields (document 01, "The reports"; document 02, T-05; source document 000, 7.2
+-- and 7.5.1 to 7.5.4, without 797): the header's fields from 35 on, then the body's with their tags ascending; 8, 9 and 10 are
+-- the frame's. 34 and 17 are the report's number, 52 and 60 the causing message's 52; all of an order is taken after the event,
+-- its 38 is the quantity accepted, also after a decrement, and its 59 and 110 are as they were sent. Assumes nothing.
 use mathlib.Core.Bool.{Bool, true, false, cond}
 use mathlib.Core.List.{List, [], _∷_, _++_}
 use Prim.Native.Nat.{ℕ, _+_, _-_, _%_}
@@ -82,11 +82,12 @@ tradeStatus o = cond (eqb (openOf o) 0) 2 1
 unfoldable pub statusOf : Order → ℕ
 statusOf o = cond (ltb 0 (o .canceled)) 4 (cond (eqb (openOf o) 0) 2 (cond (ltb 0 (o .executed)) 1 0))
 
--- all of it: 109 if the order has an MPID, 6, 151, 54, 59, 8060, and 39 of a Trade and of Replaced
+-- all of it: 109 if the order has an MPID, 110 if it has a MinQty, 6, 151, 54, 59, 8060, and 39 of a Trade and of Replaced
 unfoldable pub figuresOf : Shown → Figures
 figuresOf o =
     record {
       client = orNumber (o .order .mpid);
+      least = orNumber (o .order .minqty);
       mean = avgPx (o .order);
       left = openOf (o .order);
       side = digit (o .order .side);
@@ -97,7 +98,7 @@ figuresOf o =
     }
 
 -- ---- 41 and 378 of Replaced and Canceled: as requested, 41 alone; by prevention 378=100, and on a decrement the order's own 11
--- as 41; of an IOC's rest 378=99
+-- as 41; of an order killed for want of its minimum and of an immediate order's rest 378=99
 
 abbrev pub requested : Value → Ground
 requested orig = record { orig = orig; reason = Absent }
@@ -151,6 +152,7 @@ acceptedFields s o g =
     ∷ 59 is g .tif
     ∷ 60 is s .time
     ∷ 109 is g .client
+    ∷ 110 is g .least
     ∷ 150 is char "0"
     ∷ 151 is Number (g .left)
     ∷ 423 is Number 9
@@ -182,6 +184,7 @@ replacedFields s o g w =
     ∷ 59 is g .tif
     ∷ 60 is s .time
     ∷ 109 is g .client
+    ∷ 110 is g .least
     ∷ 150 is char "5"
     ∷ 151 is Number (g .left)
     ∷ 378 is w .reason
@@ -192,7 +195,7 @@ replacedFields s o g w =
 abbrev pub replacedRow : Stamp → Shown → Ground → List Field
 replacedRow s o w = replacedFields s o (figuresOf o) w
 
--- Canceled, as requested, by prevention, or an IOC's rest
+-- Canceled, as requested, by prevention, or an immediate order that was killed or whose rest expired
 unfoldable pub canceledFields : Stamp → Shown → Figures → Ground → List Field
 canceledFields s o g w =
     header (byte "8") s
@@ -214,6 +217,7 @@ canceledFields s o g w =
     ∷ 59 is g .tif
     ∷ 60 is s .time
     ∷ 109 is g .client
+    ∷ 110 is g .least
     ∷ 150 is char "4"
     ∷ 151 is Number (g .left)
     ∷ 378 is w .reason
@@ -247,6 +251,7 @@ tradeFields s o g f =
     ∷ 59 is g .tif
     ∷ 60 is s .time
     ∷ 109 is g .client
+    ∷ 110 is g .least
     ∷ 150 is g .traded
     ∷ 151 is Number (g .left)
     ∷ 375 is Number (f .other)

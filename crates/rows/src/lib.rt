@@ -29,9 +29,10 @@ pub struct Shown {
     pub account: Value,
 }
 
-// What is worked out of an order for its reports: 109, 6, 151, 54, 59, 8060, and 39 of a Trade and of Replaced.
+// What is worked out of an order for its reports: 109, 110, 6, 151, 54, 59, 8060, and 39 of a Trade and of Replaced.
 pub struct Figures {
     pub client: Value,
+    pub least: Value,
     pub mean: u64,
     pub left: u64,
     pub side: Value,
@@ -186,6 +187,7 @@ fn figures_of(o: Shown) -> Figures
 {
     let x = o.order;
     let client = or_number(x.mpid);
+    let least = or_number(x.minqty);
     let side = digit(x.side);
     let tif = digit(x.tif);
     let class = digit(o.class);
@@ -195,6 +197,7 @@ fn figures_of(o: Shown) -> Figures
     let replaced = digit(r);
     Figures {
         client,
+        least,
         mean: avg_px(x),
         left: x.open_of(),
         side,
@@ -223,6 +226,7 @@ pub fn accepted_row(s: Stamp, o: Shown) -> [Field; 36]
     let account = o.account;
     let g = figures_of(o);
     let client = g.client;
+    let least = g.least;
     let side = g.side;
     let tif = g.tif;
     let class = g.class;
@@ -322,6 +326,10 @@ pub fn accepted_row(s: Stamp, o: Shown) -> [Field; 36]
             value: client,
         },
         Field {
+            tag: 110,
+            value: least,
+        },
+        Field {
             tag: 150,
             value: Value::Char(b'0'),
         },
@@ -337,7 +345,6 @@ pub fn accepted_row(s: Stamp, o: Shown) -> [Field; 36]
             tag: 8060,
             value: class,
         },
-        none,
         none,
         none,
         none,
@@ -369,6 +376,7 @@ pub fn replaced_row(s: Stamp, o: Shown, w: Ground) -> [Field; 36]
     let reason = w.reason;
     let g = figures_of(o);
     let client = g.client;
+    let least = g.least;
     let side = g.side;
     let tif = g.tif;
     let class = g.class;
@@ -473,6 +481,10 @@ pub fn replaced_row(s: Stamp, o: Shown, w: Ground) -> [Field; 36]
             value: client,
         },
         Field {
+            tag: 110,
+            value: least,
+        },
+        Field {
             tag: 150,
             value: Value::Char(b'5'),
         },
@@ -498,11 +510,10 @@ pub fn replaced_row(s: Stamp, o: Shown, w: Ground) -> [Field; 36]
         none,
         none,
         none,
-        none,
     ]
 }
 
-// The row of Canceled, as requested, by prevention, or an IOC's rest.
+// The row of Canceled, as requested, by prevention, or an immediate order that was killed or whose rest expired.
 pub fn canceled_row(s: Stamp, o: Shown, w: Ground) -> [Field; 36]
     requires { ⌜ Sound (o .order) ⌝ }
     ensures { λ r. ⌜ r ≡ padded (canceledRow s o w) ⌝ }
@@ -522,6 +533,7 @@ pub fn canceled_row(s: Stamp, o: Shown, w: Ground) -> [Field; 36]
     let reason = w.reason;
     let g = figures_of(o);
     let client = g.client;
+    let least = g.least;
     let side = g.side;
     let tif = g.tif;
     let class = g.class;
@@ -625,6 +637,10 @@ pub fn canceled_row(s: Stamp, o: Shown, w: Ground) -> [Field; 36]
             value: client,
         },
         Field {
+            tag: 110,
+            value: least,
+        },
+        Field {
             tag: 150,
             value: Value::Char(b'4'),
         },
@@ -644,7 +660,6 @@ pub fn canceled_row(s: Stamp, o: Shown, w: Ground) -> [Field; 36]
             tag: 8060,
             value: class,
         },
-        none,
         none,
         none,
         none,
@@ -672,6 +687,7 @@ pub fn trade_row(s: Stamp, o: Shown, f: Fill) -> [Field; 36]
     let account = o.account;
     let g = figures_of(o);
     let client = g.client;
+    let least = g.least;
     let side = g.side;
     let tif = g.tif;
     let class = g.class;
@@ -780,6 +796,10 @@ pub fn trade_row(s: Stamp, o: Shown, f: Fill) -> [Field; 36]
             value: client,
         },
         Field {
+            tag: 110,
+            value: least,
+        },
+        Field {
             tag: 150,
             value: status,
         },
@@ -811,7 +831,6 @@ pub fn trade_row(s: Stamp, o: Shown, f: Fill) -> [Field; 36]
             tag: 8060,
             value: class,
         },
-        none,
         none,
         none,
     ]

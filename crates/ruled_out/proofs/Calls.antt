@@ -10,15 +10,16 @@ use Rattle.decimal.specs.Writing.{decimal, places, plain, fixed, shareOf, meanO
 use Rattle.decimal.specs.Reading.{isDigit, digitOf, runOf, numberAfter, isNumber, numOf, digitAt, isFraction, fractionOf, sizeOf, levelOf, isTimeLength, twoAt, timeShaped, timeRanged, isTime}
 use Rattle.fix.specs.Fields.{isText, startsTag, leading, tagOf, valueFrom, valueLen, fieldOf, fieldsAfter, fieldsFrom, stepOf, findTag, valueOf, hasTag, repeats, cleanFields, lastTagOr}
 use Rattle.fix.specs.Garbled.{headedBy, ordered, headerRight, partOf, endOf, tenAt, lengthTrue, sumOf, checkSum, sumTrue, garbledMessage, bodyPart, headOf, frameOf}
-use Rattle.request.specs.Asks.{bodyOf, saidIn, lengthIn, refusalOf, termsIn, requestIn, completed, bodyAsked, headAsked, askedOf}
-use Rattle.request.specs.Session.{kindOf, oneOf, belongs, listed, shapeOf, charSays, lookAs, judge, firstFailing, firstMissing}
-use Rattle.matching.specs.Matching.{openOf, meets, better, faces, sameOwner, sumOver, countOf, choose, best, partner, prevention, meeting, ending, outcome, preventing, causes, placeAfter, change, happens, workAfter, opposed, opposedTo, Book}
+use Rattle.request.specs.Asks.{bodyOf, saidIn, lengthIn, hasIn, refusalOf, termsIn, requestIn, completed, agreed, bodyAsked, headAsked, askedOf}
+use Rattle.request.specs.Session.{kindOf, oneOf, belongs, listed, shapeOf, charSays, lookAs, judge, firstFailing, firstMissing, minimumClashes, firstClashing}
+use Rattle.matching.specs.Matching.{openOf, meets, better, faces, sameOwner, sumOver, countOf, choose, best, partner, prevention, meeting, ending, outcome, preventing, causes, placeAfter, change, happens, workAfter, after, play, run, minimumOf, wouldTrade, misses, decidedAfter, opposed, opposedTo, Book}
 use Rattle.matching.specs.Depth.{stands, behind, nearer, next, levelAt, onLevel, share, total, orders, depth}
-use Rattle.table.specs.Changes.{played, stepEvents, numbered, stepped, entered, renewed, taken}
-use Rattle.table.specs.Heading.{entries, entryOf, isListed, modeOf, mpidBytes, nextOf, endWork}
-use Rattle.table.specs.Market.{every, isPadded, hasLength, hasNames, isEntry, hasList, hasSettings, hasNext, hasWork, hasSpare, restZero, isCapacity, isClass, isRecord, isRanged, isKnown, isWithin, isShut, isPriced, isOrder, hasOrders, isFreshId, hasIds, isFreshPlace, hasPlaces, isDone, noIoc, isClear, noCross, hasNumbers, isBook, isMarket, isText as isStoredText}
+use Rattle.matching.specs.Held.{mayMinimum}
+use Rattle.table.specs.Changes.{played, missesNow, stepEvents, stepWork, numbered, stepped, entered, renewed, taken}
+use Rattle.table.specs.Heading.{entries, entryOf, isListed, modeOf, mpidBytes, nextOf, decidedOf, endWork}
+use Rattle.table.specs.Market.{every, isPadded, hasLength, hasNames, isEntry, hasList, hasSettings, hasNext, hasWork, hasSpare, restZero, isCapacity, isClass, isRecord, isRanged, isKnown, isWithin, isShut, isPriced, isOrder, hasOrders, isFreshId, hasIds, isFreshPlace, hasPlaces, isDone, noIoc, isClear, noCross, hasNumbers, isBook, hasDecision, isMarket, isText as isStoredText}
 use Rattle.table.specs.Opened.{isName, isNew, isGiven, areGiven, areNames, areSettings, namedTable, freshTable, isOpening, opened}
-use Rattle.table.specs.Orders.{orderAt, filled, ordersFrom, bookOf, idIndex, recordWith, termBytes, amountBytes, recordOf, applied, withdrawn, replaced, accepted, fieldBytes}
+use Rattle.table.specs.Orders.{orderAt, filled, ordersFrom, bookOf, idIndex, recordWith, termBytes, amountBytes, tailBytes, recordOf, applied, withdrawn, replaced, accepted, fieldBytes}
 use Rattle.calls.specs.Checks.{holder, newStands, changeStands, cancelStands, replaceStands}
 use Rattle.calls.specs.Submit.{rejecting, faulted, newRejected, changeRejected, newTaken, replacementTaken, cancelTaken, submitted, Submitted, submitNumber, submitLength}
 use Rattle.calls.specs.Run.{eventReport, eventReports, stepReports, worked, ran, Ran, runBytes, runReports, runSteps}
@@ -34,11 +35,11 @@ use Rattle.kamurjesh.specs.Numbers.{yieldOf}
 use lib.IntN.{pos}
 use Rattle.market.specs.Depth.{depthAnswer, depthNumber}
 use Rattle.octets.specs.Characters.{message}
-use Rattle.ruled_out.proofs.Books.{fresh, bookR}
+use Rattle.ruled_out.proofs.Books.{fresh, bookR, bookLeast, bookKill}
 
 -- opens all definitions
 computes : ℕ
-unfolding leAt bytesOf put partAt textAt textBytes sameBytes allZero allUpTo firstFrom decimal places plain fixed shareOf meanOf isDigit digitOf runOf numberAfter isNumber numOf digitAt isFraction fractionOf sizeOf levelOf isTimeLength twoAt timeShaped timeRanged isTime isText startsTag leading tagOf valueFrom valueLen fieldOf fieldsAfter fieldsFrom stepOf findTag valueOf hasTag repeats cleanFields lastTagOr headedBy ordered headerRight partOf endOf tenAt lengthTrue sumOf checkSum sumTrue garbledMessage bodyPart headOf frameOf bodyOf saidIn lengthIn refusalOf termsIn requestIn completed bodyAsked headAsked askedOf kindOf oneOf belongs listed shapeOf charSays lookAs judge firstFailing firstMissing openOf meets better faces sameOwner sumOver countOf choose best partner prevention meeting ending outcome preventing causes placeAfter change happens workAfter opposed opposedTo stands behind nearer next levelAt onLevel share total orders depth played stepEvents numbered stepped entered renewed taken entries entryOf isListed modeOf mpidBytes every isPadded hasLength hasNames isEntry hasList hasSettings hasNext hasWork hasSpare restZero isCapacity isClass isRecord isRanged isKnown isWithin isShut isPriced isOrder hasOrders isFreshId hasIds isFreshPlace hasPlaces isDone noIoc isClear noCross hasNumbers isBook isMarket isStoredText isName isNew isGiven areGiven areNames areSettings namedTable freshTable isOpening opened orderAt filled ordersFrom bookOf idIndex recordWith termBytes amountBytes recordOf applied withdrawn replaced accepted fieldBytes holder newStands changeStands cancelStands replaceStands rejecting faulted newRejected changeRejected newTaken replacementTaken cancelTaken submitted eventReport eventReports stepReports worked ran joined label written writtenField version front trailer reportBytes text orNumber digit orNobody avgPx replacedStatus tradeStatus statusOf figuresOf header acceptedFields replacedFields canceledFields tradeFields cancelRejectRow orStoredAt stampOn shownOn rowOf ticketOf unchangedOn unchangedRow openAnswer depthAnswer
+unfolding leAt bytesOf put partAt textAt textBytes sameBytes allZero allUpTo firstFrom decimal places plain fixed shareOf meanOf isDigit digitOf runOf numberAfter isNumber numOf digitAt isFraction fractionOf sizeOf levelOf isTimeLength twoAt timeShaped timeRanged isTime isText startsTag leading tagOf valueFrom valueLen fieldOf fieldsAfter fieldsFrom stepOf findTag valueOf hasTag repeats cleanFields lastTagOr headedBy ordered headerRight partOf endOf tenAt lengthTrue sumOf checkSum sumTrue garbledMessage bodyPart headOf frameOf bodyOf saidIn lengthIn hasIn refusalOf termsIn requestIn completed agreed bodyAsked headAsked askedOf kindOf oneOf belongs listed shapeOf charSays lookAs judge firstFailing firstMissing minimumClashes firstClashing openOf meets better faces sameOwner sumOver countOf choose best partner prevention meeting ending outcome preventing causes placeAfter change happens workAfter after play run minimumOf wouldTrade misses decidedAfter mayMinimum opposed opposedTo stands behind nearer next levelAt onLevel share total orders depth played missesNow stepEvents stepWork numbered stepped entered renewed taken entries entryOf isListed modeOf mpidBytes every isPadded hasLength hasNames isEntry hasList hasSettings hasNext hasWork hasSpare restZero isCapacity isClass isRecord isRanged isKnown isWithin isShut isPriced isOrder hasOrders isFreshId hasIds isFreshPlace hasPlaces isDone noIoc isClear noCross hasNumbers isBook hasDecision isMarket isStoredText isName isNew isGiven areGiven areNames areSettings namedTable freshTable isOpening opened orderAt filled ordersFrom bookOf idIndex recordWith termBytes amountBytes tailBytes recordOf applied withdrawn replaced accepted fieldBytes holder newStands changeStands cancelStands replaceStands rejecting faulted newRejected changeRejected newTaken replacementTaken cancelTaken submitted eventReport eventReports stepReports worked ran joined label written writtenField version front trailer reportBytes text orNumber digit orNobody avgPx replacedStatus tradeStatus statusOf figuresOf header acceptedFields replacedFields canceledFields tradeFields cancelRejectRow orStoredAt stampOn shownOn rowOf ticketOf unchangedOn unchangedRow openAnswer depthAnswer
 computes = 0
 
 -- ---- Open
@@ -74,6 +75,11 @@ buy-taken = refl
 untold : submitted (fresh 1) (message "x") 1024 .reports ≡ []
 unfolding computes
 untold = refl
+
+-- an order's MinQty is stored, of 0007 the number
+minimum-stored : orderAt (submitted (fresh 1) (message "8=FIX.4.2|9=132|35=D|34=1|49=P|52=20260101-09:00:00|56=V|11=A1|21=1|38=100|40=2|44=0.101|47=A|54=2|55=350|59=3|60=20260101-09:00:00|110=0007|8060=1|10=025|") 1024 .table) 1 .minqty ≡ 7
+unfolding computes
+minimum-stored = refl
 
 -- ---- Submit, while the buy rests
 
@@ -119,6 +125,33 @@ one-step = refl
 no-room : figures (ran (bookR 1) (508 + 1023) 256 .answer) ≡ 508 ∷ 2 ∷ 1 ∷ []
 unfolding computes
 no-room = refl
+
+-- ---- Run: minimums. A's buy is IOC; in mode 3 it would trade 800, and MPID 14's Fill or Kill 1,000
+
+-- a minimum of 800 is reached: 800 trade and the rest expires
+least-reached : after-run (ran (bookLeast 3 800) 262144 256) ≡ 5 ∷ 9 ∷ 0 ∷ 0 ∷ 0 ∷ 0 ∷ 0 ∷ []
+unfolding computes
+least-reached = refl
+
+-- it is decided in the first step: when two are taken 500 are left to trade, and the next call goes on
+decided-before : after-run (ran (ran (bookLeast 3 800) 262144 2 .table) 262144 256) ≡ 3 ∷ 5 ∷ 0 ∷ 0 ∷ 0 ∷ 0 ∷ 0 ∷ []
+unfolding computes
+decided-before = refl
+
+-- one more is not: one step and one report, and what rests stays, A's own sell too
+least-missed : after-run (ran (bookLeast 3 801) 262144 256) ≡ 1 ∷ 1 ∷ 100 ∷ 200 ∷ 200 ∷ 500 ∷ 0 ∷ []
+unfolding computes
+least-missed = refl
+
+-- 1,200 Fill or Kill are not either
+kill-missed : after-run (ran bookKill 262144 256) ≡ 1 ∷ 1 ∷ 100 ∷ 200 ∷ 200 ∷ 500 ∷ 0 ∷ []
+unfolding computes
+kill-missed = refl
+
+-- the heading notes the decision from the first step on, and nothing when the work is ended or the order has no minimum
+decision-noted : map decidedOf (bookLeast 3 800 ∷ ran (bookLeast 3 800) 262144 1 .table ∷ ran (bookLeast 3 800) 262144 256 .table ∷ ran (bookR 3) 262144 1 .table ∷ []) ≡ 0 ∷ 1 ∷ 0 ∷ 0 ∷ []
+unfolding computes
+decision-noted = refl
 
 -- ---- Depth
 

@@ -1,4 +1,4 @@
--- Book R's table, with A's buy in work, is a market; with any one clause broken it is none. By computing: the definitions are
+-- Book R's table, with a buy in work, is a market; with any one clause broken it is none. By computing: the definitions are
 -- run on all 32,768 bytes.
 use mathlib.Core.Path.{_≡_, refl}
 use mathlib.Core.Bool.{true, false}
@@ -8,17 +8,18 @@ use lib.ListN.{set}
 use Rattle.octets.specs.Octets.{leAt, bytesOf, put, partAt, textAt, textBytes, sameBytes, allZero}
 use Rattle.octets.specs.Tests.{allUpTo, firstFrom}
 use Rattle.decimal.specs.Reading.{isDigit, digitOf, isTime, isTimeLength, timeShaped, timeRanged, twoAt}
-use Rattle.matching.specs.Matching.{openOf, meets, opposed, opposedTo, countOf, sumOver}
-use Rattle.table.specs.Heading.{entries, entryOf, isListed, modeOf, mpidBytes, putNext, endWork}
-use Rattle.table.specs.Orders.{orderAt, filled, ordersFrom, bookOf, termBytes, amountBytes, fieldBytes, recordOf, accepted}
-use Rattle.table.specs.Market.{every, isPadded, isText, hasLength, hasNames, isEntry, hasList, hasSettings, hasNext, hasWork, hasSpare, restZero, isCapacity, isClass, isRecord, isRanged, isKnown, isWithin, isShut, isPriced, isOrder, hasOrders, isFreshId, hasIds, isFreshPlace, hasPlaces, isDone, noIoc, isClear, noCross, hasNumbers, isBook, isMarket}
+use Rattle.matching.specs.Matching.{openOf, meets, opposed, opposedTo, countOf, sumOver, minimumOf}
+use Rattle.matching.specs.Held.{mayMinimum}
+use Rattle.table.specs.Heading.{entries, entryOf, isListed, modeOf, mpidBytes, putNext, putDecided, endWork}
+use Rattle.table.specs.Orders.{orderAt, filled, ordersFrom, bookOf, termBytes, amountBytes, tailBytes, fieldBytes, recordOf, accepted}
+use Rattle.table.specs.Market.{every, isPadded, isText, hasLength, hasNames, isEntry, hasList, hasSettings, hasNext, hasWork, hasSpare, restZero, isCapacity, isClass, isRecord, isRanged, isKnown, isWithin, isShut, isPriced, isOrder, hasOrders, isFreshId, hasIds, isFreshPlace, hasPlaces, isDone, noIoc, isClear, noCross, hasNumbers, isBook, hasDecision, isMarket}
 use Rattle.table.specs.Opened.{namedTable, freshTable}
 use Rattle.octets.specs.Characters.{message}
-use Rattle.ruled_out.proofs.Books.{fresh, bookR}
+use Rattle.ruled_out.proofs.Books.{fresh, bookR, bookLeast, bookKill}
 
 -- opens all definitions
 computes : ℕ
-unfolding leAt bytesOf put partAt textAt textBytes sameBytes allZero allUpTo firstFrom isDigit digitOf isTime isTimeLength timeShaped timeRanged twoAt openOf meets opposed opposedTo countOf sumOver entries entryOf isListed modeOf mpidBytes orderAt filled ordersFrom bookOf termBytes amountBytes fieldBytes recordOf accepted every isPadded isText hasLength hasNames isEntry hasList hasSettings hasNext hasWork hasSpare restZero isCapacity isClass isRecord isRanged isKnown isWithin isShut isPriced isOrder hasOrders isFreshId hasIds isFreshPlace hasPlaces isDone noIoc isClear noCross hasNumbers isBook isMarket namedTable freshTable
+unfolding leAt bytesOf put partAt textAt textBytes sameBytes allZero allUpTo firstFrom isDigit digitOf isTime isTimeLength timeShaped timeRanged twoAt openOf meets opposed opposedTo countOf sumOver minimumOf mayMinimum entries entryOf isListed modeOf mpidBytes orderAt filled ordersFrom bookOf termBytes amountBytes tailBytes fieldBytes recordOf accepted every isPadded isText hasLength hasNames isEntry hasList hasSettings hasNext hasWork hasSpare restZero isCapacity isClass isRecord isRanged isKnown isWithin isShut isPriced isOrder hasOrders isFreshId hasIds isFreshPlace hasPlaces isDone noIoc isClear noCross hasNumbers isBook hasDecision isMarket namedTable freshTable
 computes = 0
 
 -- a table just opened, and book R's
@@ -47,7 +48,8 @@ mode-four : isMarket (set (bookR 1) 88 4) ≡ false
 unfolding computes
 mode-four = refl
 
--- ---- the heading: a next number of 0, an order in work that is none, a 52 without one, a 52 that is no time, an unused byte
+-- ---- the heading: a next number of 0, an order in work that is none, a 52 without one, a 52 that is no time, the first and the last
+-- unused byte
 next-zero : isMarket (set (bookR 1) 28 0) ≡ false
 unfolding computes
 next-zero = refl
@@ -64,11 +66,16 @@ stamp-wrong : isMarket (set (bookR 1) 38 57) ≡ false
 unfolding computes
 stamp-wrong = refl
 
+heading-rest : isMarket (set (bookR 1) 97 1) ≡ false
+unfolding computes
+heading-rest = refl
+
 heading-unused : isMarket (set (bookR 1) 127 1) ≡ false
 unfolding computes
 heading-unused = refl
 
--- ---- the records: a gap, a byte behind the last one, an unused byte, a capacity B, a side 3, an MPID that is not listed
+-- ---- the records: a gap, a byte behind the last one, unused bytes before and behind MinQty, a capacity B, a side 3, an MPID that
+-- is not listed
 gap : isMarket (set (bookR 1) 384 0) ≡ false
 unfolding computes
 gap = refl
@@ -80,6 +87,10 @@ rest = refl
 record-unused : isMarket (set (bookR 1) 212 1) ≡ false
 unfolding computes
 record-unused = refl
+
+record-rest : isMarket (set (bookR 1) 220 1) ≡ false
+unfolding computes
+record-rest = refl
 
 capacity-b : isMarket (set (bookR 1) 174 66) ≡ false
 unfolding computes
@@ -135,3 +146,54 @@ numbers-fit = refl
 numbers-spent : isMarket (putNext (bookR 1) 999999992) ≡ false
 unfolding computes
 numbers-spent = refl
+
+-- ---- minimums: a MinQty as large as OrderQty, a Fill or Kill, and a decision that is made
+least-is : isMarket (bookLeast 3 1200) ≡ true
+unfolding computes
+least-is = refl
+
+kill-is : isMarket bookKill ≡ true
+unfolding computes
+kill-is = refl
+
+decided-is : isMarket (putDecided (bookLeast 3 800) 1) ≡ true
+unfolding computes
+decided-is = refl
+
+kill-decided-is : isMarket (putDecided bookKill 1) ≡ true
+unfolding computes
+kill-decided-is = refl
+
+-- a MinQty above OrderQty, on a Day order, on a Fill or Kill; a time in force 1; an open Fill or Kill that is not in work
+minimum-above : isMarket (bookLeast 3 1201) ≡ false
+unfolding computes
+minimum-above = refl
+
+minimum-day : isMarket (set (bookR 1) 728 1) ≡ false
+unfolding computes
+minimum-day = refl
+
+minimum-kill : isMarket (set bookKill 728 1) ≡ false
+unfolding computes
+minimum-kill = refl
+
+tif-one : isMarket (set (bookR 1) 173 1) ≡ false
+unfolding computes
+tif-one = refl
+
+kill-resting : isMarket (set (bookR 1) 173 4) ≡ false
+unfolding computes
+kill-resting = refl
+
+-- a decision with nothing in work, on an order that has no minimum, and a decision 2
+decided-idle : isMarket (set (fresh 1) 96 1) ≡ false
+unfolding computes
+decided-idle = refl
+
+decided-none : isMarket (set (bookR 1) 96 1) ≡ false
+unfolding computes
+decided-none = refl
+
+decision-two : isMarket (set (bookLeast 3 800) 96 2) ≡ false
+unfolding computes
+decision-two = refl

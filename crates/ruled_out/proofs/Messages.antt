@@ -10,13 +10,13 @@ use Rattle.fix.specs.Fields.{isText, startsTag, leading, tagOf, valueFrom, valu
 use Rattle.fix.specs.Garbled.{headedBy, ordered, headerRight, partOf, endOf, tenAt, lengthTrue, sumOf, checkSum, sumTrue, garbledMessage, bodyPart, headOf, frameOf}
 use Rattle.request.specs.declared.Asked.{Asked}
 use Rattle.request.specs.declared.Asked.the-variants.{Garbled, Refused, Enters, Replaces, Cancels}
-use Rattle.request.specs.Asks.{bodyOf, saidIn, lengthIn, refusalOf, termsIn, requestIn, completed, bodyAsked, headAsked, askedOf}
-use Rattle.request.specs.Session.{kindOf, oneOf, belongs, listed, shapeOf, charSays, lookAs, judge, firstFailing, firstMissing}
+use Rattle.request.specs.Asks.{bodyOf, saidIn, lengthIn, hasIn, refusalOf, termsIn, requestIn, completed, agreed, bodyAsked, headAsked, askedOf}
+use Rattle.request.specs.Session.{kindOf, oneOf, belongs, listed, shapeOf, charSays, lookAs, judge, firstFailing, firstMissing, minimumClashes, firstClashing}
 use Rattle.octets.specs.Characters.{message}
 
 -- opens all definitions
 computes : ℕ
-unfolding partAt sameBytes isDigit digitOf runOf numberAfter isNumber numOf digitAt isFraction fractionOf sizeOf levelOf isTimeLength twoAt timeShaped timeRanged isTime isText startsTag leading tagOf valueFrom valueLen fieldOf fieldsAfter fieldsFrom stepOf findTag valueOf hasTag repeats cleanFields lastTagOr headedBy ordered headerRight partOf endOf tenAt lengthTrue sumOf checkSum sumTrue garbledMessage bodyPart headOf frameOf bodyOf saidIn lengthIn refusalOf termsIn requestIn completed bodyAsked headAsked askedOf kindOf oneOf belongs listed shapeOf charSays lookAs judge firstFailing firstMissing
+unfolding partAt sameBytes isDigit digitOf runOf numberAfter isNumber numOf digitAt isFraction fractionOf sizeOf levelOf isTimeLength twoAt timeShaped timeRanged isTime isText startsTag leading tagOf valueFrom valueLen fieldOf fieldsAfter fieldsFrom stepOf findTag valueOf hasTag repeats cleanFields lastTagOr headedBy ordered headerRight partOf endOf tenAt lengthTrue sumOf checkSum sumTrue garbledMessage bodyPart headOf frameOf bodyOf saidIn lengthIn hasIn refusalOf termsIn requestIn completed agreed bodyAsked headAsked askedOf kindOf oneOf belongs listed shapeOf charSays lookAs judge firstFailing firstMissing minimumClashes firstClashing
 computes = 0
 
 -- ---- garbled
@@ -93,3 +93,88 @@ other-type = refl
 missing : fault (asks "8=FIX.4.2|9=63|35=F|34=1|49=P|52=20260105-09:00:00|56=V|11=b|41=a|54=1|55=350|10=216|") ≡ record { reason = 1; tag = 60 }
 unfolding computes asks
 missing = refl
+
+-- ---- 59 and 110 of a new order: a sell of 100
+
+-- as they were sent, 110 without needless zeros and 0 where it has none; nothing of what is not taken
+abbrev sent : Asked → List ℕ
+sent Garbled = []
+sent (Refused r) = []
+sent (Enters o) = o .terms .tif ∷ o .terms .minqty ∷ []
+sent (Replaces o) = []
+sent (Cancels o) = []
+
+-- an IOC may ask for all that it orders, and Fill or Kill is a time in force of its own
+minimum-taken : sent (asks "8=FIX.4.2|9=131|35=D|34=1|49=P|52=20260101-09:00:00|56=V|11=A1|21=1|38=100|40=2|44=0.101|47=A|54=2|55=350|59=3|60=20260101-09:00:00|110=100|8060=1|10=226|") ≡ 3 ∷ 100 ∷ []
+unfolding computes asks
+minimum-taken = refl
+
+minimum-zeros : sent (asks "8=FIX.4.2|9=132|35=D|34=1|49=P|52=20260101-09:00:00|56=V|11=A1|21=1|38=100|40=2|44=0.101|47=A|54=2|55=350|59=3|60=20260101-09:00:00|110=0007|8060=1|10=025|") ≡ 3 ∷ 7 ∷ []
+unfolding computes asks
+minimum-zeros = refl
+
+kill-taken : sent (asks "8=FIX.4.2|9=123|35=D|34=1|49=P|52=20260101-09:00:00|56=V|11=A1|21=1|38=100|40=2|44=0.101|47=A|54=2|55=350|59=4|60=20260101-09:00:00|8060=1|10=131|") ≡ 4 ∷ 0 ∷ []
+unfolding computes asks
+kill-taken = refl
+
+-- there is no 59=1
+tif-one : fault (asks "8=FIX.4.2|9=123|35=D|34=1|49=P|52=20260101-09:00:00|56=V|11=A1|21=1|38=100|40=2|44=0.101|47=A|54=2|55=350|59=1|60=20260101-09:00:00|8060=1|10=128|") ≡ record { reason = 5; tag = 59 }
+unfolding computes asks
+tif-one = refl
+
+-- 110 is refused on a Day order, beside 59=4, and above 38
+minimum-day : fault (asks "8=FIX.4.2|9=130|35=D|34=1|49=P|52=20260101-09:00:00|56=V|11=A1|21=1|38=100|40=2|44=0.101|47=A|54=2|55=350|59=0|60=20260101-09:00:00|110=50|8060=1|10=178|") ≡ record { reason = 5; tag = 110 }
+unfolding computes asks
+minimum-day = refl
+
+minimum-kill : fault (asks "8=FIX.4.2|9=131|35=D|34=1|49=P|52=20260101-09:00:00|56=V|11=A1|21=1|38=100|40=2|44=0.101|47=A|54=2|55=350|59=4|60=20260101-09:00:00|110=100|8060=1|10=227|") ≡ record { reason = 5; tag = 110 }
+unfolding computes asks
+minimum-kill = refl
+
+minimum-above : fault (asks "8=FIX.4.2|9=131|35=D|34=1|49=P|52=20260101-09:00:00|56=V|11=A1|21=1|38=100|40=2|44=0.101|47=A|54=2|55=350|59=3|60=20260101-09:00:00|110=101|8060=1|10=227|") ≡ record { reason = 5; tag = 110 }
+unfolding computes asks
+minimum-above = refl
+
+-- it is 1 at least, and has 9 digits at most
+minimum-zero : fault (asks "8=FIX.4.2|9=129|35=D|34=1|49=P|52=20260101-09:00:00|56=V|11=A1|21=1|38=100|40=2|44=0.101|47=A|54=2|55=350|59=3|60=20260101-09:00:00|110=0|8060=1|10=136|") ≡ record { reason = 5; tag = 110 }
+unfolding computes asks
+minimum-zero = refl
+
+minimum-long : fault (asks "8=FIX.4.2|9=138|35=D|34=1|49=P|52=20260101-09:00:00|56=V|11=A1|21=1|38=100|40=2|44=0.101|47=A|54=2|55=350|59=3|60=20260101-09:00:00|110=1234567890|8060=1|10=101|") ≡ record { reason = 6; tag = 110 }
+unfolding computes asks
+minimum-long = refl
+
+-- it belongs to no replacement and to no cancel
+minimum-replaces : fault (asks "8=FIX.4.2|9=119|35=G|34=1|49=P|52=20260101-09:00:00|56=V|11=B1|21=1|38=100|40=2|41=A1|44=0.101|54=2|55=350|60=20260101-09:00:00|110=50|10=207|") ≡ record { reason = 2; tag = 110 }
+unfolding computes asks
+minimum-replaces = refl
+
+minimum-cancels : fault (asks "8=FIX.4.2|9=93|35=F|34=1|49=P|52=20260101-09:00:00|56=V|11=B1|41=A1|54=2|55=350|60=20260101-09:00:00|110=50|10=041|") ≡ record { reason = 2; tag = 110 }
+unfolding computes asks
+minimum-cancels = refl
+
+-- where 59 or 38 is missing 110 is not compared with it, but still with the other
+minimum-no-tif : fault (asks "8=FIX.4.2|9=126|35=D|34=1|49=P|52=20260101-09:00:00|56=V|11=A1|21=1|38=100|40=2|44=0.101|47=A|54=2|55=350|60=20260101-09:00:00|110=100|8060=1|10=007|") ≡ record { reason = 1; tag = 59 }
+unfolding computes asks
+minimum-no-tif = refl
+
+minimum-no-quantity : fault (asks "8=FIX.4.2|9=124|35=D|34=1|49=P|52=20260101-09:00:00|56=V|11=A1|21=1|40=2|44=0.101|47=A|54=2|55=350|59=3|60=20260101-09:00:00|110=999|8060=1|10=196|") ≡ record { reason = 1; tag = 38 }
+unfolding computes asks
+minimum-no-quantity = refl
+
+minimum-no-tif-above : fault (asks "8=FIX.4.2|9=126|35=D|34=1|49=P|52=20260101-09:00:00|56=V|11=A1|21=1|38=100|40=2|44=0.101|47=A|54=2|55=350|60=20260101-09:00:00|110=101|8060=1|10=008|") ≡ record { reason = 5; tag = 110 }
+unfolding computes asks
+minimum-no-tif-above = refl
+
+minimum-no-quantity-day : fault (asks "8=FIX.4.2|9=122|35=D|34=1|49=P|52=20260101-09:00:00|56=V|11=A1|21=1|40=2|44=0.101|47=A|54=2|55=350|59=0|60=20260101-09:00:00|110=1|8060=1|10=069|") ≡ record { reason = 5; tag = 110 }
+unfolding computes asks
+minimum-no-quantity-day = refl
+
+-- fields are compared when each has passed by itself, a wrong 8060 behind them too, and before 11 is missed
+minimum-later : fault (asks "8=FIX.4.2|9=129|35=D|34=1|49=P|52=20260101-09:00:00|56=V|11=A1|21=1|38=100|40=2|44=0.101|47=A|54=2|55=350|59=0|60=20260101-09:00:00|110=1|8060=2|10=135|") ≡ record { reason = 5; tag = 8060 }
+unfolding computes asks
+minimum-later = refl
+
+minimum-sooner : fault (asks "8=FIX.4.2|9=123|35=D|34=1|49=P|52=20260101-09:00:00|56=V|21=1|38=100|40=2|44=0.101|47=A|54=2|55=350|59=0|60=20260101-09:00:00|110=1|8060=1|10=110|") ≡ record { reason = 5; tag = 110 }
+unfolding computes asks
+minimum-sooner = refl

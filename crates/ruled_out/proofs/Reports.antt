@@ -11,14 +11,15 @@ use Rattle.decimal.specs.Canonical.{bare, bareOf, exactlyOf, amountOf, fixedOf}
 use Rattle.decimal.specs.Reading.{isDigit, digitOf, runOf, numberAfter, isNumber, numOf, digitAt, isFraction, fractionOf, sizeOf, levelOf, isTimeLength, twoAt, timeShaped, timeRanged, isTime}
 use Rattle.fix.specs.Fields.{isText, startsTag, leading, tagOf, valueFrom, valueLen, fieldOf, fieldsAfter, fieldsFrom, stepOf, findTag, valueOf, hasTag, repeats, cleanFields, lastTagOr}
 use Rattle.fix.specs.Garbled.{headedBy, ordered, headerRight, partOf, endOf, tenAt, lengthTrue, sumOf, checkSum, sumTrue, garbledMessage, bodyPart, headOf, frameOf}
-use Rattle.request.specs.Asks.{bodyOf, saidIn, lengthIn, refusalOf, termsIn, requestIn, completed, bodyAsked, headAsked, askedOf}
-use Rattle.request.specs.Session.{kindOf, oneOf, belongs, listed, shapeOf, charSays, lookAs, judge, firstFailing, firstMissing}
-use Rattle.matching.specs.Matching.{openOf, meets, better, faces, sameOwner, sumOver, countOf, choose, best, partner, prevention, meeting, ending, outcome, preventing, causes, change, happens, workAfter, opposed, opposedTo}
-use Rattle.table.specs.Changes.{played, stepEvents, numbered, stepped, entered, renewed, taken}
+use Rattle.request.specs.Asks.{bodyOf, saidIn, lengthIn, hasIn, refusalOf, termsIn, requestIn, completed, agreed, bodyAsked, headAsked, askedOf}
+use Rattle.request.specs.Session.{kindOf, oneOf, belongs, listed, shapeOf, charSays, lookAs, judge, firstFailing, firstMissing, minimumClashes, firstClashing}
+use Rattle.matching.specs.Matching.{openOf, meets, better, faces, sameOwner, sumOver, countOf, choose, best, partner, prevention, meeting, ending, outcome, preventing, causes, change, happens, workAfter, after, play, run, minimumOf, wouldTrade, misses, decidedAfter, opposed, opposedTo}
+use Rattle.matching.specs.Held.{mayMinimum}
+use Rattle.table.specs.Changes.{played, missesNow, stepEvents, stepWork, numbered, stepped, entered, renewed, taken}
 use Rattle.table.specs.Heading.{entries, entryOf, isListed, modeOf, mpidBytes, endWork}
-use Rattle.table.specs.Market.{every, isPadded, hasLength, hasNames, isEntry, hasList, hasSettings, hasNext, hasWork, hasSpare, restZero, isCapacity, isClass, isRecord, isRanged, isKnown, isWithin, isShut, isPriced, isOrder, hasOrders, isFreshId, hasIds, isFreshPlace, hasPlaces, isDone, noIoc, isClear, noCross, hasNumbers, isBook, isMarket, isText as isStoredText}
+use Rattle.table.specs.Market.{every, isPadded, hasLength, hasNames, isEntry, hasList, hasSettings, hasNext, hasWork, hasSpare, restZero, isCapacity, isClass, isRecord, isRanged, isKnown, isWithin, isShut, isPriced, isOrder, hasOrders, isFreshId, hasIds, isFreshPlace, hasPlaces, isDone, noIoc, isClear, noCross, hasNumbers, isBook, hasDecision, isMarket, isText as isStoredText}
 use Rattle.table.specs.Opened.{isName, isNew, isGiven, areGiven, areNames, areSettings, namedTable, freshTable, isOpening, opened}
-use Rattle.table.specs.Orders.{orderAt, filled, ordersFrom, bookOf, idIndex, recordWith, termBytes, amountBytes, recordOf, applied, withdrawn, replaced, accepted, fieldBytes}
+use Rattle.table.specs.Orders.{orderAt, filled, ordersFrom, bookOf, idIndex, recordWith, termBytes, amountBytes, tailBytes, recordOf, applied, withdrawn, replaced, accepted, fieldBytes}
 use Rattle.calls.specs.Checks.{holder, newStands, changeStands, cancelStands, replaceStands}
 use Rattle.calls.specs.Submit.{rejecting, faulted, newRejected, changeRejected, newTaken, replacementTaken, cancelTaken, submitted}
 use Rattle.calls.specs.Run.{eventReport, eventReports, stepReports, worked, ran}
@@ -35,11 +36,11 @@ use Rattle.readback.specs.Says.{says}
 use Rattle.report.specs.declared.Part.the-variants.{Nowhere}
 use Rattle.calls.specs.Read.{readNumber}
 use Rattle.octets.specs.Characters.{message}
-use Rattle.ruled_out.proofs.Books.{fresh, bookR}
+use Rattle.ruled_out.proofs.Books.{fresh, bookR, bookLeast, bookKill}
 
 -- opens all definitions
 computes : ℕ
-unfolding leAt bytesOf put partAt textAt textBytes sameBytes allZero allUpTo firstFrom decimal places plain fixed shareOf meanOf bare bareOf exactlyOf amountOf fixedOf isDigit digitOf runOf numberAfter isNumber numOf digitAt isFraction fractionOf sizeOf levelOf isTimeLength twoAt timeShaped timeRanged isTime isText startsTag leading tagOf valueFrom valueLen fieldOf fieldsAfter fieldsFrom stepOf findTag valueOf hasTag repeats cleanFields lastTagOr headedBy ordered headerRight partOf endOf tenAt lengthTrue sumOf checkSum sumTrue garbledMessage bodyPart headOf frameOf bodyOf saidIn lengthIn refusalOf termsIn requestIn completed bodyAsked headAsked askedOf kindOf oneOf belongs listed shapeOf charSays lookAs judge firstFailing firstMissing openOf meets better faces sameOwner sumOver countOf choose best partner prevention meeting ending outcome preventing causes change happens workAfter opposed opposedTo played stepEvents numbered stepped entered renewed taken entries entryOf isListed modeOf mpidBytes every isPadded hasLength hasNames isEntry hasList hasSettings hasNext hasWork hasSpare restZero isCapacity isClass isRecord isRanged isKnown isWithin isShut isPriced isOrder hasOrders isFreshId hasIds isFreshPlace hasPlaces isDone noIoc isClear noCross hasNumbers isBook isMarket isStoredText isName isNew isGiven areGiven areNames areSettings namedTable freshTable isOpening opened orderAt filled ordersFrom bookOf idIndex recordWith termBytes amountBytes recordOf applied withdrawn replaced accepted fieldBytes holder newStands changeStands cancelStands replaceStands rejecting faulted newRejected changeRejected newTaken replacementTaken cancelTaken submitted eventReport eventReports stepReports worked ran joined label written writtenField version front trailer reportBytes valueAt fieldAt hop placeOf bodyAt trailerAt readFramed executionFor kindFor firstOf oneReason readOf kindOfReport placeOfTag oneIn wordIn recordIn textIn timeIn acceptedSlots replacedSlots canceledSlots tradeSlots cancelRejectSlots text orNumber digit orNobody avgPx replacedStatus tradeStatus statusOf figuresOf header acceptedFields replacedFields canceledFields tradeFields cancelRejectRow orStoredAt stampOn shownOn rowOf ticketOf unchangedOn unchangedRow says
+unfolding leAt bytesOf put partAt textAt textBytes sameBytes allZero allUpTo firstFrom decimal places plain fixed shareOf meanOf bare bareOf exactlyOf amountOf fixedOf isDigit digitOf runOf numberAfter isNumber numOf digitAt isFraction fractionOf sizeOf levelOf isTimeLength twoAt timeShaped timeRanged isTime isText startsTag leading tagOf valueFrom valueLen fieldOf fieldsAfter fieldsFrom stepOf findTag valueOf hasTag repeats cleanFields lastTagOr headedBy ordered headerRight partOf endOf tenAt lengthTrue sumOf checkSum sumTrue garbledMessage bodyPart headOf frameOf bodyOf saidIn lengthIn hasIn refusalOf termsIn requestIn completed agreed bodyAsked headAsked askedOf kindOf oneOf belongs listed shapeOf charSays lookAs judge firstFailing firstMissing minimumClashes firstClashing openOf meets better faces sameOwner sumOver countOf choose best partner prevention meeting ending outcome preventing causes change happens workAfter after play run minimumOf wouldTrade misses decidedAfter mayMinimum opposed opposedTo played missesNow stepEvents stepWork numbered stepped entered renewed taken entries entryOf isListed modeOf mpidBytes every isPadded hasLength hasNames isEntry hasList hasSettings hasNext hasWork hasSpare restZero isCapacity isClass isRecord isRanged isKnown isWithin isShut isPriced isOrder hasOrders isFreshId hasIds isFreshPlace hasPlaces isDone noIoc isClear noCross hasNumbers isBook hasDecision isMarket isStoredText isName isNew isGiven areGiven areNames areSettings namedTable freshTable isOpening opened orderAt filled ordersFrom bookOf idIndex recordWith termBytes amountBytes tailBytes recordOf applied withdrawn replaced accepted fieldBytes holder newStands changeStands cancelStands replaceStands rejecting faulted newRejected changeRejected newTaken replacementTaken cancelTaken submitted eventReport eventReports stepReports worked ran joined label written writtenField version front trailer reportBytes valueAt fieldAt hop placeOf bodyAt trailerAt readFramed executionFor kindFor firstOf oneReason readOf kindOfReport placeOfTag oneIn wordIn recordIn textIn timeIn acceptedSlots replacedSlots canceledSlots tradeSlots cancelRejectSlots text orNumber digit orNobody avgPx replacedStatus tradeStatus statusOf figuresOf header acceptedFields replacedFields canceledFields tradeFields cancelRejectRow orStoredAt stampOn shownOn rowOf ticketOf unchangedOn unchangedRow says
 computes = 0
 
 -- ---- Read
@@ -67,6 +68,39 @@ prevented-canceled = refl
 two-reasons : readNumber (readOf (message "8=FIX.4.2|9=218|35=8|34=7|49=V|50=DJGB|52=20260105-09:00:01|56=P|1=ACC-1|6=0.100666|11=BUY-1|14=300|17=7|20=0|37=7|38=1200|39=4|40=2|41=BUY-1|44=0.100|47=A|54=1|55=350|59=0|60=20260105-09:00:01|109=10|150=4|151=0|378=100|423=9|8060=1|10=109|") .kind) ≡ 11
 unfolding computes
 two-reasons = refl
+
+-- 59 and 110 are read as they stand, and neither is compared with the other or with 38
+abbrev order-says : List ℕ → List ℕ
+order-says r = readNumber (readOf r .kind) ∷ says 59 (readOf r) ∷ says 110 (readOf r) ∷ []
+
+least-read : order-says (message "8=FIX.4.2|9=210|35=8|34=1|49=V|50=DJGB|52=20260105-09:00:02|56=P|1=ACC-1|6=0.000000|11=BUY-1|14=0|17=1|20=0|37=7|38=1200|39=0|40=2|44=0.100|47=A|54=1|55=350|59=3|60=20260105-09:00:02|109=10|110=700|150=0|151=1200|423=9|8060=1|10=120|") ≡ 0 ∷ 3 ∷ 700 ∷ []
+unfolding computes
+least-read = refl
+
+kill-read : order-says (message "8=FIX.4.2|9=202|35=8|34=1|49=V|50=DJGB|52=20260105-09:00:02|56=P|1=ACC-1|6=0.000000|11=BUY-1|14=0|17=1|20=0|37=7|38=1200|39=0|40=2|44=0.100|47=A|54=1|55=350|59=4|60=20260105-09:00:02|109=10|150=0|151=1200|423=9|8060=1|10=019|") ≡ 0 ∷ 4 ∷ 0 ∷ []
+unfolding computes
+kill-read = refl
+
+uncompared : order-says (message "8=FIX.4.2|9=211|35=8|34=1|49=V|50=DJGB|52=20260105-09:00:02|56=P|1=ACC-1|6=0.000000|11=BUY-1|14=0|17=1|20=0|37=7|38=1200|39=0|40=2|44=0.100|47=A|54=1|55=350|59=4|60=20260105-09:00:02|109=10|110=1201|150=0|151=1200|423=9|8060=1|10=167|") ≡ 0 ∷ 4 ∷ 1201 ∷ []
+unfolding computes
+uncompared = refl
+
+-- there is no 59=1, 110 stands between 109 and 150, and has no needless zero
+tif-one : readNumber (readOf (message "8=FIX.4.2|9=202|35=8|34=1|49=V|50=DJGB|52=20260105-09:00:02|56=P|1=ACC-1|6=0.000000|11=BUY-1|14=0|17=1|20=0|37=7|38=1200|39=0|40=2|44=0.100|47=A|54=1|55=350|59=1|60=20260105-09:00:02|109=10|150=0|151=1200|423=9|8060=1|10=016|") .kind) ≡ 11
+unfolding computes
+tif-one = refl
+
+least-before : readNumber (readOf (message "8=FIX.4.2|9=210|35=8|34=1|49=V|50=DJGB|52=20260105-09:00:02|56=P|1=ACC-1|6=0.000000|11=BUY-1|14=0|17=1|20=0|37=7|38=1200|39=0|40=2|44=0.100|47=A|54=1|55=350|59=3|60=20260105-09:00:02|110=700|109=10|150=0|151=1200|423=9|8060=1|10=120|") .kind) ≡ 11
+unfolding computes
+least-before = refl
+
+least-behind : readNumber (readOf (message "8=FIX.4.2|9=210|35=8|34=1|49=V|50=DJGB|52=20260105-09:00:02|56=P|1=ACC-1|6=0.000000|11=BUY-1|14=0|17=1|20=0|37=7|38=1200|39=0|40=2|44=0.100|47=A|54=1|55=350|59=3|60=20260105-09:00:02|109=10|150=0|110=700|151=1200|423=9|8060=1|10=120|") .kind) ≡ 11
+unfolding computes
+least-behind = refl
+
+least-zeros : readNumber (readOf (message "8=FIX.4.2|9=211|35=8|34=1|49=V|50=DJGB|52=20260105-09:00:02|56=P|1=ACC-1|6=0.000000|11=BUY-1|14=0|17=1|20=0|37=7|38=1200|39=0|40=2|44=0.100|47=A|54=1|55=350|59=3|60=20260105-09:00:02|109=10|110=0700|150=0|151=1200|423=9|8060=1|10=169|") .kind) ≡ 11
+unfolding computes
+least-zeros = refl
 
 -- ---- the place of a field
 
@@ -108,6 +142,26 @@ decrement-told : decrement-says (ran (bookR 3) 262144 3 .reports) ≡ 11 ∷ 120
 unfolding computes
 decrement-told = refl
 
+-- of a kill, the one report: 34, 59 and 110 as sent, 150, which is Canceled, 151, of which nothing is left, and 378
+abbrev kill-says : List (List ℕ) → List ℕ
+kill-says rs = told rs 0 34 ∷ told rs 0 59 ∷ told rs 0 110 ∷ told rs 0 150 ∷ told rs 0 151 ∷ told rs 0 378 ∷ []
+
+missed-told : kill-says (ran (bookLeast 3 801) 262144 256 .reports) ≡ 6 ∷ 3 ∷ 801 ∷ 4 ∷ 0 ∷ 99 ∷ []
+unfolding computes
+missed-told = refl
+
+kill-told : kill-says (ran bookKill 262144 256 .reports) ≡ 6 ∷ 4 ∷ 0 ∷ 4 ∷ 0 ∷ 99 ∷ []
+unfolding computes
+kill-told = refl
+
+-- a trade shows 110 of the order that has it, and the other has none
+abbrev minimums-say : List (List ℕ) → List ℕ
+minimums-say rs = told rs 0 110 ∷ told rs 1 110 ∷ []
+
+trade-minimums : minimums-say (ran (bookLeast 3 800) 262144 1 .reports) ≡ 0 ∷ 800 ∷ []
+unfolding computes
+trade-minimums = refl
+
 -- ---- what the reports of Submit say, while a buy of 100 rests that has ClOrdID a
 
 abbrev rests : List ℕ
@@ -125,11 +179,22 @@ nothing-open : told (submitted dead (message "8=FIX.4.2|9=84|35=F|34=3|49=P|52=2
 unfolding computes
 nothing-open = refl
 
--- a Replaced names the ClOrdID before
-named : List (List ℕ) → List ℕ
-named [] = []
-named (r ∷ rs) = valueOf r 41
+-- the text that the first report has for a tag
+abbrev named : ℕ → List (List ℕ) → List ℕ
+named tag [] = []
+named tag (r ∷ rs) = valueOf r tag
 
-replaced-41 : named (submitted rests (message "8=FIX.4.2|9=110|35=G|34=2|49=P|52=20260105-09:00:00|56=V|11=b|21=1|38=100|40=2|41=a|44=0.101|54=1|55=350|60=20260105-09:00:00|10=119|") 1024 .reports) ≡ message "a"
-unfolding computes named
+-- a Replaced names the ClOrdID before
+
+replaced-41 : named 41 (submitted rests (message "8=FIX.4.2|9=110|35=G|34=2|49=P|52=20260105-09:00:00|56=V|11=b|21=1|38=100|40=2|41=a|44=0.101|54=1|55=350|60=20260105-09:00:00|10=119|") 1024 .reports) ≡ message "a"
+unfolding computes
 replaced-41 = refl
+
+-- an Accepted shows 59=4 as it was sent, and 110 of 0007 without its zeros
+accepted-59 : named 59 (submitted (fresh 1) (message "8=FIX.4.2|9=123|35=D|34=1|49=P|52=20260101-09:00:00|56=V|11=A1|21=1|38=100|40=2|44=0.101|47=A|54=2|55=350|59=4|60=20260101-09:00:00|8060=1|10=131|") 1024 .reports) ≡ message "4"
+unfolding computes
+accepted-59 = refl
+
+accepted-110 : named 110 (submitted (fresh 1) (message "8=FIX.4.2|9=132|35=D|34=1|49=P|52=20260101-09:00:00|56=V|11=A1|21=1|38=100|40=2|44=0.101|47=A|54=2|55=350|59=3|60=20260101-09:00:00|110=0007|8060=1|10=025|") 1024 .reports) ≡ message "7"
+unfolding computes
+accepted-110 = refl

@@ -18,13 +18,13 @@ use Rattle.matching.specs.Accounts.{trades}
 use Rattle.matching.specs.Happens.{moves, Fits}
 use Rattle.matching.proofs.Events.{change-is, amount-is, change-executed, change-decremented, change-canceled, change-sum}
 use Rattle.table.specs.Places.{tableBytes, recordAt}
-use Rattle.table.specs.Heading.{putNext, putWork}
+use Rattle.table.specs.Heading.{putNext, putWork, putDecided}
 use Rattle.table.specs.Orders.{orderAt, filled, bookOf, termBytes, amountBytes, putTerms, putAmounts, applied}
 use Rattle.table.specs.Changes.{played}
 use Rattle.table.proofs.Same.{Same, same-then, put-below, filled-few, book-same}
 use Rattle.table.proofs.Stores.{Amounts, Terms, length-amounts, length-terms, amounts-got, terms-got}
 use Rattle.table.proofs.Books.{length-book, at-book, book-changed}
-use Rattle.table.proofs.Frames.{Framed, framed-self, framed-long, framed-filled, framed-put, framed-heading, framed-then, order-elsewhere, order-below}
+use Rattle.table.proofs.Frames.{Framed, framed-self, framed-long, framed-filled, framed-put, framed-heading, framed-decided, framed-then, order-elsewhere, order-below}
 
 -- ---- the heading
 
@@ -39,6 +39,11 @@ book-next t n long = book-below t 28 (bytesOf 4 n) long (lit≤ tt) (omega (arit
 
 pub book-work : (t : List ℕ) (w : ℕ) (stamp : List ℕ) → length t ≡ tableBytes → length stamp ≤ 21 → bookOf (putWork t w stamp) ≡ bookOf t
 book-work t w stamp long h = book-below t 32 (w ∷ textBytes 21 stamp) long (lit≤ tt) (omega (arith, length-textBytes 21 stamp h))
+
+pub book-decided : (t : List ℕ) (d : ℕ) → length t ≡ tableBytes → bookOf (putDecided t d) ≡ bookOf t
+book-decided t d long =
+    book-same (putDecided t d) t (framed-filled t (putDecided t d) long (framed-decided t d))
+    (λ k i j. order-below t 96 (d ∷ []) k i (lit≤ tt))
 
 -- ---- amounts and terms of a filled record
 

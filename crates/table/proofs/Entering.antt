@@ -20,7 +20,7 @@ use Rattle.table.specs.Orders.{clOrdIdAt, filled, bookOf, putId, accepte
 use Rattle.table.specs.Market.{every, isPrintable, restZero, isCapacity, isClass, isRecord}
 use Rattle.table.specs.Facts.{Named}
 use Rattle.table.proofs.Same.{Same, same-in, same-then, put-below, is-text-same, part-same, rest-same, record-parts, order-same, id-same, settings-same, spare-same, listed-same}
-use Rattle.table.proofs.Stores.{Sized, putTexts, accepted-texts, accepted-before, accepted-behind, accepted-id, accepted-capacity, accepted-class, accepted-order}
+use Rattle.table.proofs.Stores.{Sized, putTexts, accepted-texts, accepted-before, accepted-behind, accepted-id, accepted-capacity, accepted-class, accepted-gap, accepted-order}
 use Rattle.table.proofs.Books.{book-added}
 use Rattle.table.proofs.Texts.{is-text-put}
 use Rattle.table.proofs.Frames.{Formed, filled-byte, filled-is, id-short}
@@ -55,7 +55,7 @@ module _ (t : List ℕ) (clOrdId account : List ℕ) (capacity class : ℕ) (o :
   pub entered-heading : Same (withRecord t clOrdId account capacity class o) t 0 128
   entered-heading = same-in 0 128 entered-before (lit≤ tt) (omega arith)
 
-  entered-behind : (e : ℕ) → Same (withRecord t clOrdId account capacity class o) t (128 * (filled t + 1) + 84) e
+  entered-behind : (e : ℕ) → Same (withRecord t clOrdId account capacity class o) t (128 * (filled t + 1) + 92) e
   entered-behind = accepted-behind t (filled t + 1) clOrdId account capacity class o (g .short) few room
 
   entered-other : (i : ℕ) → i ≤ filled t → Same (withRecord t clOrdId account capacity class o) t (128 * i) (128 * i + 128)
@@ -104,8 +104,9 @@ module _ (t : List ℕ) (clOrdId account : List ℕ) (capacity class : ℕ) (o :
       (is-text-same isPrintable 0 10 (p + 33) (p + 44) (same-in (p + 33) (p + 44) texts (omega arith) (omega arith)) (omega arith)
       ∙ is-text-put 10 (putId t (filled t + 1) clOrdId) (p + 33) account (omega (arith, room)) few isPrintable 0 (omega arith) printable)
       (rw c a) (rw d b)
-      (ap allZero (part-same (p + 84) 44 (p + 128) (entered-behind (p + 128)) (omega arith))
-      ∙ zero-part t p (p + 84) 44 (rest-zero t (f .rest)) (omega arith) (omega (arith, room)))
+      (accepted-gap t (filled t + 1) clOrdId account capacity class o (g .short) few room)
+      (ap allZero (part-same (p + 92) 36 (p + 128) (entered-behind (p + 128)) (omega arith))
+      ∙ zero-part t p (p + 92) 36 (rest-zero t (f .rest)) (omega arith) (omega (arith, room)))
 
   entered-record : (i : ℕ) → 1 ≤ i → i ≤ filled t + 1 → isRecord (withRecord t clOrdId account capacity class o) i ≡ true
   entered-record i l h =
@@ -146,7 +147,7 @@ module _ (t : List ℕ) (clOrdId account : List ℕ) (capacity class : ℕ) (o :
       record {
         long = s .size ∙ f .long;
         settings = settings-same (same-in 0 28 s (lit≤ tt) (lit≤ tt)) (same-in 56 96 s (lit≤ tt) (lit≤ tt)) ∙ f .settings;
-        spare = spare-same (same-in 55 56 s (lit≤ tt) (lit≤ tt)) (same-in 96 128 s (lit≤ tt) (lit≤ tt)) ∙ f .spare;
+        spare = spare-same (same-in 55 56 s (lit≤ tt) (lit≤ tt)) (same-in 97 128 s (lit≤ tt) (lit≤ tt)) ∙ f .spare;
         rest = rest;
         records = λ i l h. entered-record i l (omega arith);
         ids = λ j k l h m. entered-ids j k l h (omega arith);
@@ -164,7 +165,7 @@ module _ (t : List ℕ) (clOrdId account : List ℕ) (capacity class : ℕ) (o :
   entered-book z =
       book-added t (withRecord t clOrdId account capacity class o) o entered-filled
       (accepted-order t (filled t + 1) clOrdId account capacity class o (g .short) few room z)
-      (λ i l h. order-same i (same-in (128 * i + 44) (128 * i + 84) (entered-other i h) (omega arith) (omega arith)))
+      (λ i l h. order-same i (same-in (128 * i + 44) (128 * i + 92) (entered-other i h) (omega arith) (omega arith)))
 
   pub entered-listed : isListed (withRecord t clOrdId account capacity class o) ≡ isListed t
   entered-listed = λ j m. listed-same (same-in 56 96 entered-heading (lit≤ tt) (lit≤ tt)) m j

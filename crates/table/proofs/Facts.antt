@@ -11,11 +11,11 @@ use Rattle.octets.proofs.Places.{below-or}
 use borrow.Author.Tests.{ltb-true, ltb-false, leb-true, leb-false, eqb-true, eqb-false, lt-ltb, le-ltb, le-leb, lt-leb, eq-eqb, ne-eqb, not-true}
 use Rattle.octets.specs.Octets.{sameBytes}
 use Rattle.octets.specs.Tests.{allUpTo}
-use Rattle.octets.proofs.Bools.{split, both-i, both-l, both-r, or-l, or-r}
+use Rattle.octets.proofs.Bools.{split, both-i, both-l, both-r, or-l, or-r, not-both}
 use Rattle.octets.proofs.Ranges.{all-at, all-from}
 use Rattle.octets.proofs.Searches.{upto-at, upto-from, record-at, record-from}
 use Rattle.matching.specs.declared.Order.{Order}
-use Rattle.matching.specs.Matching.{Book, none, at, openOf, isBuy, isOpen, crosses, opposedTo}
+use Rattle.matching.specs.Matching.{Book, none, at, openOf, isBuy, isOpen, isImmediate, crosses, opposedTo}
 use Rattle.matching.specs.Held.{Sound, In, Held}
 use Rattle.matching.proofs.Books.{open-low, open-high}
 use Rattle.table.specs.Heading.{nextOf, workOf, isListed}
@@ -40,7 +40,8 @@ unfolding isRanged isWithin isShut isPriced
 sound-facts o r w s p =
     record {
       sides = search (both-l, both-r) depth 9;
-      tifs = search (both-l, both-r) depth 9;
+      tifs = search (both-l, both-r) depth 10;
+      minimum = search (both-l, both-r) depth 10;
       level-low = leb-true _ _ (search (both-l, both-r) depth 9);
       level-high = leb-true _ _ (search (both-l, both-r) depth 9);
       qty-low = leb-true _ _ (search (both-l, both-r));
@@ -55,8 +56,8 @@ sound-facts o r w s p =
 pub sound-ranged : (o : Order) → Sound o → isRanged o ≡ true
 unfolding isRanged
 sound-ranged o h =
-    both-i (both-i (both-i (both-i (both-i (both-i
-    (h .sides) (h .tifs))
+    both-i (both-i (both-i (both-i (both-i (both-i (both-i
+    (h .sides) (h .tifs)) (h .minimum))
     (le-leb _ _ (h .level-low))) (le-leb _ _ (h .level-high)))
     (le-leb _ _ (h .qty-low))) (le-leb _ _ (h .qty-high))) (le-leb _ _ (h .place-low))
 
@@ -74,20 +75,20 @@ pub sound-priced : (o : Order) → Sound o → isPriced o ≡ true
 unfolding isPriced
 sound-priced o h = both-i (le-leb _ _ (h .sum-low)) (le-leb _ _ (h .sum-high))
 
--- an IOC that is done has nothing open
-done-order : (o : Order) → isDone o ≡ true → o .tif ≡ 3 → openOf o ≡ 0
+-- an immediate order that is done has nothing open
+done-order : (o : Order) → isDone o ≡ true → isImmediate o ≡ true → openOf o ≡ 0
 unfolding isDone
 done-order o h e =
-    let g : (eqb (o .tif) 3 && isOpen o) ≡ false = not-true _ h in
-    let f : ltb 0 (openOf o) ≡ false = rw (eq-eqb (o .tif) 3 e) at g in
+    let g : (isImmediate o && isOpen o) ≡ false = not-true _ h in
+    let f : ltb 0 (openOf o) ≡ false = rw e at g in
     omega (arith, ltb-false)
 
-order-done : (o : Order) → (o .tif ≡ 3 → openOf o ≡ 0) → isDone o ≡ true
+order-done : (o : Order) → (isImmediate o ≡ true → openOf o ≡ 0) → isDone o ≡ true
 unfolding isDone
 order-done o h =
-    split (eqb (o .tif) 3)
+    split (isImmediate o)
     (λ e.
-    let f : ltb 0 (openOf o) ≡ false = le-ltb 0 (openOf o) (omega (arith, h (eqb-true _ _ e))) in
+    let f : ltb 0 (openOf o) ≡ false = le-ltb 0 (openOf o) (omega (arith, h e)) in
     rw (e, f))
     (λ e. rw e)
 
@@ -150,12 +151,12 @@ module _ (b : Book) (w next : ℕ) where
       (λ i h. not-i (ne-eqb _ _ (q (suc i) (suc k) (omega arith) (omega arith) l)))))
 
   -- no IOC is open
-  done-facts : noIoc b w ≡ true → (k : ℕ) → 1 ≤ k → k ≤ length b → (k ≡ w → ⊥) → at b k .tif ≡ 3 → openOf (at b k) ≡ 0
+  done-facts : noIoc b w ≡ true → (k : ℕ) → 1 ≤ k → k ≤ length b → (k ≡ w → ⊥) → isImmediate (at b k) ≡ true → openOf (at b k) ≡ 0
   unfolding noIoc
   done-facts h k l m n e =
       done-order (at b k) (work-or k (isDone (at b k)) (upto-at (λ j. eqb j w || isDone (at b j)) (length b) h k l m) n) e
 
-  facts-done : ((k : ℕ) → 1 ≤ k → k ≤ length b → (k ≡ w → ⊥) → at b k .tif ≡ 3 → openOf (at b k) ≡ 0) → noIoc b w ≡ true
+  facts-done : ((k : ℕ) → 1 ≤ k → k ≤ length b → (k ≡ w → ⊥) → isImmediate (at b k) ≡ true → openOf (at b k) ≡ 0) → noIoc b w ≡ true
   unfolding noIoc
   facts-done h =
       upto-from (λ j. eqb j w || isDone (at b j)) (length b)
@@ -194,16 +195,15 @@ module _ (b : Book) (w next : ℕ) where
       (λ e. or-second (not (isOpen (at b w))) _ (le-leb _ _ (h (ltb-true 0 (openOf (at b w)) e))))
       (λ e. or-l (not (isOpen (at b w))) (leb (next + 2 * opposedTo b w + 1) 1000000000) (not-i e))
 
--- an order out of the book is no IOC
-ioc-in : (b : Book) (k : ℕ) → at b k .tif ≡ 3 → (1 ≤ k) × (k ≤ length b)
-ioc-in b zero e = absurd (omega arith)
+-- an order out of the book is not immediate
+ioc-in : (b : Book) (k : ℕ) → isImmediate (at b k) ≡ true → (1 ≤ k) × (k ≤ length b)
+ioc-in b zero e = absurd (not-both e refl)
 ioc-in b (suc k) e = (
   omega arith,
   ⊎-elim (λ (l : k < length b). l)
       (λ (l : length b ≤ k).
       let d : getD b k none ≡ none = List·getD-eq-default b none l in
-      let z : 0 ≡ 3 = rw d at e in
-      absurd (omega arith))
+      absurd (not-both (rw d at e) refl))
       (below-or k (length b)),
 )
 
@@ -293,20 +293,21 @@ module _ (t : List ℕ) where
   pub market-facts : isMarket t ≡ true → Market t
   unfolding isMarket hasLength hasNext hasOrders
   market-facts h =
-      let n : hasNext t ≡ true = search (both-l, both-r) depth 9 in
-      let w : hasWork t ≡ true = search (both-l, both-r) depth 9 in
-      let o : hasOrders t ≡ true = search (both-l, both-r) depth 9 in
-      let b : isBook (bookOf t) (workOf t) (nextOf t) ≡ true = search both-r in
+      let n : hasNext t ≡ true = search (both-l, both-r) depth 11 in
+      let w : hasWork t ≡ true = search (both-l, both-r) depth 11 in
+      let o : hasOrders t ≡ true = search (both-l, both-r) depth 11 in
+      let b : isBook (bookOf t) (workOf t) (nextOf t) ≡ true = search (both-l, both-r) depth 11 in
       let is : (i : ℕ) → 1 ≤ i → i ≤ filled t → isOrder t i ≡ true = record-at (isOrder t) (filled t) o in
       record {
-        long = eqb-true _ _ (search both-l depth 10);
-        settings = search (both-l, both-r) depth 9;
+        long = eqb-true _ _ (search both-l depth 12);
+        settings = search (both-l, both-r) depth 11;
         next-low = leb-true _ _ (both-l _ (leb (nextOf t) 1000000000) n);
         work = w;
-        spare = search (both-l, both-r) depth 9;
-        rest = search (both-l, both-r) depth 9;
+        spare = search (both-l, both-r) depth 11;
+        rest = search (both-l, both-r) depth 11;
         records = λ i l m. order-record i (is i l m);
-        ids = id-facts (search (both-l, both-r) depth 9);
+        ids = id-facts (search (both-l, both-r) depth 11);
+        decision = search both-r;
         held = book-facts n w is b;
       }
 
@@ -317,7 +318,7 @@ module _ (t : List ℕ) where
       let h = m .held in
       let size : length (bookOf t) ≡ filled t = length-book t in
       let in-book : (i : ℕ) → 1 ≤ i → i ≤ filled t → In (bookOf t) i = λ i l n. record { low = l; high = omega arith } in
-      both-i (both-i (both-i (both-i (both-i (both-i (both-i (both-i
+      both-i (both-i (both-i (both-i (both-i (both-i (both-i (both-i (both-i
       (eq-eqb _ _ (m .long)) (m .settings))
       (both-i (le-leb _ _ (m .next-low)) (le-leb _ _ (h .next-high)))) (m .work)) (m .spare)) (m .rest))
       (record-from (isOrder t) (filled t) (λ i l n.
@@ -325,4 +326,5 @@ module _ (t : List ℕ) where
       (rw (at-book t i l n) at (h .owned i (in-book i l n)))
       (rw (at-book t i l n) at (h .sound i (in-book i l n))))))
       (facts-id (m .ids)))
-      (facts-book h)
+      (facts-book h))
+      (m .decision)

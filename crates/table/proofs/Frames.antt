@@ -2,7 +2,7 @@
 -- records. A table with a market's frame is a market once its book is held and its work is in order.
 use mathlib.Core.Path.{_≡_, refl, sym, _∙_}
 use mathlib.Core.Bool.{true, false}
-use mathlib.Core.List.{List}
+use mathlib.Core.List.{List, [], _∷_}
 use mathlib.Core.Logic.{⊎-elim}
 use Prim.Native.Nat.{ℕ, _+_, _*_, _-_, _≤_, _<_}
 use native.Mathlib.Omega.{arith}
@@ -14,16 +14,17 @@ use Rattle.octets.proofs.Bools.{both-l, both-r}
 use Rattle.octets.proofs.Places.{below-or}
 use Rattle.matching.specs.Held.{Held}
 use Rattle.table.specs.Places.{tableBytes, recordAt}
-use Rattle.table.specs.Heading.{nextOf, workOf, isListed}
+use Rattle.table.specs.Heading.{nextOf, workOf, decidedOf, isListed, putDecided}
 use Rattle.table.specs.Orders.{clOrdIdAt, orderAt, isFree, filled, bookOf}
-use Rattle.table.specs.Market.{isText, hasSettings, hasWork, hasSpare, restZero, isRecord}
+use Rattle.table.specs.Market.{isText, hasSettings, hasWork, hasSpare, restZero, isRecord, hasDecision}
 use Rattle.table.specs.Facts.{Market}
 use Rattle.octets.proofs.Searches.{first-before, first-is, first-holds}
 use Rattle.table.proofs.Same.{Same, same-in, same-then, put-below, put-above, order-same, record-parts, rest-same, id-same, settings-same, spare-same, listed-same, filled-few}
 
 pub record Framed (t u : List ℕ) : Type 0 where
   pub names : Same u t 0 28
-  pub lists : Same u t 55 128
+  pub lists : Same u t 55 96
+  pub unused : Same u t 97 128
   pub texts : (i : ℕ) → 1 ≤ i → i ≤ filled t → Same u t (recordAt i) (recordAt i + 44)
   pub kinds : (i : ℕ) → 1 ≤ i → i ≤ filled t → Same u t (recordAt i + 46) (recordAt i + 48)
   pub spares : (i : ℕ) → 1 ≤ i → i ≤ filled t → Same u t (recordAt i + 84) (recordAt i + 128)
@@ -42,18 +43,26 @@ pub market-formed : (t : List ℕ) → Market t → Formed t
 market-formed t m =
     record { long = m .long; settings = m .settings; spare = m .spare; rest = m .rest; records = m .records; ids = m .ids }
 
-pub formed-market : (t : List ℕ) → Formed t → hasWork t ≡ true → 1 ≤ nextOf t → Held (isListed t) (nextOf t) (bookOf t) (workOf t) → Market t
-formed-market t f w n h =
+-- all that it asks but for the decision
+pub record Unnoted (t : List ℕ) : Type 0 where
+  pub formed : Formed t
+  pub work : hasWork t ≡ true
+  pub next-low : 1 ≤ nextOf t
+  pub held : Held (isListed t) (nextOf t) (bookOf t) (workOf t)
+
+pub noted-market : (t : List ℕ) → Unnoted t → hasDecision (bookOf t) (workOf t) (decidedOf t) ≡ true → Market t
+noted-market t u d =
     record {
-      long = f .long;
-      settings = f .settings;
-      next-low = n;
-      work = w;
-      spare = f .spare;
-      rest = f .rest;
-      records = f .records;
-      ids = f .ids;
-      held = h;
+      long = u .formed .long;
+      settings = u .formed .settings;
+      next-low = u .next-low;
+      work = u .work;
+      spare = u .formed .spare;
+      rest = u .formed .rest;
+      records = u .formed .records;
+      ids = u .formed .ids;
+      decision = d;
+      held = u .held;
     }
 
 -- ---- filled records
@@ -108,7 +117,7 @@ module _ (t u : List ℕ) (long : length t ≡ tableBytes) (f : Framed t u) wher
   framed-settings = settings-same (f .names) (same-in 56 96 (f .lists) (lit≤ tt) (lit≤ tt))
 
   pub framed-spare : hasSpare u ≡ hasSpare t
-  framed-spare = spare-same (same-in 55 56 (f .lists) (lit≤ tt) (lit≤ tt)) (same-in 96 128 (f .lists) (lit≤ tt) (lit≤ tt))
+  framed-spare = spare-same (same-in 55 56 (f .lists) (lit≤ tt) (lit≤ tt)) (f .unused)
 
   pub framed-listed : isListed u ≡ isListed t
   framed-listed = λ j m. listed-same (same-in 56 96 (f .lists) (lit≤ tt) (lit≤ tt)) m j
@@ -140,7 +149,7 @@ module _ (t u : List ℕ) (long : length t ≡ tableBytes) (f : Framed t u) wher
 pub framed-self : (t : List ℕ) → Framed t t
 framed-self t =
     let s : (p e : ℕ) → Same t t p e = λ p e. record { size = refl; byte = λ k l h. refl } in
-    record { names = s 0 28; lists = s 55 128; texts = λ i l h. s _ _; kinds = λ i l h. s _ _; spares = λ i l h. s _ _; behind = s _ _ }
+    record { names = s 0 28; lists = s 55 96; unused = s 97 128; texts = λ i l h. s _ _; kinds = λ i l h. s _ _; spares = λ i l h. s _ _; behind = s _ _ }
 
 pub framed-then : (t u v : List ℕ) → length t ≡ tableBytes → Framed t u → Framed u v → Framed t v
 framed-then t u v long f g =
@@ -149,6 +158,7 @@ framed-then t u v long f g =
     record {
       names = same-then (g .names) (f .names);
       lists = same-then (g .lists) (f .lists);
+      unused = same-then (g .unused) (f .unused);
       texts = λ i l h. same-then (g .texts i l (omega arith)) (f .texts i l h);
       kinds = λ i l h. same-then (g .kinds i l (omega arith)) (f .kinds i l h);
       spares = λ i l h. same-then (g .spares i l (omega arith)) (f .spares i l h);
@@ -161,7 +171,8 @@ framed-put t k a vs low high l h =
     let p : ℕ = 128 * k + a in
     record {
       names = put-below t p vs 0 28 (omega arith);
-      lists = put-below t p vs 55 128 (omega arith);
+      lists = put-below t p vs 55 96 (omega arith);
+      unused = put-below t p vs 97 128 (omega arith);
       texts = λ i j m.
           ⊎-elim (λ (x : k < i). put-above t p vs (128 * i) (128 * i + 44) (omega arith))
           (λ (x : i ≤ k). put-below t p vs (128 * i) (128 * i + 44) (omega arith)) (below-or k i);
@@ -179,19 +190,33 @@ pub framed-heading : (t : List ℕ) (a : ℕ) (vs : List ℕ) → 28 ≤ a → a
 framed-heading t a vs l h =
     record {
       names = put-below t a vs 0 28 (omega arith);
-      lists = put-above t a vs 55 128 (omega arith);
+      lists = put-above t a vs 55 96 (omega arith);
+      unused = put-above t a vs 97 128 (omega arith);
       texts = λ i j m. put-above t a vs (128 * i) (128 * i + 44) (omega arith);
       kinds = λ i j m. put-above t a vs (128 * i + 46) (128 * i + 48) (omega arith);
       spares = λ i j m. put-above t a vs (128 * i + 84) (128 * i + 128) (omega arith);
       behind = put-above t a vs (128 * (filled t + 1)) (length t) (omega arith);
     }
 
+-- a put of the decision
+pub framed-decided : (t : List ℕ) (d : ℕ) → Framed t (putDecided t d)
+framed-decided t d =
+    record {
+      names = put-below t 96 (d ∷ []) 0 28 (lit≤ tt);
+      lists = put-below t 96 (d ∷ []) 55 96 (lit≤ tt);
+      unused = put-above t 96 (d ∷ []) 97 128 (lit≤ tt);
+      texts = λ i j m. put-above t 96 (d ∷ []) (128 * i) (128 * i + 44) (omega arith);
+      kinds = λ i j m. put-above t 96 (d ∷ []) (128 * i + 46) (128 * i + 48) (omega arith);
+      spares = λ i j m. put-above t 96 (d ∷ []) (128 * i + 84) (128 * i + 128) (omega arith);
+      behind = put-above t 96 (d ∷ []) (128 * (filled t + 1)) (length t) (omega arith);
+    }
+
 -- the orders of the other records, and all orders where the heading was put
 pub order-elsewhere : (t : List ℕ) (k a : ℕ) (vs : List ℕ) (j : ℕ) → (j ≡ k → ⊥) → a + length vs ≤ 128 → orderAt (put t (recordAt k + a) vs) j ≡ orderAt t j
 order-elsewhere t k a vs j n h =
     order-same j
-    (⊎-elim (λ (x : k < j). put-above t (128 * k + a) vs (128 * j + 44) (128 * j + 84) (omega arith))
-    (λ (x : j ≤ k). put-below t (128 * k + a) vs (128 * j + 44) (128 * j + 84) (omega arith)) (below-or k j))
+    (⊎-elim (λ (x : k < j). put-above t (128 * k + a) vs (128 * j + 44) (128 * j + 92) (omega arith))
+    (λ (x : j ≤ k). put-below t (128 * k + a) vs (128 * j + 44) (128 * j + 92) (omega arith)) (below-or k j))
 
 pub order-below : (t : List ℕ) (a : ℕ) (vs : List ℕ) (j : ℕ) → 1 ≤ j → a + length vs ≤ 128 → orderAt (put t a vs) j ≡ orderAt t j
-order-below t a vs j l h = order-same j (put-above t a vs (128 * j + 44) (128 * j + 84) (omega arith))
+order-below t a vs j l h = order-same j (put-above t a vs (128 * j + 44) (128 * j + 92) (omega arith))

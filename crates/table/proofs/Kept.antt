@@ -1,7 +1,7 @@
 -- A market stays a market: one step of the order in work, a report about no order, a requested cancel, a replacement and a
 -- new order each leave a market, with the numbers that they use.
 use mathlib.Core.Path.{_≡_, refl, sym, ap, _∙_, subst}
-use mathlib.Core.Bool.{true}
+use mathlib.Core.Bool.{Bool, true, _||_}
 use mathlib.Core.List.{List, [], _∷_}
 use Prim.Native.Nat.{ℕ, suc, _+_, _*_, _≤_, _<_}
 use native.Mathlib.Omega.{arith}
@@ -19,27 +19,29 @@ use Rattle.decimal.proofs.Times.{time-short}
 use Rattle.matching.specs.declared.Order.{Order}
 use Rattle.matching.specs.declared.Event.{Event}
 use Rattle.matching.specs.declared.Event.the-variants.{Accepted, Replaced, Withdrawn}
-use Rattle.matching.specs.Matching.{Book, at, put as putOrder, openOf, change, after, partner, happens, bookAfter, workAfter}
+use Rattle.matching.specs.Matching.{Book, at, put as putOrder, openOf, minimumOf, decidedAfter, change, after, partner, happens, bookAfter, workAfter}
 use Rattle.matching.specs.Held.{In, Held, Ready, Enters, Renews}
 use Rattle.matching.proofs.Placing.{place-either}
+use Rattle.matching.proofs.Events.{play-minimum}
+use Rattle.matching.proofs.Sounds.{minimum-most}
 use Rattle.matching.proofs.Steps.{happens-fits}
 use Rattle.matching.proofs.Holding.{step-ready, step-held}
 use Rattle.matching.proofs.Requests.{later-held, accepted-held, replaced-held, withdrawn-fits, withdrawn-held}
 use Rattle.table.specs.Places.{tableBytes}
-use Rattle.table.specs.Heading.{nextOf, workOf, mpidAt, entries, entryOf, modeOf, isListed, putNext, putWork}
+use Rattle.table.specs.Heading.{nextOf, workOf, decidedOf, mpidAt, entries, entryOf, modeOf, isListed, putNext, putWork, putDecided}
 use Rattle.table.specs.Orders.{orderAt, filled, bookOf, termBytes, putId, putTerms, putAmounts, applied, withdrawn, replaced, accepted}
-use Rattle.table.specs.Market.{every, isPrintable, isEntry, hasList, hasSettings, hasWork, isCapacity, isClass}
+use Rattle.table.specs.Market.{every, isPrintable, isEntry, hasList, hasSettings, hasWork, isCapacity, isClass, hasDecision}
 use Rattle.table.specs.Facts.{Market, Named}
-use Rattle.table.specs.Changes.{played, stepEvents, numbered, stepped, entered, renewed, taken}
+use Rattle.table.specs.Changes.{played, missesNow, stepEvents, stepWork, numbered, stepped, entered, renewed, taken}
 use Rattle.octets.proofs.Searches.{first-holds}
-use Rattle.table.proofs.Same.{Same, same-in, same-then, put-below, put-above, next-same, work-same}
-use Rattle.table.proofs.Stores.{Terms, Sized, next-got, work-got}
+use Rattle.table.proofs.Same.{Same, same-in, same-then, put-below, put-above, next-same, work-same, decided-same}
+use Rattle.table.proofs.Stores.{Terms, Sized, next-got, work-got, decided-got}
 use Rattle.table.proofs.Books.{length-book, at-book}
-use Rattle.table.proofs.Frames.{Framed, framed-long, framed-filled, framed-listed, framed-self, framed-then, framed-heading, Formed, market-formed, formed-market, framed-formed}
-use Rattle.table.proofs.Applied.{Played, all-played, fits-move, heading-applied, framed-applied, book-applied, framed-terms, book-terms, book-next, book-work, sound-amounts}
+use Rattle.table.proofs.Frames.{Framed, framed-long, framed-filled, framed-listed, framed-self, framed-then, framed-heading, framed-decided, Formed, Unnoted, noted-market, market-formed, framed-formed}
+use Rattle.table.proofs.Applied.{Played, all-played, fits-move, heading-applied, framed-applied, book-applied, framed-terms, book-terms, book-next, book-work, book-decided, sound-amounts}
 use Rattle.table.proofs.Naming.{named-formed, named-heading, named-book, named-order, named-filled, named-listed}
 use Rattle.table.proofs.Entering.{entered-formed, entered-heading, entered-filled, entered-book, entered-listed}
-use Rattle.table.proofs.Working.{has-work-kept, has-work-put, has-work-end}
+use Rattle.table.proofs.Working.{has-work-kept, has-work-put, has-work-none, undecided, idle-undecided, least-undecided, decided-after}
 
 -- ---- the next number
 
@@ -49,13 +51,16 @@ framed-next t n = framed-heading t 28 (bytesOf 4 n) (lit≤ tt) (omega (arith, l
 work-next : (t : List ℕ) (n : ℕ) → Same (putNext t n) t 32 55
 work-next t n = put-above t 28 (bytesOf 4 n) 32 55 (omega (arith, length-bytesOf 4 n))
 
+decided-next : (t : List ℕ) (n : ℕ) → decidedOf (putNext t n) ≡ decidedOf t
+decided-next t n = decided-same (put-above t 28 (bytesOf 4 n) 96 97 (omega (arith, length-bytesOf 4 n)))
+
 -- a table with the frame of a formed one, its work in order and its book held, once its next number is set
 module _ (t u : List ℕ) (m : Formed t) (f : Framed t u) (w : hasWork u ≡ true) (n : ℕ) (low : 1 ≤ n)
     (h : Held (isListed t) n (bookOf u) (workOf u)) where
   long : length u ≡ tableBytes
   long = framed-long t u (m .long) f
 
-  pub renumbered : Market (putNext u n)
+  pub renumbered : Unnoted (putNext u n)
   renumbered =
       let v : List ℕ = putNext u n in
       let z = long in
@@ -64,13 +69,47 @@ module _ (t u : List ℕ) (m : Formed t) (f : Framed t u) (w : hasWork u ≡ tru
       let b : bookOf v ≡ bookOf u = book-next u n z in
       let g : filled v ≡ filled u = framed-filled u v z (framed-next u n) in
       let k : Framed t v = framed-then t u v (m .long) f (framed-next u n) in
-      formed-market v (framed-formed t v (m .long) k m) (has-work-kept u v z (work-next u n) (omega arith) w) (omega arith)
-      (rw (e, x, b, framed-listed t v (m .long) k) h)
+      record {
+        formed = framed-formed t v (m .long) k m;
+        work = has-work-kept u v z (work-next u n) (omega arith) w;
+        next-low = omega arith;
+        held = rw (e, x, b, framed-listed t v (m .long) k) h;
+      }
+
+  -- with its decision as it was, where nothing is decided
+  pub renumbered-idle : decidedOf u ≡ 0 → Market (putNext u n)
+  renumbered-idle d = noted-market (putNext u n) renumbered (undecided _ _ _ (decided-next u n ∙ d))
 
 -- ---- the work ends
 
 framed-work : (t : List ℕ) (w : ℕ) (stamp : List ℕ) → length stamp ≤ 21 → Framed t (putWork t w stamp)
 framed-work t w stamp h = framed-heading t 32 (w ∷ textBytes 21 stamp) (lit≤ tt) (omega (arith, length-textBytes 21 stamp h))
+
+decided-work : (t : List ℕ) (w : ℕ) (stamp : List ℕ) → length stamp ≤ 21 → decidedOf (putWork t w stamp) ≡ decidedOf t
+decided-work t w stamp h = decided-same (put-above t 32 (w ∷ textBytes 21 stamp) 96 97 (omega (arith, length-textBytes 21 stamp h)))
+
+-- ---- the decision is noted
+
+module _ (t : List ℕ) (u : Unnoted t) (d : ℕ) (g : hasDecision (bookOf t) (workOf t) d ≡ true) where
+  pub noted-kept : Market (putDecided t d)
+  noted-kept =
+      let v : List ℕ = putDecided t d in
+      let long = u .formed .long in
+      let f : Framed t v = framed-decided t d in
+      let e : nextOf v ≡ nextOf t = next-same (put-below t 96 (d ∷ []) 28 32 (lit≤ tt)) in
+      let s : Same v t 32 55 = put-below t 96 (d ∷ []) 32 55 (lit≤ tt) in
+      let x : workOf v ≡ workOf t = work-same (same-in 32 33 s (lit≤ tt) (lit≤ tt)) in
+      let b : bookOf v ≡ bookOf t = book-decided t d long in
+      let n : decidedOf v ≡ d = decided-got t d (omega arith) in
+      let z : filled v ≡ filled t = framed-filled t v long f in
+      noted-market v
+      (record {
+        formed = framed-formed t v long f (u .formed);
+        work = has-work-kept t v long s (omega arith) (u .work);
+        next-low = rw e (u .next-low);
+        held = rw (e, x, b, framed-listed t v long f) (u .held);
+      })
+      (rw (b, x, n) g)
 
 -- the same, and with another order in work or none
 module _ (t u : List ℕ) (m : Formed t) (f : Framed t u) (n : ℕ) (low : 1 ≤ n) (w : ℕ) (stamp : List ℕ) (short : length stamp ≤ 21)
@@ -78,7 +117,7 @@ module _ (t u : List ℕ) (m : Formed t) (f : Framed t u) (n : ℕ) (low : 1 ≤
   numbered-long : length (putNext u n) ≡ tableBytes
   numbered-long = framed-long t (putNext u n) (m .long) (framed-then t u (putNext u n) (m .long) f (framed-next u n))
 
-  pub reworked : hasWork (putWork (putNext u n) w stamp) ≡ true → Market (putWork (putNext u n) w stamp)
+  pub reworked : hasWork (putWork (putNext u n) w stamp) ≡ true → Unnoted (putWork (putNext u n) w stamp)
   reworked work =
       let x : List ℕ = putNext u n in
       let v : List ℕ = putWork x w stamp in
@@ -89,46 +128,72 @@ module _ (t u : List ℕ) (m : Formed t) (f : Framed t u) (n : ℕ) (low : 1 ≤
       let d : workOf v ≡ w = work-got x w stamp (omega arith) short in
       let b : bookOf v ≡ bookOf u = book-work x w stamp y short ∙ book-next u n z in
       let k : Framed t v = framed-then t x v (m .long) (framed-then t u x (m .long) f (framed-next u n)) (framed-work x w stamp short) in
-      formed-market v (framed-formed t v (m .long) k m) work (omega arith) (rw (e, d, b, framed-listed t v (m .long) k) h)
+      record {
+        formed = framed-formed t v (m .long) k m;
+        work = work;
+        next-low = omega arith;
+        held = rw (e, d, b, framed-listed t v (m .long) k) h;
+      }
+
+  -- with its decision as it was, where nothing is decided
+  pub reworked-idle : hasWork (putWork (putNext u n) w stamp) ≡ true → decidedOf u ≡ 0 → Market (putWork (putNext u n) w stamp)
+  reworked-idle work d =
+      noted-market (putWork (putNext u n) w stamp) (reworked work)
+      (undecided _ _ _ (decided-work (putNext u n) w stamp short ∙ decided-next u n ∙ d))
 
 -- ---- one step
 
 -- the order in work stays in work, or nothing does
-work-stays : (b : Book) (w : ℕ) → (workAfter b w ≡ 0 → ⊥) → workAfter b w ≡ w
+work-stays : (missed : Bool) (b : Book) (w : ℕ) → (workAfter missed b w ≡ 0 → ⊥) → workAfter missed b w ≡ w
 unfolding workAfter
-work-stays b w n =
-    split (eqb (partner b w) 0)
+work-stays missed b w n =
+    split (missed || eqb (partner b w) 0)
     (λ t. absurd (n (rw t)))
     (λ t. rw t)
 
 -- a step on a market with an order in work leaves a market
 pub stepped-kept : (t : List ℕ) → Market t → 1 ≤ workOf t → Market (stepped t)
-unfolding stepped stepEvents numbered
+unfolding stepped stepEvents stepWork numbered
 stepped-kept t m l =
     let b : Book = bookOf t in
     let w : ℕ = workOf t in
-    let es : List Event = happens (modeOf t) b w in
+    let d : Bool = missesNow t in
+    let es : List Event = happens (modeOf t) d b w in
     let i : In b w = record { low = l; high = m .held .work } in
     let p : Played t es =
-    all-played es t (m .long) (fits-move es b (happens-fits (modeOf t) b w i)) (step-ready (isListed t) (modeOf t) (nextOf t) b w i (m .held)) in
+    all-played es t (m .long) (fits-move es b (happens-fits (modeOf t) d b w i)) (step-ready (isListed t) (modeOf t) d (nextOf t) b w i (m .held)) in
     let u : List ℕ = played t es in
     let e : nextOf u ≡ nextOf t = next-same (same-in 28 32 (p .heading) (lit≤ tt) (lit≤ tt)) in
-    let d : workOf u ≡ w = work-same (same-in 32 33 (p .heading) (lit≤ tt) (lit≤ tt)) in
-    let c : bookOf u ≡ bookAfter (modeOf t) b w = p .book in
+    let y : workOf u ≡ w = work-same (same-in 32 33 (p .heading) (lit≤ tt) (lit≤ tt)) in
+    let c : bookOf u ≡ bookAfter (modeOf t) d b w = p .book in
     let n : ℕ = nextOf t + length es in
     let low : 1 ≤ n = omega (arith, m .next-low) in
-    let h : Held (isListed t) n (bookOf u) (workAfter b w) = rw c (step-held (isListed t) (modeOf t) (nextOf t) b w i (m .held)) in
-    let z : length (putNext u n) ≡ tableBytes = numbered-long t u (market-formed t m) (p .framed) n low (workAfter b w) [] (lit≤ tt) h in
-    split (eqb (workAfter b w) 0)
+    let v : ℕ = workAfter d b w in
+    let h : Held (isListed t) n (bookOf u) v = rw c (step-held (isListed t) (modeOf t) d (nextOf t) b w i (m .held)) in
+    let z : length (putNext u n) ≡ tableBytes = numbered-long t u (market-formed t m) (p .framed) n low v [] (lit≤ tt) h in
+    split (eqb v 0)
     (λ x.
-    let q : workAfter b w ≡ 0 = eqb-true (workAfter b w) 0 x in
-    rw (x, e) (reworked t u (market-formed t m) (p .framed) n low 0 [] (lit≤ tt) (subst (λ (v : ℕ). Held (isListed t) n (bookOf u) v) q h) (has-work-end (putNext u n) z)))
+    let q : v ≡ 0 = eqb-true v 0 x in
+    let r = reworked t u (market-formed t m) (p .framed) n low 0 [] (lit≤ tt) (subst (λ (k : ℕ). Held (isListed t) n (bookOf u) k) q h) (has-work-none (putNext u n) z) in
+    rw (x, e) (noted-kept (putWork (putNext u n) 0 []) r 0 (undecided _ _ 0 refl)))
     (λ x.
-    let q : workAfter b w ≡ w = work-stays b w (eqb-false (workAfter b w) 0 x) in
+    let q : v ≡ w = work-stays d b w (eqb-false v 0 x) in
     let g : hasWork u ≡ true = has-work-kept t u (m .long) (same-in 32 55 (p .heading) (lit≤ tt) (lit≤ tt)) (omega (arith, framed-filled t u (m .long) (p .framed))) (m .work) in
-    rw (x, e) (renumbered t u (market-formed t m) (p .framed) g n low (subst (λ (v : ℕ). Held (isListed t) n (bookOf u) v) (q ∙ sym d) h)))
+    let r = renumbered t u (market-formed t m) (p .framed) g n low (subst (λ (k : ℕ). Held (isListed t) n (bookOf u) k) (q ∙ sym y) h) in
+    let a : bookOf (putNext u n) ≡ bookAfter (modeOf t) d b w = book-next u n (framed-long t u (m .long) (p .framed)) ∙ c in
+    let j : workOf (putNext u n) ≡ w = work-same (same-in 32 33 (work-next u n) (lit≤ tt) (lit≤ tt)) ∙ y in
+    let o : minimumOf (at (bookAfter (modeOf t) d b w) w) ≡ minimumOf (at b w) = play-minimum w es b (happens-fits (modeOf t) d b w i) in
+    rw (x, e) (noted-kept (putNext u n) r (decidedAfter b w) (rw (a, j) (decided-after b (bookAfter (modeOf t) d b w) w o))))
 
 -- ---- a report about no order
+
+-- nothing is decided while nothing is in work
+pub idle-decided : (t : List ℕ) → Market t → workOf t ≡ 0 → decidedOf t ≡ 0
+idle-decided t m e = idle-undecided (bookOf t) (decidedOf t) (rw e at (m .decision))
+
+-- nor of an order that has no minimum
+pub minimum-undecided : (t : List ℕ) → Market t → minimumOf (at (bookOf t) (workOf t)) ≡ 0 → decidedOf t ≡ 0
+minimum-undecided t m e = least-undecided (bookOf t) (workOf t) (decidedOf t) e (m .decision)
 
 pub numbered-kept : (t : List ℕ) (n : ℕ) → Market t → workOf t ≡ 0 → nextOf t + n ≤ 1000000000 → Market (numbered t n)
 unfolding numbered
@@ -136,7 +201,7 @@ numbered-kept t n m e h =
     let held : Held (isListed t) (nextOf t) (bookOf t) 0 = rw e at (m .held) in
     let later : Held (isListed t) (nextOf t + n) (bookOf t) (workOf t) =
     rw e (later-held (isListed t) (nextOf t) (nextOf t + n) (bookOf t) held (omega arith) h) in
-    renumbered t t (market-formed t m) (framed-self t) (m .work) (nextOf t + n) (omega (arith, m .next-low)) later
+    renumbered-idle t t (market-formed t m) (framed-self t) (m .work) (nextOf t + n) (omega (arith, m .next-low)) later (idle-decided t m e)
 
 -- ---- a replacement's terms are of their widths, whether it keeps its place or takes the one given
 
@@ -201,7 +266,8 @@ module _ (t : List ℕ) (k : ℕ) (clOrdId : List ℕ) (m : Market t) (e : workO
       let h : Held (isListed t1) (nextOf t + 1) (bookOf u) (workOf u) =
       rw (b, w, named-listed t k clOrdId (market-formed t m) (i .low) high g) (withdrawn-held (isListed t) (nextOf t) (bookOf t) k held i low) in
       let x : putAmounts t1 k (change v (orderAt t k)) ≡ u = rw order in
-      rw (x, n) (renumbered t1 u formed f (idle u s z) (nextOf t + 1) (omega arith) h)
+      let d : decidedOf u ≡ 0 = decided-same (same-in 96 97 (same-then s heading) (lit≤ tt) (lit≤ tt)) ∙ idle-decided t m e in
+      rw (x, n) (renumbered-idle t1 u formed f (idle u s z) (nextOf t + 1) (omega arith) h d)
 
   -- ---- a replacement
 
@@ -229,7 +295,8 @@ module _ (t : List ℕ) (k : ℕ) (clOrdId : List ℕ) (m : Market t) (e : workO
       framed-filled x (putWork x k stamp) longer (framed-work x k stamp short)
       ∙ framed-filled u x (framed-long t1 u long f) (framed-next u (nextOf t + 1))
       ∙ framed-filled t1 u long f ∙ filled-there in
-      rw n (reworked t1 u formed f (nextOf t + 1) (omega arith) k stamp short h (has-work-put x k stamp longer (i .low) (omega (arith, high)) time))
+      let d : decidedOf u ≡ 0 = decided-same (same-in 96 97 (same-then s heading) (lit≤ tt) (lit≤ tt)) ∙ idle-decided t m e in
+      rw n (reworked-idle t1 u formed f (nextOf t + 1) (omega arith) k stamp short h (has-work-put x k stamp longer (i .low) (omega (arith, high)) time) d)
 
 -- ---- a new order
 
@@ -256,6 +323,7 @@ enters-sized t n o m a =
           split (eqb (o .mpid) 0)
           (λ z. omega (arith, eqb-true (o .mpid) 0 z))
           (λ z. omega (arith, listed-small t (o .mpid) (m .settings) (or-r (eqb (o .mpid) 0) (isListed t (o .mpid)) (a .owned) z)));
+      minqty = omega (arith, minimum-most o s, s .qty-high);
     }
 
 pub entered-kept : (t clOrdId account : List ℕ) (capacity class : ℕ) (o : Order) (stamp : List ℕ) → Market t → workOf t ≡ 0 → Named t clOrdId
@@ -285,4 +353,5 @@ entered-kept t clOrdId account capacity class o stamp m e g few printable cap cl
     framed-filled x (putWork x k stamp) longer (framed-work x k stamp short)
     ∙ framed-filled u x (formed .long) (framed-next u (nextOf t + 1))
     ∙ entered-filled t clOrdId account capacity class o f0 free g few printable cap cls in
-    rw n (reworked u u formed (framed-self u) (nextOf t + 1) (omega arith) k stamp short h (has-work-put x k stamp longer (omega arith) (omega arith) time))
+    let d : decidedOf u ≡ 0 = decided-same (same-in 96 97 s (lit≤ tt) (lit≤ tt)) ∙ idle-decided t m e in
+    rw n (reworked-idle u u formed (framed-self u) (nextOf t + 1) (omega arith) k stamp short h (has-work-put x k stamp longer (omega arith) (omega arith) time) d)

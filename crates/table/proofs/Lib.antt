@@ -4,7 +4,8 @@
 -- records; Facts: the test of a market as facts; Listed: the MPIDs; Frames: all but number, work and amounts; Applied:
 -- stores against events; Texts: texts put; Events: applying an event; Working: the order in work; Naming: a record takes
 -- another ClOrdID; Entering: a record is added; Settings: settings tested and written; Kept: a market stays a market;
--- Opens: opening makes one; Promises: what a market says of its texts; Theorems: what people read.
+-- Opens: opening makes one; Notes: turns with quantities; Looks: what an order would trade, found by looking; Promises:
+-- what a market says of its texts; Theorems: what people read.
 pub mod Loaded
 pub mod Same
 pub mod Stores
@@ -23,5 +24,7 @@ pub mod Entering
 pub mod Settings
 pub mod Kept
 pub mod Opens
+pub mod Notes
+pub mod Looks
 pub mod Promises
 pub mod Theorems

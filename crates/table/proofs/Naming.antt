@@ -38,9 +38,10 @@ zero-rest t n e h = rw e h
 -- the parts of a good record
 module _ (t : List ℕ) (i : ℕ) where
   pub parts-record : isText isPrintable 1 32 t (recordAt i) ≡ true → isText isPrintable 0 10 t (recordAt i + 33) ≡ true
-      → isCapacity (capacityAt t i) ≡ true → isClass (classificationAt t i) ≡ true → allZero (partAt t (recordAt i + 84) 44) ≡ true → isRecord t i ≡ true
+      → isCapacity (capacityAt t i) ≡ true → isClass (classificationAt t i) ≡ true → allZero (partAt t (recordAt i + 84) 4) ≡ true
+      → allZero (partAt t (recordAt i + 92) 36) ≡ true → isRecord t i ≡ true
   unfolding isRecord
-  parts-record a b c d e = both-i (both-i (both-i (both-i a b) c) d) e
+  parts-record a b c d g e = both-i (both-i (both-i (both-i (both-i a b) c) d) g) e
 
   module _ (h : isRecord t i ≡ true) where
     pub record-id : isText isPrintable 1 32 t (recordAt i) ≡ true
@@ -59,7 +60,11 @@ module _ (t : List ℕ) (i : ℕ) where
     unfolding isRecord
     record-class = search (both-l, both-r)
 
-    pub record-spare : allZero (partAt t (recordAt i + 84) 44) ≡ true
+    pub record-gap : allZero (partAt t (recordAt i + 84) 4) ≡ true
+    unfolding isRecord
+    record-gap = search (both-l, both-r)
+
+    pub record-spare : allZero (partAt t (recordAt i + 92) 36) ≡ true
     unfolding isRecord
     record-spare = search both-r
 
@@ -120,7 +125,9 @@ module _ (t : List ℕ) (k : ℕ) (xs : List ℕ) (f : Formed t) (low : 1 ≤ k)
           (is-text-put 32 t (128 * k) xs (omega (arith, room)) (g .short) isPrintable 1 (g .some) (g .printable))
           (is-text-same isPrintable 0 10 (128 * k + 33) (128 * k + 128) s (omega arith) ∙ record-account t k r)
           (rw c (record-capacity t k r)) (rw d (record-class t k r))
-          (ap allZero (part-same (128 * k + 84) 44 (128 * k + 128) (same-in (128 * k + 84) (128 * k + 128) s (omega arith) (omega arith)) (omega arith))
+          (ap allZero (part-same (128 * k + 84) 4 (128 * k + 128) (same-in (128 * k + 84) (128 * k + 128) s (omega arith) (omega arith)) (omega arith))
+          ∙ record-gap t k r)
+          (ap allZero (part-same (128 * k + 92) 36 (128 * k + 128) (same-in (128 * k + 92) (128 * k + 128) s (omega arith) (omega arith)) (omega arith))
           ∙ record-spare t k r)
 
   -- the ClOrdIDs afterwards
@@ -156,7 +163,7 @@ module _ (t : List ℕ) (k : ℕ) (xs : List ℕ) (f : Formed t) (low : 1 ≤ k)
       record {
         long = s .size ∙ f .long;
         settings = settings-same (same-in 0 28 s (lit≤ tt) (lit≤ tt)) (same-in 56 96 s (lit≤ tt) (lit≤ tt)) ∙ f .settings;
-        spare = spare-same (same-in 55 56 s (lit≤ tt) (lit≤ tt)) (same-in 96 128 s (lit≤ tt) (lit≤ tt)) ∙ f .spare;
+        spare = spare-same (same-in 55 56 s (lit≤ tt) (lit≤ tt)) (same-in 97 128 s (lit≤ tt) (lit≤ tt)) ∙ f .spare;
         rest = rest;
         records = λ i l h. named-record i l (omega arith);
         ids = λ i j l h m. named-ids i j l h (omega arith);
@@ -174,7 +181,7 @@ module _ (t : List ℕ) (k : ℕ) (xs : List ℕ) (f : Formed t) (low : 1 ≤ k)
       split (eqb i k)
       (λ z. let q = eqb-true i k z in rw q (id-keeps t k xs (g .short) room))
       (λ z.
-      order-same i (same-in (128 * i + 44) (128 * i + 84) (named-other i (eqb-false i k z)) (omega arith) (omega arith)))
+      order-same i (same-in (128 * i + 44) (128 * i + 92) (named-other i (eqb-false i k z)) (omega arith) (omega arith)))
 
   pub named-book : bookOf (putId t k xs) ≡ bookOf t
   named-book = book-same (putId t k xs) t named-filled (λ i l h. named-order i)

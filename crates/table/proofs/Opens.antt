@@ -20,7 +20,7 @@ use Rattle.octets.proofs.Zeros.{zero-from}
 use Rattle.decimal.specs.Reading.{isDigit}
 use Rattle.matching.proofs.Requests.{opened-held}
 use Rattle.table.specs.Places.{tableBytes}
-use Rattle.table.specs.Heading.{nextOf, workOf, mpidAt, modeAt, entries, isListed, mpidBytes, putVenue, putPort, putNext, putMpids, putModes}
+use Rattle.table.specs.Heading.{nextOf, workOf, decidedOf, mpidAt, modeAt, entries, isListed, mpidBytes, putVenue, putPort, putNext, putMpids, putModes}
 use Rattle.table.specs.Orders.{filled, ordersFrom, bookOf}
 use Rattle.table.specs.Market.{isGraphic, hasNames, isEntry, hasList, hasSettings, hasSpare, restZero, isMarket}
 use Rattle.table.specs.Facts.{Market}
@@ -29,7 +29,7 @@ use Rattle.octets.proofs.Searches.{all-ext, first-is}
 use Rattle.table.proofs.Same.{Same, same-in, same-then, put-below, le-same, is-text-same, next-same}
 use Rattle.table.proofs.Stores.{next-got}
 use Rattle.table.proofs.Texts.{is-text-put}
-use Rattle.table.proofs.Working.{none-work}
+use Rattle.table.proofs.Working.{none-work, undecided}
 use Rattle.table.proofs.Frames.{filled-is}
 use Rattle.table.proofs.Settings.{name-some, name-every, venue-name, port-name, code-name, venue-short, port-short, code-short, settings-names, settings-low, settings-high, settings-given, given-some, given-few, given-same, given-each, given-low, given-high, mode-low, mode-high, given-new}
 use Rattle.table.proofs.Facts.{facts-market}
@@ -281,10 +281,11 @@ module _ (venue port code : List ℕ) (first : ℕ) (mpids modes : List ℕ) (h 
         work = none-work fresh w (part-zero fresh 33 22 (omega arith) (λ k l m. zero-fresh k (omega arith) (inl (omega arith)) (inl (omega arith))));
         spare = both-i
             (part-zero fresh 55 1 (omega arith) (λ k l m. zero-fresh k (omega arith) (inl (omega arith)) (inl (omega arith))))
-            (part-zero fresh 96 32 (omega arith) (λ k l m. zero-fresh k (omega arith) (inr (omega arith)) (inr (omega arith))));
+            (part-zero fresh 97 31 (omega arith) (λ k l m. zero-fresh k (omega arith) (inr (omega arith)) (inr (omega arith))));
         rest = rw e (rest-of-zero fresh 128 (λ k l. zero-fresh k (omega arith) (inr (omega arith)) (inr (omega arith))));
         records = λ i l m. absurd (omega arith);
         ids = λ j k l m n. absurd (omega arith);
+        decision = undecided (bookOf fresh) (workOf fresh) (decidedOf fresh) (zero-fresh 96 (omega arith) (inr (omega arith)) (inr (omega arith)));
         held = rw (b, w, x) (opened-held (isListed fresh) first (omega (arith, settings-high venue port code first mpids modes h)));
       })
 

@@ -16,7 +16,7 @@ use Rattle.octets.proofs.Bools.{split, both-not-r}
 use Rattle.octets.proofs.Places.{leAt-ext, getD-put-below, getD-put-above, below-or, length-put}
 use Rattle.decimal.specs.Reading.{isDigit}
 use Rattle.table.specs.Places.{recordAt}
-use Rattle.table.specs.Heading.{nextOf, workOf, mpidAt, modeAt, entries, entryOf, isListed, modeOf}
+use Rattle.table.specs.Heading.{nextOf, workOf, decidedOf, mpidAt, modeAt, entries, entryOf, isListed, modeOf}
 use Rattle.table.specs.Orders.{clOrdIdAt, orderAt, isFree, filled, ordersFrom, bookOf}
 use Rattle.table.specs.Market.{isGraphic, isPrintable, isPadded, isText, hasNames, isEntry, hasList, hasSettings, hasSpare, isRecord, isKnown}
 use Rattle.octets.proofs.Searches.{all-ext, first-ext, first-high}
@@ -145,6 +145,9 @@ module _ {t u : List ℕ} where
   pub work-same : Same t u 32 33 → workOf t ≡ workOf u
   work-same s = s .byte 32 (lit≤ tt) (lit≤ tt)
 
+  pub decided-same : Same t u 96 97 → decidedOf t ≡ decidedOf u
+  decided-same s = s .byte 96 (lit≤ tt) (lit≤ tt)
+
   mpid-same : Same t u 56 96 → (k : ℕ) → k < 8 → mpidAt t k ≡ mpidAt u k
   mpid-same s k l = le-same 4 (56 + 4 * k) 96 (same-in (56 + 4 * k) 96 s (omega arith) (omega arith)) (omega arith)
 
@@ -207,11 +210,11 @@ module _ {t u : List ℕ} where
   unfolding hasSettings
   settings-same s r = let a = names-same s in let b = list-same r in rw (a, b)
 
-  pub spare-same : Same t u 55 56 → Same t u 96 128 → hasSpare t ≡ hasSpare u
+  pub spare-same : Same t u 55 56 → Same t u 97 128 → hasSpare t ≡ hasSpare u
   unfolding hasSpare
   spare-same s r =
       let a = part-same 55 1 56 s (lit≤ tt) in
-      let b = part-same 96 32 128 r (lit≤ tt) in
+      let b = part-same 97 31 128 r (lit≤ tt) in
       rw (a, b)
 
   -- ---- the records
@@ -225,10 +228,11 @@ module _ {t u : List ℕ} where
       let b = is-text-same isPrintable 0 10 (128 * i + 33) (128 * i + 44) (same-in (128 * i + 33) (128 * i + 44) s (omega arith) (omega arith)) (omega arith) in
       let c : getD t (128 * i + 46) 0 ≡ getD u (128 * i + 46) 0 = r .byte (128 * i + 46) (omega arith) (omega arith) in
       let d : getD t (128 * i + 47) 0 ≡ getD u (128 * i + 47) 0 = r .byte (128 * i + 47) (omega arith) (omega arith) in
-      let e = part-same (128 * i + 84) 44 (128 * i + 128) q (omega arith) in
-      rw (a, b, c, d, e)
+      let e = part-same (128 * i + 84) 4 (128 * i + 128) q (omega arith) in
+      let f = part-same (128 * i + 92) 36 (128 * i + 128) (same-in (128 * i + 92) (128 * i + 128) q (omega arith) (omega arith)) (omega arith) in
+      rw (a, b, c, d, e, f)
 
-  pub order-same : (i : ℕ) → Same t u (recordAt i + 44) (recordAt i + 84) → orderAt t i ≡ orderAt u i
+  pub order-same : (i : ℕ) → Same t u (recordAt i + 44) (recordAt i + 92) → orderAt t i ≡ orderAt u i
   unfolding orderAt
   order-same i s =
       λ j. record {
@@ -242,13 +246,14 @@ module _ {t u : List ℕ} where
         sum = number 8 64 (lit≤ tt) (lit≤ tt) j;
         place = number 4 56 (lit≤ tt) (lit≤ tt) j;
         mpid = number 4 60 (lit≤ tt) (lit≤ tt) j;
+        minqty = number 4 88 (lit≤ tt) (lit≤ tt) j;
       }
     where
-      byte : (k : ℕ) → 44 ≤ k → k < 84 → getD t (128 * i + k) 0 ≡ getD u (128 * i + k) 0
+      byte : (k : ℕ) → 44 ≤ k → k < 92 → getD t (128 * i + k) 0 ≡ getD u (128 * i + k) 0
       byte k l h = s .byte (128 * i + k) (omega arith) (omega arith)
 
-      number : (n k : ℕ) → 44 ≤ k → k + n ≤ 84 → leAt n t (128 * i + k) ≡ leAt n u (128 * i + k)
-      number n k l h = le-same n (128 * i + k) (128 * i + 84) (same-in (128 * i + k) (128 * i + 84) s (omega arith) (omega arith)) (omega arith)
+      number : (n k : ℕ) → 44 ≤ k → k + n ≤ 92 → leAt n t (128 * i + k) ≡ leAt n u (128 * i + k)
+      number n k l h = le-same n (128 * i + k) (128 * i + 92) (same-in (128 * i + k) (128 * i + 92) s (omega arith) (omega arith)) (omega arith)
 
   pub id-same : (i : ℕ) → Same t u (recordAt i) (recordAt i + 33) → getD u (recordAt i) 0 ≤ 32 → clOrdIdAt t i ≡ clOrdIdAt u i
   id-same i s l = text-same (128 * i) 32 (128 * i + 33) s (omega arith) l

@@ -1,18 +1,19 @@
 -- What stands in a table after a store: what was stored, at its place, and everything else as it was.
 use mathlib.Core.Path.{_≡_, refl, sym, ap, _∙_}
+use mathlib.Core.Bool.{true}
 use mathlib.Core.List.{List, [], _∷_, _++_}
 use Prim.Native.Nat.{ℕ, _+_, _*_, _^_, _≤_, _<_}
 use native.Mathlib.Omega.{arith}
 use lib.Dec.{lit≤, lit<}
 use lib.ListN.{length, getD, length-append}
-use Rattle.octets.specs.Octets.{leAt, bytesOf, put, textBytes, putText}
+use Rattle.octets.specs.Octets.{leAt, bytesOf, put, partAt, textBytes, putText, allZero}
 use Rattle.octets.proofs.Places.{length-put, get-part, get-put, put-put, getD-put-in, getD-put-below, leAt-below, leAt-above}
-use Rattle.octets.proofs.Parts.{length-textBytes, text-put, text-put-first}
+use Rattle.octets.proofs.Parts.{length-textBytes, text-put, text-put-first, part-in}
 use Rattle.matching.specs.declared.Order.{Order}
 use Rattle.matching.specs.Matching.{amounts, terms}
 use Rattle.table.specs.Places.{recordAt}
-use Rattle.table.specs.Heading.{nextOf, workOf, stampOf, putNext, putWork}
-use Rattle.table.specs.Orders.{clOrdIdAt, accountAt, capacityAt, classificationAt, orderAt, termBytes, amountBytes, fieldBytes, recordOf, accepted, putId, putTerms, putAmounts}
+use Rattle.table.specs.Heading.{nextOf, workOf, stampOf, decidedOf, putNext, putWork, putDecided}
+use Rattle.table.specs.Orders.{clOrdIdAt, accountAt, capacityAt, classificationAt, orderAt, termBytes, amountBytes, tailBytes, fieldBytes, recordOf, accepted, putId, putTerms, putAmounts}
 use Rattle.table.proofs.Same.{Same, same-in, same-then, put-below, put-above, text-same, order-same, id-same}
 
 -- the amounts are of their width, and so are the terms
@@ -35,8 +36,8 @@ pub length-terms : (o : Order) → length (termBytes o) ≡ 12
 unfolding termBytes bytesOf
 length-terms o = refl
 
-pub length-fields : (capacity class : ℕ) (o : Order) → length (fieldBytes capacity class o) ≡ 40
-unfolding fieldBytes amountBytes termBytes bytesOf
+pub length-fields : (capacity class : ℕ) (o : Order) → length (fieldBytes capacity class o) ≡ 48
+unfolding fieldBytes amountBytes tailBytes termBytes bytesOf
 length-fields capacity class o = refl
 
 -- every number is of its width
@@ -44,6 +45,7 @@ pub record Sized (o : Order) : Type 0 where
   pub terms : Terms o
   pub amounts : Amounts o
   pub mpid : o .mpid < 256 ^ 4
+  pub minqty : o .minqty < 256 ^ 4
 
 -- ---- a record that starts at b, after bytes were put at place a of it
 
@@ -76,6 +78,7 @@ module _ (t : List ℕ) (i : ℕ) (o : Order) (room : recordAt i + 128 ≤ lengt
         sum = got 8 0 64 (o .sum) refl refl (lit≤ tt) (f .sum) j;
         place = kept 4 56 (lit≤ tt) j;
         mpid = kept 4 60 (lit≤ tt) j;
+        minqty = number-behind 4 t (128 * i) 64 (amountBytes o) 88 (lit≤ tt) j;
       }
     where
       kept : (n k : ℕ) → k + n ≤ 64 → leAt n (putAmounts t i o) (128 * i + k) ≡ leAt n t (128 * i + k)
@@ -100,6 +103,7 @@ module _ (t : List ℕ) (i : ℕ) (o : Order) (room : recordAt i + 128 ≤ lengt
         sum = kept 8 64 (lit≤ tt) j;
         place = got 8 56 (o .place) refl refl (lit≤ tt) (f .place) j;
         mpid = kept 4 60 (lit≤ tt) j;
+        minqty = kept 4 88 (lit≤ tt) j;
       }
     where
       kept : (n k : ℕ) → 60 ≤ k → leAt n (putTerms t i o) (128 * i + k) ≡ leAt n t (128 * i + k)
@@ -115,7 +119,7 @@ module _ (t : List ℕ) (i : ℕ) (xs : List ℕ) (short : length xs ≤ 32) (ro
   id-got = text-put 32 t (128 * i) xs (omega arith) short
 
   pub id-keeps : orderAt (putId t i xs) i ≡ orderAt t i
-  id-keeps = order-same i (put-above t (128 * i) (textBytes 32 xs) (128 * i + 44) (128 * i + 84) (omega (arith, length-textBytes 32 xs short)))
+  id-keeps = order-same i (put-above t (128 * i) (textBytes 32 xs) (128 * i + 44) (128 * i + 92) (omega (arith, length-textBytes 32 xs short)))
 
 -- ---- a new record
 
@@ -149,7 +153,7 @@ module _ (t : List ℕ) (i : ℕ) (clOrdId account : List ℕ) (capacity class :
   unfolding accepted
   accepted-before = put-below t (128 * i) (recordOf clOrdId account capacity class o) 0 (128 * i) (omega arith)
 
-  pub length-record : length (recordOf clOrdId account capacity class o) ≡ 84
+  pub length-record : length (recordOf clOrdId account capacity class o) ≡ 92
   unfolding recordOf
   length-record =
       let a = length-textBytes 32 clOrdId short in
@@ -157,9 +161,9 @@ module _ (t : List ℕ) (i : ℕ) (clOrdId account : List ℕ) (capacity class :
       let c = length-fields capacity class o in
       simp length-append (omega arith)
 
-  pub accepted-behind : (e : ℕ) → Same (accepted t i clOrdId account capacity class o) t (128 * i + 84) e
+  pub accepted-behind : (e : ℕ) → Same (accepted t i clOrdId account capacity class o) t (128 * i + 92) e
   unfolding accepted
-  accepted-behind e = put-above t (128 * i) (recordOf clOrdId account capacity class o) (128 * i + 84) e (omega (arith, length-record))
+  accepted-behind e = put-above t (128 * i) (recordOf clOrdId account capacity class o) (128 * i + 92) e (omega (arith, length-record))
 
   -- its texts stand as they do before the rest is put
   pub accepted-texts : Same (accepted t i clOrdId account capacity class o) (putTexts t i clOrdId account) (128 * i) (128 * i + 44)
@@ -183,18 +187,18 @@ module _ (t : List ℕ) (i : ℕ) (clOrdId account : List ℕ) (capacity class :
       ∙ text-put 10 (putId t i clOrdId) (128 * i + 33) account (omega arith) few
 
   -- the order, the capacity and the classification are those that were put
-  field-byte : (k : ℕ) → k < 40 → getD (put (putTexts t i clOrdId account) (128 * i + 44) (fieldBytes capacity class o)) (128 * i + 44 + k) 0 ≡ getD (fieldBytes capacity class o) k 0
+  field-byte : (k : ℕ) → k < 48 → getD (put (putTexts t i clOrdId account) (128 * i + 44) (fieldBytes capacity class o)) (128 * i + 44 + k) 0 ≡ getD (fieldBytes capacity class o) k 0
   field-byte k h =
       let z = length-second in
       let c = length-fields capacity class o in
       getD-put-in (putTexts t i clOrdId account) (128 * i + 44) (fieldBytes capacity class o) k (omega arith) (omega arith)
 
-  field-at : (k q v : ℕ) → getD (fieldBytes capacity class o) k 0 ≡ v → q ≡ 44 + k → k < 40 → getD (accepted t i clOrdId account capacity class o) (128 * i + q) 0 ≡ v
+  field-at : (k q v : ℕ) → getD (fieldBytes capacity class o) k 0 ≡ v → q ≡ 44 + k → k < 48 → getD (accepted t i clOrdId account capacity class o) (128 * i + q) 0 ≡ v
   field-at k q v e h l =
       let z : 128 * i + q ≡ 128 * i + 44 + k = omega arith in
       rw (← accepted-parts, z) (field-byte k l ∙ e)
 
-  field-number : (n k q v : ℕ) → leAt n (fieldBytes capacity class o) k ≡ leAt n (bytesOf n v) 0 → q ≡ 44 + k → k + n ≤ 40 → v < 256 ^ n
+  field-number : (n k q v : ℕ) → leAt n (fieldBytes capacity class o) k ≡ leAt n (bytesOf n v) 0 → q ≡ 44 + k → k + n ≤ 48 → v < 256 ^ n
       → leAt n (accepted t i clOrdId account capacity class o) (128 * i + q) ≡ v
   field-number n k q v e h l small =
       let z = length-second in
@@ -210,8 +214,19 @@ module _ (t : List ℕ) (i : ℕ) (clOrdId account : List ℕ) (capacity class :
   unfolding fieldBytes
   accepted-class = field-at 3 47 class refl refl (lit< tt)
 
+  -- the unused bytes between its numbers are zero
+  pub accepted-gap : allZero (partAt (accepted t i clOrdId account capacity class o) (128 * i + 84) 4) ≡ true
+  unfolding fieldBytes termBytes amountBytes tailBytes bytesOf partAt allZero
+  accepted-gap =
+      let z = length-second in
+      let c = length-fields capacity class o in
+      let q : 128 * i + 84 ≡ 128 * i + 44 + 40 = omega arith in
+      let e : partAt (put (putTexts t i clOrdId account) (128 * i + 44) (fieldBytes capacity class o)) (128 * i + 44 + 40) 4 ≡ partAt (fieldBytes capacity class o) 40 4 =
+      part-in (putTexts t i clOrdId account) (128 * i + 44) (fieldBytes capacity class o) 40 4 (omega arith) (omega arith) in
+      rw (← accepted-parts, q, e)
+
   pub accepted-order : Sized o → orderAt (accepted t i clOrdId account capacity class o) i ≡ o
-  unfolding orderAt fieldBytes termBytes amountBytes bytesOf leAt
+  unfolding orderAt fieldBytes termBytes amountBytes tailBytes bytesOf leAt
   accepted-order f =
       λ j. record {
         side = field-at 0 44 (o .side) refl refl (lit< tt) j;
@@ -224,9 +239,14 @@ module _ (t : List ℕ) (i : ℕ) (clOrdId account : List ℕ) (capacity class :
         sum = field-number 8 20 64 (o .sum) refl refl (lit≤ tt) (f .amounts .sum) j;
         place = field-number 4 12 56 (o .place) refl refl (lit≤ tt) (f .terms .place) j;
         mpid = field-number 4 16 60 (o .mpid) refl refl (lit≤ tt) (f .mpid) j;
+        minqty = field-number 4 44 88 (o .minqty) refl refl (lit≤ tt) (f .minqty) j;
       }
 
 -- ---- the heading
+
+-- the decision that was put is got
+pub decided-got : (t : List ℕ) (d : ℕ) → 128 ≤ length t → decidedOf (putDecided t d) ≡ d
+decided-got t d room = getD-put-in t 96 (d ∷ []) 0 (lit< tt) (omega arith)
 
 -- the next number that was put is got; so are the order in work and the 52 of its message
 pub next-got : (t : List ℕ) (n : ℕ) → n < 256 ^ 4 → 32 ≤ length t → nextOf (putNext t n) ≡ n

@@ -1,24 +1,25 @@
--- What is in work: the clause of a market about it, kept by stores elsewhere and made by putting an order in work or ending
--- the work.
-use mathlib.Core.Path.{_≡_, sym, _∙_}
-use mathlib.Core.Bool.{true, _&&_}
+-- What is in work: the clauses of a market about it and about the decision on its minimum, kept by stores elsewhere and made by putting an
+-- order in work or ending the work.
+use mathlib.Core.Path.{_≡_, refl, sym, _∙_}
+use mathlib.Core.Bool.{Bool, true, false, _&&_}
 use mathlib.Core.List.{List, [], _∷_}
 use Prim.Native.Nat.{ℕ, _≤_}
 use native.Mathlib.Omega.{arith}
-use lib.Dec.{eqb, leb, lit≤}
+use lib.Dec.{eqb, ltb, leb, lit≤}
 use lib.ListN.{length, getD, drop, length-take, length-drop}
 use borrow.Author.Tests.{leb-true, le-leb, eqb-true, eqb-false, eq-eqb, ne-eqb}
 use Rattle.octets.specs.Octets.{put, partAt, textAt, textBytes, putText, allZero}
-use Rattle.octets.proofs.Bools.{split, both-i, both-l, both-r}
+use Rattle.octets.proofs.Bools.{split, both-i, both-l, both-r, or-r, not-both}
 use Rattle.octets.proofs.Places.{length-put, put-put}
 use Rattle.octets.proofs.Parts.{part-in}
 use Rattle.octets.proofs.Zeros.{zero-replicate}
 use Rattle.decimal.specs.Reading.{isTime}
 use Rattle.decimal.proofs.Times.{time-short}
+use Rattle.matching.specs.Matching.{Book, at, minimumOf, decidedAfter}
 use Rattle.table.specs.Places.{tableBytes}
-use Rattle.table.specs.Heading.{workOf, stampOf, putWork, endWork}
+use Rattle.table.specs.Heading.{workOf, stampOf, putWork}
 use Rattle.table.specs.Orders.{filled}
-use Rattle.table.specs.Market.{isPadded, hasWork}
+use Rattle.table.specs.Market.{isPadded, hasWork, hasDecision}
 use Rattle.table.proofs.Same.{Same, same-in, part-same, text-same, padded-same}
 use Rattle.table.proofs.Stores.{work-got, stamp-got}
 use Rattle.table.proofs.Texts.{padded-put}
@@ -85,10 +86,37 @@ has-work-put t w stamp long low high i =
         let e : putWork t w stamp ≡ putText 21 (put t 32 (w ∷ [])) 33 stamp = sym (put-put t 32 (w ∷ []) (textBytes 21 stamp)) in
         rw e (padded-put 21 (put t 32 (w ∷ [])) 33 stamp (omega arith) short)
 
--- made by ending the work
-pub has-work-end : (t : List ℕ) → length t ≡ tableBytes → hasWork (endWork t) ≡ true
+-- made by putting nothing in work
+pub has-work-none : (t : List ℕ) → length t ≡ tableBytes → hasWork (putWork t 0 []) ≡ true
 unfolding textBytes partAt
-has-work-end t long =
+has-work-none t long =
     let e = work-got t 0 [] (omega arith) (lit≤ tt) in
-    let p : partAt (endWork t) 33 22 ≡ partAt (0 ∷ textBytes 21 []) 1 22 = part-in t 32 (0 ∷ textBytes 21 []) 1 22 (lit≤ tt) (omega arith) in
-    none-work (endWork t) e (rw p (zero-replicate 22))
+    let p : partAt (putWork t 0 []) 33 22 ≡ partAt (0 ∷ textBytes 21 []) 1 22 = part-in t 32 (0 ∷ textBytes 21 []) 1 22 (lit≤ tt) (omega arith) in
+    none-work (putWork t 0 []) e (rw p (zero-replicate 22))
+
+-- ---- the decision
+
+-- none is noted
+pub undecided : (b : Book) (w d : ℕ) → d ≡ 0 → hasDecision b w d ≡ true
+unfolding hasDecision
+undecided b w d e = rw (eq-eqb d 0 e)
+
+-- and so it is of an order that has no minimum, and while nothing is in work
+pub least-undecided : (b : Book) (w d : ℕ) → minimumOf (at b w) ≡ 0 → hasDecision b w d ≡ true → d ≡ 0
+unfolding hasDecision
+least-undecided b w d z h =
+    split (eqb d 0)
+    (λ e. eqb-true d 0 e)
+    (λ e. absurd (not-both (both-r (eqb d 1) false (or-r (eqb d 0) _ (rw z at h) e)) refl))
+
+pub idle-undecided : (b : Book) (d : ℕ) → hasDecision b 0 d ≡ true → d ≡ 0
+unfolding minimumOf
+idle-undecided b d h = least-undecided b 0 d refl h
+
+-- what is noted after a step that does not end the work, in a book where the order's minimum is the same
+pub decided-after : (b c : Book) (w : ℕ) → minimumOf (at c w) ≡ minimumOf (at b w) → hasDecision c w (decidedAfter b w) ≡ true
+unfolding hasDecision decidedAfter
+decided-after b c w m =
+    split (ltb 0 (minimumOf (at b w)))
+    (λ e. rw (e, m, e))
+    (λ e. rw e)

@@ -7,9 +7,9 @@ use lib.ListN.{length, set, replicate, length-set}
 use Rattle.octets.specs.Octets.{bytesOf, put, textBytes, putText}
 use Rattle.octets.proofs.Places.{then-put, length-bytesOf, length-put}
 use Rattle.matching.specs.declared.Order.{Order}
-use Rattle.table.specs.Heading.{putWork, endWork}
-use Rattle.table.specs.Orders.{termBytes, amountBytes, fieldBytes, accepted}
-use Rattle.table.proofs.Stores.{length-terms, accepted-parts}
+use Rattle.table.specs.Heading.{putWork, putDecided, endWork}
+use Rattle.table.specs.Orders.{termBytes, amountBytes, tailBytes, fieldBytes, accepted}
+use Rattle.table.proofs.Stores.{length-terms, length-amounts, accepted-parts}
 
 -- three runs of bytes, and four
 three : (t t1 t2 t3 : List ℕ) (p q r : ℕ) (xs ys zs : List ℕ) → t1 ≡ put t p xs → t2 ≡ put t1 q ys → t3 ≡ put t2 r zs
@@ -43,14 +43,22 @@ module _ (t : List ℕ) (p : ℕ) (o : Order) where
       four t t1 t2 t3 t4 p (p + 8) (p + 12) (p + 16) (bytesOf 8 (o .sum)) (bytesOf 4 (o .executed)) (bytesOf 4 (o .decremented)) (bytesOf 4 (o .canceled))
       a b c d (omega arith) (omega arith) (omega arith)
 
+  pub tail-written : (t1 t2 t3 : List ℕ) → t1 ≡ put t p (amountBytes o) → t2 ≡ put t1 (p + 20) (bytesOf 4 0)
+      → t3 ≡ put t2 (p + 24) (bytesOf 4 (o .minqty)) → t3 ≡ put t p (tailBytes o)
+  unfolding tailBytes
+  tail-written t1 t2 t3 a b c =
+      let x = length-amounts o in
+      let y = length-bytesOf 4 0 in
+      three t t1 t2 t3 p (p + 20) (p + 24) (amountBytes o) (bytesOf 4 0) (bytesOf 4 (o .minqty)) a b c (omega arith) (omega arith)
+
   pub fields-written : (capacity class : ℕ) (t1 t2 t3 t4 : List ℕ) → t1 ≡ put t p (o .side ∷ o .tif ∷ capacity ∷ class ∷ [])
-      → t2 ≡ put t1 (p + 4) (termBytes o) → t3 ≡ put t2 (p + 16) (bytesOf 4 (o .mpid)) → t4 ≡ put t3 (p + 20) (amountBytes o)
+      → t2 ≡ put t1 (p + 4) (termBytes o) → t3 ≡ put t2 (p + 16) (bytesOf 4 (o .mpid)) → t4 ≡ put t3 (p + 20) (tailBytes o)
       → t4 ≡ put t p (fieldBytes capacity class o)
   unfolding fieldBytes
   fields-written capacity class t1 t2 t3 t4 a b c d =
       let y = length-terms o in
       let z = length-bytesOf 4 (o .mpid) in
-      four t t1 t2 t3 t4 p (p + 4) (p + 16) (p + 20) (o .side ∷ o .tif ∷ capacity ∷ class ∷ []) (termBytes o) (bytesOf 4 (o .mpid)) (amountBytes o)
+      four t t1 t2 t3 t4 p (p + 4) (p + 16) (p + 20) (o .side ∷ o .tif ∷ capacity ∷ class ∷ []) (termBytes o) (bytesOf 4 (o .mpid)) (tailBytes o)
       a b c d refl (omega arith) (omega arith)
 
 pub four-written : (t : List ℕ) (p a b c d : ℕ) → set (set (set (set t p a) (p + 1) b) (p + 2) c) (p + 3) d ≡ put t p (a ∷ b ∷ c ∷ d ∷ [])
@@ -65,9 +73,13 @@ pub work-written : (t u : List ℕ) (w : ℕ) (stamp : List ℕ) → u ≡ putTe
 unfolding put
 work-written t u w stamp e = e
 
-pub work-ended : (t u : List ℕ) → u ≡ put t 32 (replicate 23 0) → u ≡ endWork t
+pub decided-written : (t : List ℕ) (d : ℕ) → set t 96 d ≡ putDecided t d
+unfolding put
+decided-written t d = refl
+
+pub work-ended : (t u v : List ℕ) → u ≡ put t 32 (replicate 23 0) → v ≡ putDecided u 0 → v ≡ endWork t
 unfolding textBytes
-work-ended t u e = e
+work-ended t u v e f = f ∙ ap (λ (x : List ℕ). putDecided x 0) e
 
 pub record-written : (t t1 t2 t3 : List ℕ) (i : ℕ) (clOrdId account : List ℕ) (capacity class : ℕ) (o : Order) → length t ≡ 32768 → i < 256
     → length clOrdId ≤ 32 → length account ≤ 10 → t1 ≡ putText 32 t (128 * i) clOrdId → t2 ≡ putText 10 t1 (128 * i + 33) account

@@ -1,15 +1,15 @@
 -- The table after what a call does to it (document 01, "The table and its calls" and "Matching, step by step"): one step of
 -- the order in work, a report about no order, a new order, a replacement, a requested cancel. Each of them is a few named
 -- writes. Assumes nothing; that a market stays a market is a theorem.
-use mathlib.Core.Bool.{cond}
+use mathlib.Core.Bool.{Bool, cond}
 use mathlib.Core.List.{List, [], _∷_}
 use Prim.Native.Nat.{ℕ, _+_}
 use lib.Dec.{eqb}
 use lib.ListN.{length}
 use Rattle.matching.specs.declared.Order.{Order}
 use Rattle.matching.specs.declared.Event.{Event}
-use Rattle.matching.specs.Matching.{who, happens, workAfter}
-use Rattle.table.specs.Heading.{nextOf, workOf, modeOf, putNext, putWork, endWork}
+use Rattle.matching.specs.Matching.{who, happens, workAfter, misses, decidedAfter}
+use Rattle.table.specs.Heading.{nextOf, workOf, decidedOf, modeOf, putNext, putWork, putDecided, endWork}
 use Rattle.table.specs.Orders.{filled, bookOf, applied, withdrawn, replaced, accepted}
 
 -- after events that change amounts, one by one
@@ -17,19 +17,28 @@ unfoldable pub played : List ℕ → List Event → List ℕ
 played t [] = t
 played t (e ∷ es) = played (applied t e) es
 
+-- whether the order in work, where it is not decided yet, misses its minimum
+unfoldable pub missesNow : List ℕ → Bool
+missesNow t = misses (modeOf t) (decidedOf t) (bookOf t) (workOf t)
+
 -- the events of the next step of the order in work
 unfoldable pub stepEvents : List ℕ → List Event
-stepEvents t = happens (modeOf t) (bookOf t) (workOf t)
+stepEvents t = happens (modeOf t) (missesNow t) (bookOf t) (workOf t)
 
 -- after the n reports of something, the next number is n more
 unfoldable pub numbered : List ℕ → ℕ → List ℕ
 numbered t n = putNext t (nextOf t + n)
 
--- after one step: the amounts of its events, a number for the report of each, and nothing in work if it ends the work
+-- who is in work after it
+unfoldable pub stepWork : List ℕ → ℕ
+stepWork t = workAfter (missesNow t) (bookOf t) (workOf t)
+
+-- after one step: the amounts of its events and a number for the report of each; nothing in work if it ends the work, and otherwise the
+-- decision noted
 unfoldable pub stepped : List ℕ → List ℕ
 stepped t =
     let after = numbered (played t (stepEvents t)) (length (stepEvents t)) in
-    cond (eqb (workAfter (bookOf t) (workOf t)) 0) (endWork after) after
+    cond (eqb (stepWork t) 0) (endWork after) (putDecided after (decidedAfter (bookOf t) (workOf t)))
 
 -- after a new order, o, is accepted as the next record: it is in work, with the 52 of its message
 unfoldable pub entered : List ℕ → List ℕ → List ℕ → ℕ → ℕ → Order → List ℕ → List ℕ

@@ -10,9 +10,9 @@ use Rattle.matching.specs.declared.Event.{Event}
 use Rattle.matching.specs.Matching.{who}
 use Rattle.matching.specs.Held.{Held, Ready}
 use Rattle.table.specs.Places.{tableBytes}
-use Rattle.table.specs.Heading.{nextOf, workOf, isListed}
+use Rattle.table.specs.Heading.{nextOf, workOf, decidedOf, isListed}
 use Rattle.table.specs.Orders.{clOrdIdAt, filled, bookOf}
-use Rattle.table.specs.Market.{every, isPrintable, hasSettings, hasWork, hasSpare, restZero, isRecord}
+use Rattle.table.specs.Market.{every, isPrintable, hasSettings, hasWork, hasSpare, restZero, isRecord, hasDecision}
 
 -- all of a market
 pub record Market (t : List ℕ) : Type 0 where
@@ -24,6 +24,7 @@ pub record Market (t : List ℕ) : Type 0 where
   pub rest : restZero t ≡ true
   pub records : (i : ℕ) → 1 ≤ i → i ≤ filled t → isRecord t i ≡ true
   pub ids : (j k : ℕ) → 1 ≤ j → j < k → k ≤ filled t → sameBytes (clOrdIdAt t j) (clOrdIdAt t k) ≡ false
+  pub decision : hasDecision (bookOf t) (workOf t) (decidedOf t) ≡ true
   pub held : Held (isListed t) (nextOf t) (bookOf t) (workOf t)
 
 -- a ClOrdID that an order of the table may take: 1 to 32 characters, and none has it

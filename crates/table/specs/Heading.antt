@@ -1,5 +1,5 @@
--- The heading of a table by name: the settings, the next report number, the order in work and the 52 of its message
--- (document 01, "The table and its calls"). Reading any table gives something; writing changes the named bytes alone. Assumes
+-- The heading of a table by name: the settings, the next report number, the order in work, the 52 of its message and whether its
+-- minimum is decided (document 01, "The table and its calls"; document 02, T-05). Reading any table gives something; writing changes the named bytes alone. Assumes
 -- nothing: whether what is read makes sense is said in Market.
 use mathlib.Core.Bool.{Bool, cond}
 use mathlib.Core.List.{List, [], _∷_, _++_}
@@ -8,7 +8,7 @@ use lib.Dec.{eqb, ltb}
 use lib.ListN.{getD}
 use Rattle.octets.specs.Octets.{leAt, bytesOf, put, textAt, textBytes, putText}
 use Rattle.octets.specs.Tests.{firstFrom}
-use Rattle.table.specs.Places.{venueByte, portByte, idRoom, codeByte, codeRoom, nextByte, workByte, stampByte, stampRoom, mpidsByte, modesByte, mostMpids}
+use Rattle.table.specs.Places.{venueByte, portByte, idRoom, codeByte, codeRoom, nextByte, workByte, stampByte, stampRoom, mpidsByte, modesByte, mostMpids, decidedByte}
 
 -- ---- reading
 
@@ -32,6 +32,10 @@ workOf t = getD t workByte 0
 
 abbrev pub stampOf : List ℕ → List ℕ
 stampOf t = textAt t stampByte
+
+-- the decision on its minimum: 0, or 1 once it is made
+abbrev pub decidedOf : List ℕ → ℕ
+decidedOf t = getD t decidedByte 0
 
 -- entry k of the list of MPIDs, from 0: the MPID and its mode
 abbrev pub mpidAt : List ℕ → ℕ → ℕ
@@ -87,6 +91,10 @@ putNext t n = put t nextByte (bytesOf 4 n)
 abbrev pub putWork : List ℕ → ℕ → List ℕ → List ℕ
 putWork t w stamp = put t workByte (w ∷ textBytes stampRoom stamp)
 
--- nothing in work
+-- the decision on its minimum
+abbrev pub putDecided : List ℕ → ℕ → List ℕ
+putDecided t d = put t decidedByte (d ∷ [])
+
+-- nothing in work, and nothing decided
 abbrev pub endWork : List ℕ → List ℕ
-endWork t = putWork t 0 []
+endWork t = putDecided (putWork t 0 []) 0

@@ -12,9 +12,10 @@ use Rattle.octets.specs.Characters.{byte}
 use Rattle.octets.specs.Tests.{allUpTo}
 use Rattle.decimal.specs.Reading.{isDigit, isTime}
 use Rattle.matching.specs.declared.Order.{Order}
-use Rattle.matching.specs.Matching.{Book, at, openOf, isOpen, isBuy, crosses, opposedTo}
-use Rattle.table.specs.Places.{tableBytes, venueByte, portByte, idRoom, codeByte, codeRoom, stampByte, stampRoom, spareByte, mpidsByte, modesByte, mostMpids, headingEnd, headingSpare, recordAt, clOrdIdRoom, accountByte, accountRoom, recordEnd, recordSpare}
-use Rattle.table.specs.Heading.{nextOf, workOf, stampOf, mpidAt, modeAt, entries, isListed}
+use Rattle.matching.specs.Matching.{Book, at, openOf, isOpen, isBuy, isImmediate, minimumOf, crosses, opposedTo}
+use Rattle.matching.specs.Held.{mayMinimum}
+use Rattle.table.specs.Places.{tableBytes, venueByte, portByte, idRoom, codeByte, codeRoom, stampByte, stampRoom, spareByte, mpidsByte, modesByte, mostMpids, headingEnd, headingSpare, recordAt, clOrdIdRoom, accountByte, accountRoom, gapByte, gapBytes, recordEnd, recordSpare}
+use Rattle.table.specs.Heading.{nextOf, workOf, stampOf, decidedOf, mpidAt, modeAt, entries, isListed}
 use Rattle.table.specs.Orders.{clOrdIdAt, capacityAt, classificationAt, orderAt, filled, bookOf}
 
 -- ---- texts
@@ -104,13 +105,14 @@ isRecord t i =
     && isText isPrintable 0 accountRoom t (recordAt i + accountByte)
     && isCapacity (capacityAt t i)
     && isClass (classificationAt t i)
+    && allZero (partAt t (recordAt i + gapByte) gapBytes)
     && allZero (partAt t (recordAt i + recordEnd) recordSpare)
 
--- side 1 or 2, time in force 0 or 3, level 1 to 1,999,999,999 (a yield of at most 999,999.999 in size), OrderQty 1 to
--- 999,999,999, a place
+-- side 1 or 2, time in force 0, 3 or 4, MinQty on an IOC alone and at most OrderQty, level 1 to 1,999,999,999 (a yield of at most
+-- 999,999.999 in size), OrderQty 1 to 999,999,999, a place
 unfoldable pub isRanged : Order → Bool
 isRanged o =
-    (eqb (o .side) 1 || eqb (o .side) 2) && (eqb (o .tif) 0 || eqb (o .tif) 3)
+    (eqb (o .side) 1 || eqb (o .side) 2) && (eqb (o .tif) 0 || isImmediate o) && mayMinimum o
     && leb 1 (o .level) && leb (o .level) 1999999999
     && leb 1 (o .qty) && leb (o .qty) 999999999 && leb 1 (o .place)
 
@@ -157,9 +159,9 @@ isFreshPlace b j = allUpTo (λ i. not (eqb (at b (suc i) .place) (at b (suc j) .
 unfoldable pub hasPlaces : Book → ℕ → Bool
 hasPlaces b next = allUpTo (λ j. ltb (at b (suc j) .place) next && isFreshPlace b j) (length b)
 
--- apart from the order in work, no IOC is open
+-- apart from the order in work, no IOC and no Fill or Kill is open
 unfoldable pub isDone : Order → Bool
-isDone o = not (eqb (o .tif) 3 && isOpen o)
+isDone o = not (isImmediate o && isOpen o)
 
 unfoldable pub noIoc : Book → ℕ → Bool
 noIoc b w = allUpTo (λ k. eqb (suc k) w || isDone (at b (suc k))) (length b)
@@ -181,9 +183,14 @@ hasNumbers b w next = not (isOpen (at b w)) || leb (next + 2 * opposedTo b w + 1
 unfoldable pub isBook : Book → ℕ → ℕ → Bool
 isBook b w next = hasPlaces b next && noIoc b w && noCross b w && hasNumbers b w next
 
+-- the decision is noted as 1, and only of an order in work that has a minimum
+unfoldable pub hasDecision : Book → ℕ → ℕ → Bool
+hasDecision b w decided = eqb decided 0 || (eqb decided 1 && ltb 0 (minimumOf (at b w)))
+
 -- ---- a market
 
 unfoldable pub isMarket : List ℕ → Bool
 isMarket t =
     hasLength t && hasSettings t && hasNext t && hasWork t && hasSpare t
     && restZero t && hasOrders t && hasIds t && isBook (bookOf t) (workOf t) (nextOf t)
+    && hasDecision (bookOf t) (workOf t) (decidedOf t)

@@ -11,7 +11,7 @@ use Rattle.octets.specs.Tests.{firstFrom}
 use Rattle.matching.specs.declared.Order.{Order}
 use Rattle.matching.specs.declared.Event.{Event}
 use Rattle.matching.specs.Matching.{Book, who, change}
-use Rattle.table.specs.Places.{mostOrders, recordAt, clOrdIdRoom, accountByte, accountRoom, sideByte, tifByte, capacityByte, classByte, levelByte, qtyByte, placeByte, mpidByte, sumByte, executedByte, decrementedByte, canceledByte}
+use Rattle.table.specs.Places.{mostOrders, recordAt, clOrdIdRoom, accountByte, accountRoom, sideByte, tifByte, capacityByte, classByte, levelByte, qtyByte, placeByte, mpidByte, sumByte, executedByte, decrementedByte, canceledByte, gapBytes, minQtyByte}
 
 -- ---- reading
 
@@ -29,7 +29,7 @@ capacityAt t i = getD t (recordAt i + capacityByte) 0
 abbrev pub classificationAt : List ℕ → ℕ → ℕ
 classificationAt t i = getD t (recordAt i + classByte) 0
 
--- record i as matching takes it: side 1 buys and 2 sells, time in force 0 is Day and 3 IOC, a yield is held as its level
+-- record i as matching takes it: side 1 buys and 2 sells, time in force 0 is Day, 3 IOC and 4 Fill or Kill, a yield is held as its level
 unfoldable pub orderAt : List ℕ → ℕ → Order
 orderAt t i =
     record {
@@ -43,6 +43,7 @@ orderAt t i =
       sum = leAt 8 t (recordAt i + sumByte);
       place = leAt 4 t (recordAt i + placeByte);
       mpid = leAt 4 t (recordAt i + mpidByte);
+      minqty = leAt 4 t (recordAt i + minQtyByte);
     }
 
 -- record i is not filled: its first byte, the length of the ClOrdID, is 0
@@ -90,10 +91,14 @@ amountBytes o = bytesOf 8 (o .sum) ++ (bytesOf 4 (o .executed) ++ (bytesOf 4 (o 
 abbrev pub putAmounts : List ℕ → ℕ → Order → List ℕ
 putAmounts t i o = put t (recordAt i + sumByte) (amountBytes o)
 
--- a record's bytes behind its texts: side, time in force, capacity, classification; the terms; the MPID; the amounts
+-- what stands behind the MPID: the amounts, four unused bytes, MinQty
+unfoldable pub tailBytes : Order → List ℕ
+tailBytes o = amountBytes o ++ (bytesOf gapBytes 0 ++ bytesOf 4 (o .minqty))
+
+-- a record's bytes behind its texts: side, time in force, capacity, classification; the terms; the MPID; the amounts and MinQty
 unfoldable pub fieldBytes : ℕ → ℕ → Order → List ℕ
 fieldBytes capacity class o =
-    (o .side ∷ o .tif ∷ capacity ∷ class ∷ []) ++ (termBytes o ++ (bytesOf 4 (o .mpid) ++ amountBytes o))
+    (o .side ∷ o .tif ∷ capacity ∷ class ∷ []) ++ (termBytes o ++ (bytesOf 4 (o .mpid) ++ tailBytes o))
 
 -- all of a record that is used
 unfoldable pub recordOf : List ℕ → List ℕ → ℕ → ℕ → Order → List ℕ

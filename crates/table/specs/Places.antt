@@ -66,12 +66,16 @@ modesByte = 88
 abbrev pub mostMpids : ℕ
 mostMpids = 8
 
+-- the decision on the minimum of the order in work, 1 byte: 0, or 1 once it is made
+abbrev pub decidedByte : ℕ
+decidedByte = 96
+
 -- the first of the unused bytes up to the end of the heading, and how many they are
 abbrev pub headingEnd : ℕ
-headingEnd = 96
+headingEnd = 97
 
 abbrev pub headingSpare : ℕ
-headingSpare = 32
+headingSpare = 31
 
 -- ---- an order: bytes from the start of its record
 
@@ -126,9 +130,20 @@ decrementedByte = 76
 abbrev pub canceledByte : ℕ
 canceledByte = 80
 
+-- four unused bytes
+abbrev pub gapByte : ℕ
+gapByte = 84
+
+abbrev pub gapBytes : ℕ
+gapBytes = 4
+
+-- MinQty as it was sent, 4 bytes, 0 for none
+abbrev pub minQtyByte : ℕ
+minQtyByte = 88
+
 -- the first of the unused bytes up to the end of the record, and how many they are
 abbrev pub recordEnd : ℕ
-recordEnd = 84
+recordEnd = 92
 
 abbrev pub recordSpare : ℕ
-recordSpare = 44
+recordSpare = 36

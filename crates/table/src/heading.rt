@@ -3,7 +3,7 @@ ghost use mathlib.Core.Path.{_≡_};
 ghost use Prim.Native.Nat.{_≤_, _<_};
 ghost use lib.ListN.{length};
 ghost use Rattle.table.specs.Places.{tableBytes};
-ghost use Rattle.table.specs.Heading.{venueOf, portOf, codeOf, nextOf, workOf, stampOf, putNext, putWork, endWork};
+ghost use Rattle.table.specs.Heading.{venueOf, portOf, codeOf, nextOf, workOf, stampOf, decidedOf, putNext, putWork, putDecided, endWork};
 use crate::places;
 
 // The venue id.
@@ -50,6 +50,14 @@ pub fn work(t: &[u8]) -> usize
     octets::wide(t[places::WORK]) as usize
 }
 
+// The decision on the minimum of the order in work: 0, or 1 once it is made.
+pub fn decided(t: &[u8]) -> u64
+    requires { ⌜ length (now t) ≡ tableBytes ⌝ }
+    ensures { λ r. ⌜ (r ≡ decidedOf (now (t .entry))) × (r < 256) ⌝ }
+{
+    octets::wide(t[places::DECIDED])
+}
+
 // Sets the next report number.
 pub fn put_next(t: &mut [u8], n: u64)
     requires { ⌜ length (now t) ≡ tableBytes ⌝ }
@@ -67,10 +75,19 @@ pub fn put_work(t: &mut [u8], w: u8, stamp: &[u8])
     octets::put_text(t, places::STAMP, places::STAMP_ROOM, stamp);
 }
 
-// Ends the work: nothing is in work, and the 52 is zeros.
+// Notes the decision on the minimum of the order in work.
+pub fn put_decided(t: &mut [u8], d: u8)
+    requires { ⌜ length (now t) ≡ tableBytes ⌝ }
+    ensures { λ _. ⌜ now (t .exit) ≡ putDecided (now (t .entry)) d ⌝ }
+{
+    t[places::DECIDED] = d;
+}
+
+// Ends the work: nothing is in work, the 52 is zeros, and nothing is decided.
 pub fn end_work(t: &mut [u8])
     requires { ⌜ length (now t) ≡ tableBytes ⌝ }
     ensures { λ _. ⌜ now (t .exit) ≡ endWork (now (t .entry)) ⌝ }
 {
     octets::put_zeros(t, places::WORK, places::WORK_BYTES);
+    put_decided(t, 0);
 }

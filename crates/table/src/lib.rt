@@ -1,8 +1,9 @@
-// The table of a market: its heading, its list of MPIDs, its orders, lookups in it, and opening.
+// The table of a market: its heading, its list of MPIDs, its orders, lookups in it, what an order would trade, and opening.
 pub mod book;
 pub mod entries;
 pub mod event;
 pub mod heading;
+pub mod look;
 pub mod opening;
 pub mod places;
 pub mod record;

@@ -55,10 +55,13 @@ pub const MODES: usize = 88;
 
 pub const MOST_MPIDS: usize = 8;
 
-// The first of the unused bytes up to the end of the heading, and how many they are.
-pub const HEADING_END: usize = 96;
+// The decision on the minimum of the order in work, 1 byte.
+pub const DECIDED: usize = 96;
 
-pub const HEADING_SPARE: usize = 32;
+// The first of the unused bytes up to the end of the heading, and how many they are.
+pub const HEADING_END: usize = 97;
+
+pub const HEADING_SPARE: usize = 31;
 
 // An order, from the start of its record, where the ClOrdID stands: a length byte and room for its characters.
 pub const CL_ORD_ID_ROOM: usize = 32;
@@ -99,5 +102,11 @@ pub const DECREMENTED: usize = 76;
 
 pub const CANCELED: usize = 80;
 
+// Four unused bytes.
+pub const GAP: usize = 84;
+
+// MinQty as it was sent, 4 bytes.
+pub const MIN_QTY: usize = 88;
+
 // The first of the unused bytes up to the end of the record; how many they are stands in specs/Places.antt.
-pub const RECORD_END: usize = 84;
+pub const RECORD_END: usize = 92;

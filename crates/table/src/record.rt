@@ -6,7 +6,7 @@ ghost use lib.ListN.{length};
 ghost use Rattle.octets.specs.Octets.{leAt, put};
 ghost use Rattle.matching.specs.Matching.{isOpen, isBuy};
 ghost use Rattle.table.specs.Places.{tableBytes};
-ghost use Rattle.table.specs.Orders.{clOrdIdAt, accountAt, capacityAt, classificationAt, orderAt, termBytes, amountBytes, fieldBytes, putId, putTerms, putAmounts, accepted};
+ghost use Rattle.table.specs.Orders.{clOrdIdAt, accountAt, capacityAt, classificationAt, orderAt, termBytes, amountBytes, tailBytes, fieldBytes, putId, putTerms, putAmounts, accepted};
 use crate::places;
 use matching::Order;
 
@@ -82,6 +82,7 @@ pub fn load(t: &[u8], i: usize) -> Order
         sum: sum_at(t, i),
         place: four_at(t, b + places::PLACE),
         mpid: four_at(t, b + places::MPID),
+        minqty: four_at(t, b + places::MIN_QTY),
     }
 }
 
@@ -143,6 +144,16 @@ fn write_amounts(t: &mut [u8], p: usize, o: Order)
     octets::put_le(t, p + 16, 4, o.canceled);
 }
 
+// Writes what stands behind the MPID of an order from place p on: the amounts, four unused bytes, MinQty.
+fn write_tail(t: &mut [u8], p: usize, o: Order)
+    requires { ⌜ p + 28 ≤ length (now t) ⌝ }
+    ensures { λ _. ⌜ now (t .exit) ≡ put (now (t .entry)) p (tailBytes o) ⌝ }
+{
+    write_amounts(t, p, o);
+    octets::put_le(t, p + 20, 4, 0);
+    octets::put_le(t, p + 24, 4, o.minqty);
+}
+
 // Writes four bytes from place p on.
 fn write_four(t: &mut [u8], p: usize, a: u8, b: u8, c: u8, d: u8)
     requires { ⌜ p + 4 ≤ length (now t) ⌝ }
@@ -156,13 +167,13 @@ fn write_four(t: &mut [u8], p: usize, a: u8, b: u8, c: u8, d: u8)
 
 // Writes what stands behind the texts of a record from place p on.
 fn write_fields(t: &mut [u8], p: usize, capacity: u8, class: u8, o: Order)
-    requires { ⌜ (p + 40 ≤ length (now t)) × (o .side < 256) × (o .tif < 256) ⌝ }
+    requires { ⌜ (p + 48 ≤ length (now t)) × (o .side < 256) × (o .tif < 256) ⌝ }
     ensures { λ _. ⌜ now (t .exit) ≡ put (now (t .entry)) p (fieldBytes capacity class o) ⌝ }
 {
     write_four(t, p, o.side as u8, o.tif as u8, capacity, class);
     write_terms(t, p + 4, o);
     octets::put_le(t, p + 16, 4, o.mpid);
-    write_amounts(t, p + 20, o);
+    write_tail(t, p + 20, o);
 }
 
 // Sets the ClOrdID of record i.

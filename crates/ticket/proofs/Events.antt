@@ -5,7 +5,7 @@ use mathlib.Core.List.{List}
 use lib.ListN.{length}
 use Rattle.matching.specs.declared.Order.{Order}
 use Rattle.matching.specs.declared.Event.{Event}
-use Rattle.matching.specs.declared.Event.the-variants.{Accepted, Replaced, Withdrawn, Canceled, Decremented, Traded, Expired}
+use Rattle.matching.specs.declared.Event.the-variants.{Accepted, Replaced, Withdrawn, Canceled, Decremented, Traded, Killed, Expired}
 use Rattle.matching.specs.Matching.{who}
 use Rattle.matching.specs.Held.{Sound}
 use Rattle.table.specs.Places.{tableBytes}
@@ -58,6 +58,10 @@ module _ (t : List ℕ) (n : ℕ) (k : Cause) (e : Event) (s : Stamp) (i : ℕ) 
     traded-is {j} {m} {q} {l} f r h ef er =
         row-is (λ a b. tradeRow a b (fillOn t n (who e) m q l)) r (rw h)
         (er ∙ ap (λ (x : Fill). padded (tradeRow s o x)) (ef ∙ ap (λ (x : ℕ). fillOn t n x m q l) ei))
+
+    pub killed-is : {j q : ℕ} (w : Ground) (r : List Field) → e ≡ Killed j q → w ≡ expired → r ≡ padded (canceledRow s o w) → r ≡ padded (rowOf t n k e)
+    unfolding rowOf
+    killed-is w r h ew er = row-is (λ a b. canceledRow a b expired) r (rw h) (er ∙ ap (λ (x : Ground). padded (canceledRow s o x)) ew)
 
     pub expired-is : {j q : ℕ} (w : Ground) (r : List Field) → e ≡ Expired j q → w ≡ expired → r ≡ padded (canceledRow s o w) → r ≡ padded (rowOf t n k e)
     unfolding rowOf

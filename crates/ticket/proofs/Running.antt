@@ -12,19 +12,19 @@ use Rattle.octets.proofs.Bools.{both-l}
 use Rattle.decimal.specs.Reading.{isTime}
 use Rattle.matching.specs.declared.Order.{Order}
 use Rattle.matching.specs.declared.Event.{Event}
-use Rattle.matching.specs.declared.Event.the-variants.{Accepted, Replaced, Withdrawn, Canceled, Decremented, Traded, Expired}
+use Rattle.matching.specs.declared.Event.the-variants.{Accepted, Replaced, Withdrawn, Canceled, Decremented, Traded, Killed, Expired}
 use Rattle.matching.specs.Matching.{Book, at, openOf, who, after, play, happens}
 use Rattle.matching.specs.Held.{Sound, In, Ready}
 use Rattle.matching.specs.Happens.{Fit, Fits}
 use Rattle.matching.proofs.Events.{Terms, length-after, play-terms}
-use Rattle.matching.proofs.Steps.{Meeting, trade, newest, oldest, equal, less, more, Pair, Stepped, rests, expires, matched, step-is, step-fits}
+use Rattle.matching.proofs.Steps.{Meeting, trade, newest, oldest, equal, less, more, Pair, Stepped, rests, kills, expires, matched, step-is, step-fits}
 use Rattle.matching.proofs.Sounds.{Worth, Worths, step-worth, play-sound, play-ready}
 use Rattle.matching.proofs.Holding.{step-held}
 use Rattle.table.specs.Heading.{nextOf, workOf, stampOf, modeOf, isListed}
 use Rattle.table.specs.Orders.{filled, bookOf, applied}
 use Rattle.table.specs.Market.{hasWork, isPadded}
 use Rattle.table.specs.Facts.{Market}
-use Rattle.table.specs.Changes.{stepEvents}
+use Rattle.table.specs.Changes.{missesNow, stepEvents}
 use Rattle.table.proofs.Same.{Same, same-in, work-same}
 use Rattle.table.proofs.Books.{length-book}
 use Rattle.table.proofs.Frames.{Framed, framed-formed, framed-filled, framed-listed}
@@ -63,6 +63,7 @@ Bargain size w n (Withdrawn i q) = ⊥
 Bargain size w n (Canceled i q) = Unit {0}
 Bargain size w n (Decremented i q) = Unit {0}
 Bargain size w n (Traded i m q l) = Bargained size w n i m q l
+Bargain size w n (Killed i q) = Unit {0}
 Bargain size w n (Expired i q) = Unit {0}
 
 -- events one after another, numbered from n on
@@ -101,7 +102,8 @@ meeting-bargains b w r n s z i p l (more h) = (tt, (tt, tt))
 
 pub step-bargains : (b : Book) (w v n : ℕ) {es : List Event} → ((k : ℕ) → In b k → Sound (at b k)) → In b w → 1 ≤ n → Stepped b w es v → Bargains (length b) w n es
 step-bargains b w v n s i l (rests z t) = tt
-step-bargains b w v n s i l (expires z t h) = (tt, tt)
+step-bargains b w v n s i l (kills h) = (tt, tt)
+step-bargains b w v n s i l (expires z h) = (tt, tt)
 step-bargains b w v n s i l (matched {r = r} p m) = meeting-bargains b w r n (s w i) (s r (p .inside)) i p l m
 
 -- ---- one event
@@ -128,6 +130,7 @@ module _ (t : List ℕ) (m : Working t) where
         level-high = h .level-high;
         second = h .second;
       }
+  details n (Killed i q) h = tt
   details n (Expired i q) h = tt
 
   pub working-legible : (n : ℕ) (e : Event) → In (bookOf t) (who e) → Bargain (filled t) (workOf t) n e → 1 ≤ n → n < 1000000000 → Legible t [] n (keptCause t) e
@@ -211,9 +214,10 @@ step-legibles t m l =
     let b : Book = bookOf t in
     let w : ℕ = workOf t in
     let i : In b w = record { low = l; high = m .held .work } in
-    let s = step-is (modeOf t) b w in
-    let h = step-held (isListed t) (modeOf t) (nextOf t) b w i (m .held) in
-    all-legible (happens (modeOf t) b w) t (nextOf t) (market-working t m l) (step-fits b w _ i s) (step-worth b w _ (m .held .sound) s)
+    let missed : Bool = missesNow t in
+    let s = step-is (modeOf t) missed b w in
+    let h = step-held (isListed t) (modeOf t) missed (nextOf t) b w i (m .held) in
+    all-legible (happens (modeOf t) missed b w) t (nextOf t) (market-working t m l) (step-fits b w _ i s) (step-worth b w _ (m .held .sound) s)
     (rw (length-book t) at (step-bargains b w _ (nextOf t) (m .held .sound) i (m .next-low) s)) (m .next-low) (h .next-high)
 
 -- its first event, and its second

@@ -12,7 +12,7 @@ use Rattle.octets.specs.Octets.{textAt}
 use Rattle.octets.proofs.Bools.{split}
 use Rattle.decimal.proofs.Times.{time-short}
 use Rattle.matching.specs.declared.Event.{Event}
-use Rattle.matching.specs.declared.Event.the-variants.{Accepted, Replaced, Withdrawn, Canceled, Decremented, Traded, Expired}
+use Rattle.matching.specs.declared.Event.the-variants.{Accepted, Replaced, Withdrawn, Canceled, Decremented, Traded, Killed, Expired}
 use Rattle.table.specs.Heading.{workOf}
 use Rattle.table.specs.Orders.{orderAt}
 use Rattle.table.specs.Market.{isPrintable}
@@ -118,6 +118,7 @@ module _ (t message : List ℕ) where
       replaced-short message t _ _ _ (stamp-in n (c .time) (h .heading)) (shown-in i (h .order)) (decremented-in i (h .order))
   event-short n c (Traded i m q l) h =
       trade-short message t _ _ _ (stamp-in n (c .time) (h .heading)) (shown-in i (h .order)) (fill-in n i m q l (h .heading .number-high) (h .details))
+  event-short n c (Killed i q) h = canceled-short message t _ _ _ (stamp-in n (c .time) (h .heading)) (shown-in i (h .order)) expired-in
   event-short n c (Expired i q) h = canceled-short message t _ _ _ (stamp-in n (c .time) (h .heading)) (shown-in i (h .order)) expired-in
 
   pub ticket-short : (n : ℕ) (c : Cause) (e : Event) → Legible t message n c e → length (ticketOf t message n c e) ≤ 512
@@ -132,6 +133,7 @@ module _ (t message : List ℕ) where
   other-below n c (Canceled i q) h = lit< tt
   other-below n c (Decremented i q) h = lit< tt
   other-below n c (Traded i m q l) h = h .other-in
+  other-below n c (Killed i q) h = lit< tt
   other-below n c (Expired i q) h = lit< tt
 
   pub legible-ready : (n : ℕ) (c : Cause) (e : Event) → Legible t message n c e → Ready t n e

@@ -61,6 +61,7 @@ framed-back u v long f =
     record {
       names = same-sym (f .names);
       lists = same-sym (f .lists);
+      unused = same-sym (f .unused);
       texts = λ i l h. same-sym (f .texts i l (omega arith));
       kinds = λ i l h. same-sym (f .kinds i l (omega arith));
       spares = λ i l h. same-sym (f .spares i l (omega arith));

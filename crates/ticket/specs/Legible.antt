@@ -10,7 +10,7 @@ use lib.Dec.{eqb}
 use lib.ListN.{length}
 use Rattle.decimal.specs.Reading.{isDigit, isTime}
 use Rattle.matching.specs.declared.Event.{Event}
-use Rattle.matching.specs.declared.Event.the-variants.{Accepted, Replaced, Withdrawn, Canceled, Decremented, Traded, Expired}
+use Rattle.matching.specs.declared.Event.the-variants.{Accepted, Replaced, Withdrawn, Canceled, Decremented, Traded, Killed, Expired}
 use Rattle.matching.specs.Matching.{who}
 use Rattle.matching.specs.Held.{Sound, Covered}
 use Rattle.table.specs.Places.{tableBytes}
@@ -88,6 +88,7 @@ Details t message n c (Withdrawn i q) = Placed isPrintable 1 32 message t (c .or
 Details t message n c (Canceled i q) = Unit {0}
 Details t message n c (Decremented i q) = Unit {0}
 Details t message n c (Traded i m q l) = Dealt t n i m q l
+Details t message n c (Killed i q) = Unit {0}
 Details t message n c (Expired i q) = Unit {0}
 
 -- ---- the report of event e, number n, on the table after it

@@ -8,7 +8,7 @@ use Prim.Native.Nat.{ℕ, _+_, _-_, _<_}
 use lib.Dec.{eqb}
 use lib.ListN.{length, getD}
 use Rattle.matching.specs.declared.Event.{Event}
-use Rattle.matching.specs.declared.Event.the-variants.{Accepted, Replaced, Withdrawn, Canceled, Decremented, Traded, Expired}
+use Rattle.matching.specs.declared.Event.the-variants.{Accepted, Replaced, Withdrawn, Canceled, Decremented, Traded, Killed, Expired}
 use Rattle.matching.specs.Matching.{who}
 use Rattle.matching.specs.Held.{Sound}
 use Rattle.table.specs.Places.{tableBytes, recordAt, venueByte, portByte, codeByte, stampByte, accountByte}
@@ -88,6 +88,7 @@ rowOf t n c (Withdrawn i q) = canceledRow (stampOn t n (c .time)) (shownOn t i) 
 rowOf t n c (Canceled i q) = canceledRow (stampOn t n (c .time)) (shownOn t i) prevented
 rowOf t n c (Decremented i q) = replacedRow (stampOn t n (c .time)) (shownOn t i) (decremented (shownOn t i))
 rowOf t n c (Traded i m q l) = tradeRow (stampOn t n (c .time)) (shownOn t i) (fillOn t n i m q l)
+rowOf t n c (Killed i q) = canceledRow (stampOn t n (c .time)) (shownOn t i) expired
 rowOf t n c (Expired i q) = canceledRow (stampOn t n (c .time)) (shownOn t i) expired
 
 -- what it is written from: a whole table, the records of the event's orders, a sound order, and a number
@@ -98,6 +99,7 @@ otherOf (Withdrawn i q) = 0
 otherOf (Canceled i q) = 0
 otherOf (Decremented i q) = 0
 otherOf (Traded i m q l) = m
+otherOf (Killed i q) = 0
 otherOf (Expired i q) = 0
 
 pub record Ready (t : List ℕ) (n : ℕ) (e : Event) : Type 0 where

@@ -141,7 +141,7 @@ pub fn decremented(o: Shown) -> Ground
     }
 }
 
-// As an IOC's rest.
+// For want of a minimum, or as an immediate order's rest.
 pub fn expired() -> Ground
     ensures { λ r. ⌜ r ≡ Rows·expired ⌝ }
 {
@@ -172,6 +172,7 @@ pub fn order_of(e: Event) -> u64
             quantity: _,
             level: _,
         } => order,
+        Event::Killed { order, quantity: _ } => order,
         Event::Expired { order, quantity: _ } => order,
     }
 }
@@ -215,6 +216,10 @@ pub fn row_of(t: &[u8], n: u64, c: Cause, e: Event) -> [Field; 36]
             quantity,
             level,
         } => rows::trade_row(s, o, fill_on(t, n, i, other as usize, quantity, level)),
+        Event::Killed {
+            order: _,
+            quantity: _,
+        } => rows::canceled_row(s, o, expired()),
         Event::Expired {
             order: _,
             quantity: _,

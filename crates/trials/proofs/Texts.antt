@@ -1,4 +1,4 @@
--- How long the texts of the samples can be, and their rows; and that the orders are sound.
+-- How long the texts of the samples can be, and their rows.
 use Prim.Native.Nat.{ℕ, _≤_, _<_}
 use mathlib.Core.Path.{_≡_}
 use lib.ListN.{length}

@@ -1,6 +1,7 @@
 -- What a sample is made from is in range, whatever the texts of the message and of the table are. Assumes nothing.
+use mathlib.Core.Path.{_≡_}
 use mathlib.Core.List.{List}
-use Prim.Native.Nat.{ℕ, _≤_}
+use Prim.Native.Nat.{ℕ, _+_, _*_, _≤_, _<_}
 use lib.ListN.{length}
 use Rattle.matching.specs.Held.{Sound}
 use Rattle.report.specs.declared.Field.{Field}
@@ -13,6 +14,14 @@ use Rattle.rows.specs.Ranges.{StampIn, ShownIn, GroundIn}
 -- the start of a report
 pub record StampFine (s : Stamp) : Type 0 where
   pub stamp-in : (m t : List ℕ) → StampIn m t s
+
+-- how much of an order of qty has executed, was decremented and was canceled, and the sum of quantity times level of what has executed:
+-- no more than there is, all of it once something is canceled, and a sum that levels 1 to 1,999,999,999 come to
+pub record AmountsFine (qty executed decremented canceled sum : ℕ) : Type 0 where
+  pub covered : executed + decremented + canceled ≤ qty
+  pub dead : 0 < canceled → executed + decremented + canceled ≡ qty
+  pub sum-low : executed ≤ sum
+  pub sum-high : sum ≤ executed * 1_999_999_999
 
 -- an order
 pub record ShownFine (o : Shown) : Type 0 where

@@ -38,7 +38,8 @@ pub fn soh(s: &mut [u8]) {
     }
 }
 
-// The section that a heading names: 1 messages, 2 tables, 3 samples, 4 changed reports, 5 opened markets, 0 none.
+// The section that a heading names: 1 messages, 2 tables, 3 samples, 4 changed reports, 5 opened markets, 6 to 8 tables with another
+// order in work, 0 none.
 fn section_of(s: &[u8]) -> u64 {
     if octets::same(s, b"== messages") {
         return 1;
@@ -54,6 +55,15 @@ fn section_of(s: &[u8]) -> u64 {
     }
     if octets::same(s, b"== opened markets") {
         return 5;
+    }
+    if octets::same(s, b"== tables with a MinQty") {
+        return 6;
+    }
+    if octets::same(s, b"== tables with a Fill or Kill") {
+        return 7;
+    }
+    if octets::same(s, b"== tables with nothing in work") {
+        return 8;
     }
     0
 }
@@ -73,31 +83,34 @@ fn begin(s: &[u8]) -> u64 {
 }
 
 // Tries a line of a section.
-fn trial(t: &mut [u8], s: &[u8], section: u64) {
+fn trial(s: &[u8], section: u64) {
     match section {
         1 => messages::line(s),
-        2 => tables::line(t, s),
+        2 => tables::line(s, section),
         4 => changed::line(s),
+        6 => tables::line(s, section),
+        7 => tables::line(s, section),
+        8 => tables::line(s, section),
         _ => {}
     }
 }
 
 // Takes a line, and gives the section that the next one is in.
-fn line(t: &mut [u8], s: &[u8], section: u64) -> u64 {
+fn line(s: &[u8], section: u64) -> u64 {
     if octets::same(part_at(s, 0, 2), b"==") {
         return begin(s);
     }
-    trial(t, s, section);
+    trial(s, section);
     section
 }
 
-// The lines, one after another; t is the table to break.
-pub fn lines(t: &mut [u8], s: &[u8]) {
+// The lines, one after another.
+pub fn lines(s: &[u8]) {
     let mut at = 0;
     let mut section = 0;
     while at < s.len() {
         let e = line_end(s, at);
-        section = line(t, &s[at..e], section);
+        section = line(&s[at..e], section);
         at = e + 1;
     }
 }

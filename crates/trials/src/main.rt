@@ -8,15 +8,13 @@ mod samples;
 mod tables;
 
 // Puts SOH for each `|`, then goes over the lines.
-fn whole(t: &mut [u8], s: &mut [u8]) {
+fn whole(s: &mut [u8]) {
     lines::soh(s);
-    lines::lines(t, &s[0..]);
+    lines::lines(&s[0..]);
 }
 
 fn main() {
-    let mut t = [0u8; 32768];
-    tables::build(&mut t);
     let mut b = io::large_buffer();
     let n = io::read_full(0, &mut b);
-    whole(&mut t, &mut b[..n]);
+    whole(&mut b[..n]);
 }

@@ -37,6 +37,7 @@ fn terms(t: Terms) {
     number(b" 54=", t.side);
     number(b" 59=", t.tif);
     number(b" 109=", t.mpid);
+    number(b" 110=", t.minqty);
     number(b" 8060=", t.class);
 }
 

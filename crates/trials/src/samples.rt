@@ -1,8 +1,8 @@
 // Samples: one report of every kind and variant, a line each, with `|` for SOH. docs/SAMPLES.md says what each line is.
-ghost use Prim.Native.Nat.{_^_, _<_};
+ghost use Prim.Native.Nat.{_^_, _≤_, _<_};
 ghost use Rattle.matching.specs.Held.{Sound};
 ghost use Rattle.rows.specs.Ranges.{FillIn, RefusedIn, UnchangedIn, FaultyIn};
-ghost use Rattle.trials.specs.Fine.{StampFine, ShownFine, GroundFine, RowFine};
+ghost use Rattle.trials.specs.Fine.{StampFine, AmountsFine, ShownFine, GroundFine, RowFine};
 use matching::Order;
 use report::Field;
 use report::Place;
@@ -123,7 +123,7 @@ fn bare(order: Order) -> Shown
 
 // A buy of 1,200 at 0.100 for MPID 10, of which so much has executed, was decremented, was canceled.
 fn buy(executed: u64, decremented: u64, canceled: u64, sum: u64) -> Order
-    requires { ⌜ Sound (record { side = 1; tif = 0; level = 1000000100; qty = 1200; executed = executed; decremented = decremented; canceled = canceled; sum = sum; place = 5; mpid = 10 }) ⌝ }
+    requires { ⌜ AmountsFine 1200 executed decremented canceled sum ⌝ }
     ensures { λ r. ⌜ Sound r × (r .mpid < 10 ^ 6) ⌝ }
 {
     Order {
@@ -137,12 +137,13 @@ fn buy(executed: u64, decremented: u64, canceled: u64, sum: u64) -> Order
         sum,
         place: 5,
         mpid: 10,
+        minqty: 0,
     }
 }
 
 // A sell of 500 with no MPID, IOC, of which so much has executed and was canceled.
 fn sell(level: u64, executed: u64, canceled: u64, sum: u64) -> Order
-    requires { ⌜ Sound (record { side = 2; tif = 3; level = level; qty = 500; executed = executed; decremented = 0; canceled = canceled; sum = sum; place = 6; mpid = 0 }) ⌝ }
+    requires { ⌜ (0 < level) × (level ≤ 1999999999) × AmountsFine 500 executed 0 canceled sum ⌝ }
     ensures { λ r. ⌜ Sound r × (r .mpid < 10 ^ 6) ⌝ }
 {
     Order {
@@ -156,6 +157,7 @@ fn sell(level: u64, executed: u64, canceled: u64, sum: u64) -> Order
         sum,
         place: 6,
         mpid: 0,
+        minqty: 0,
     }
 }
 

@@ -1,6 +1,6 @@
-// Broken tables: one is built through opening and the stores and broken one byte at a time; what is left is a market or not. A line is a
-// place (five digits), a value (three digits) and what that breaks; it is written back with the answer. A line that starts with `#`
-// says what those after it are for, and is written as it is.
+// Broken tables: each line is tried on a table of its own, built through opening and the stores and broken in one byte; what is left is a
+// market or not. A line is a place (five digits), a value (three digits) and what that breaks; it is written back with the answer. A
+// line that starts with `#` says what those after it are for, and is written as it is.
 use audit::is_market;
 use decimal::Said;
 use decimal::read::read_number;
@@ -15,7 +15,7 @@ ghost use Prim.Native.Nat.{_≤_, _<_};
 ghost use lib.ListN.{length};
 
 // A new order.
-fn order(side: u64, tif: u64, level: u64, qty: u64, place: u64, mpid: u64) -> Order
+fn order(side: u64, tif: u64, level: u64, qty: u64, place: u64, mpid: u64, minqty: u64) -> Order
     ensures { λ r. ⌜ (r .side ≡ side) × (r .tif ≡ tif) ⌝ }
 {
     Order {
@@ -29,6 +29,7 @@ fn order(side: u64, tif: u64, level: u64, qty: u64, place: u64, mpid: u64) -> Or
         sum: 0,
         place,
         mpid,
+        minqty,
     }
 }
 
@@ -43,7 +44,7 @@ fn resting(t: &mut [u8])
         b"ACC",
         b'P',
         1,
-        order(2, 0, 1_000_000_101, 100, 1, 11),
+        order(2, 0, 1_000_000_101, 100, 1, 11, 0),
     );
     accept(
         t,
@@ -52,13 +53,13 @@ fn resting(t: &mut [u8])
         b"",
         b'A',
         3,
-        order(1, 0, 1_000_000_102, 50, 2, 0),
+        order(1, 0, 1_000_000_102, 50, 2, 0, 0),
     );
 }
 
-// An IOC buy at 0.100, which meets the sell.
-fn meeting(t: &mut [u8])
-    requires { ⌜ length (now t) ≡ 32768 ⌝ }
+// A buy of 70 at 0.100, which meets the sell, of this time in force and MinQty.
+fn meeting(t: &mut [u8], tif: u64, minqty: u64)
+    requires { ⌜ (length (now t) ≡ 32768) × (tif < 256) ⌝ }
 {
     accept(
         t,
@@ -67,21 +68,40 @@ fn meeting(t: &mut [u8])
         b"",
         b'A',
         3,
-        order(1, 3, 1_000_000_100, 70, 3, 10),
+        order(1, tif, 1_000_000_100, 70, 3, 10, minqty),
     );
 }
 
-// A market with these orders, the last of them in work.
-pub fn build(t: &mut [u8])
+// A market with the two resting orders.
+fn at_rest(t: &mut [u8])
     requires { ⌜ length (now t) ≡ 32768 ⌝ }
 {
     let mpids = [10u64, 11];
     let modes = [1u64, 3];
     open_table(t, b"V", b"P", b"350", 1, &mpids, &modes);
     resting(t);
-    meeting(t);
     put_next(t, 4);
+}
+
+// The same with the buy that meets the sell, in work.
+fn in_work(t: &mut [u8], tif: u64, minqty: u64)
+    requires { ⌜ (length (now t) ≡ 32768) × (tif < 256) ⌝ }
+{
+    at_rest(t);
+    meeting(t, tif, minqty);
     put_work(t, 3, b"20260105-09:00:00");
+}
+
+// The table of a section: an IOC with MinQty 20 in work for 6, a Fill or Kill for 7, nothing for 8, and else an IOC without MinQty.
+fn build(t: &mut [u8], section: u64)
+    requires { ⌜ length (now t) ≡ 32768 ⌝ }
+{
+    match section {
+        6 => in_work(t, 3, 20),
+        7 => in_work(t, 4, 0),
+        8 => at_rest(t),
+        _ => in_work(t, 3, 0),
+    }
 }
 
 // The number that n digits at a place of a line say, and 0 where they are none.
@@ -92,24 +112,23 @@ fn said(s: &[u8], at: usize, n: usize) -> u64 {
     }
 }
 
-// Whether the table is a market with another value at place p; the table is as before afterwards.
+// Whether the table is a market with another value at place p, which it keeps.
 fn with_byte(t: &mut [u8], p: usize, v: u8) -> bool {
     if t.len() <= p {
         return false;
     }
-    let old = t[p];
     t[p] = v;
-    let r = is_market(t);
-    t[p] = old;
-    r
+    is_market(t)
 }
 
 // Writes a line with its answer.
-fn answer(t: &mut [u8], s: &[u8]) {
+fn answer(s: &[u8], section: u64) {
     let p = said(s, 0, 5) as usize;
     let v = (said(s, 6, 3) % 256) as u8;
+    let mut t = [0u8; 32768];
+    build(&mut t, section);
     io::write_all(1, s);
-    if with_byte(t, p, v) {
+    if with_byte(&mut t, p, v) {
         io::write_all(1, b": market\n");
     } else {
         io::write_all(1, b": no market\n");
@@ -117,7 +136,7 @@ fn answer(t: &mut [u8], s: &[u8]) {
 }
 
 // Writes a heading, or a line with its answer.
-pub fn line(t: &mut [u8], s: &[u8]) {
+pub fn line(s: &[u8], section: u64) {
     if part_at(s, 0, 1).len() == 0 {
         return;
     }
@@ -126,5 +145,5 @@ pub fn line(t: &mut [u8], s: &[u8]) {
         io::write_all(1, b"\n");
         return;
     }
-    answer(t, s);
+    answer(s, section);
 }

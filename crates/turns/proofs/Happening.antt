@@ -11,11 +11,11 @@ use mir.Val.{Fits}
 use Rattle.octets.specs.Written.{Wrote}
 use Rattle.octets.proofs.Runs.{then, wrote-length, wrote-none, wrote-rest}
 use Rattle.matching.specs.declared.Event.{Event}
-use Rattle.matching.specs.declared.Event.the-variants.{Canceled, Decremented, Traded, Expired}
+use Rattle.matching.specs.declared.Event.the-variants.{Canceled, Decremented, Traded, Killed, Expired}
 use Rattle.matching.specs.declared.Prevention.{Prevention}
 use Rattle.matching.specs.declared.Prevention.the-variants.{CancelNewest, CancelOldest, Decrement}
 use Rattle.matching.specs.declared.Outcome.{Outcome}
-use Rattle.matching.specs.declared.Outcome.the-variants.{Trade, Prevented, Expires, Rests}
+use Rattle.matching.specs.declared.Outcome.the-variants.{Trade, Prevented, Expires, Rests, Kills}
 use Rattle.matching.specs.Matching.{preventing, causes}
 use Rattle.table.specs.Orders.{applied}
 use Rattle.table.specs.Changes.{played}
@@ -166,6 +166,10 @@ module _ (t : List ℕ) (n w r : ℕ) (o : Outcome) where
     unfolding causes
     prevented-tells h = rw h at y
 
+    pub kills-tells : {q : ℕ} → o ≡ Kills q → Telling t n (Killed w q)
+    unfolding causes
+    kills-tells h = (rw h at y) .0
+
     pub expires-tells : {q : ℕ} → o ≡ Expires q → Telling t n (Expired w q)
     unfolding causes
     expires-tells h = (rw h at y) .0
@@ -179,6 +183,10 @@ module _ (t : List ℕ) (n w r : ℕ) (o : Outcome) where
     pub prevented-told : {p : Prevention} → o ≡ Prevented p → Reported t out n (preventing w r p) x u area → Reported t out n (causes w r o) x u area
     unfolding causes
     prevented-told h y = rw h y
+
+    pub kills-told : {q : ℕ} → o ≡ Kills q → Reported t out n (Killed w q ∷ []) x u area → Reported t out n (causes w r o) x u area
+    unfolding causes
+    kills-told h y = rw h y
 
     pub expires-told : {q : ℕ} → o ≡ Expires q → Reported t out n (Expired w q ∷ []) x u area → Reported t out n (causes w r o) x u area
     unfolding causes

@@ -1,11 +1,11 @@
 -- A step of the order in work: whom it is matched with, what that comes to, that its events can be told of, and the table after
 -- it: its next number, its order in work, its book and its modes.
 use mathlib.Core.Path.{_≡_, refl, sym, ap, _∙_}
-use mathlib.Core.Bool.{Bool, true, false}
+use mathlib.Core.Bool.{Bool, true, false, cond, _&&_, _||_}
 use mathlib.Core.List.{List, [], _∷_}
 use Prim.Native.Nat.{ℕ, _+_, _≤_, _<_}
 use native.Mathlib.Omega.{arith}
-use lib.Dec.{eqb, lit≤}
+use lib.Dec.{eqb, ltb, lit≤}
 use lib.ListN.{length}
 use borrow.Author.Tests.{ne-eqb, eqb-true, eqb-false}
 use mir.Syntax.{w64}
@@ -18,22 +18,26 @@ use Rattle.octets.proofs.Parts.{length-textBytes}
 use Rattle.matching.specs.declared.Order.{Order}
 use Rattle.matching.specs.declared.Event.{Event}
 use Rattle.matching.specs.declared.Outcome.{Outcome}
-use Rattle.matching.specs.Matching.{at, isOpen, best, partner, meeting, ending, outcome, causes, happens, after, bookAfter, workAfter}
+use Rattle.matching.specs.declared.Outcome.the-variants.{Kills}
+use Rattle.matching.specs.Matching.{at, openOf, isOpen, best, partner, meeting, ending, outcome, causes, happens, after, bookAfter, workAfter, minimumOf, wouldTrade, misses, decidedAfter}
 use Rattle.matching.specs.Held.{In, Covered, Readies}
 use Rattle.matching.specs.Happens.{Fits}
+use Rattle.matching.proofs.Events.{play-minimum}
 use Rattle.matching.proofs.Steps.{paired, step-is, happens-fits}
 use Rattle.matching.proofs.Ends.{step-two}
 use Rattle.matching.proofs.Holding.{step-ready, step-held}
+use Rattle.matching.proofs.Deciding.{no-minimum, idle-misses, decided-misses, noted-misses}
 use Rattle.table.specs.Places.{tableBytes}
-use Rattle.table.specs.Heading.{nextOf, workOf, isListed, modeOf, putNext, endWork}
+use Rattle.table.specs.Heading.{nextOf, workOf, decidedOf, isListed, modeOf, putNext, putWork, putDecided, endWork}
 use Rattle.table.specs.Orders.{orderAt, filled, bookOf, applied}
 use Rattle.table.specs.Facts.{Market}
-use Rattle.table.specs.Changes.{played, stepEvents, numbered, stepped}
+use Rattle.table.specs.Looks.{Lookable}
+use Rattle.table.specs.Changes.{played, missesNow, stepEvents, stepWork, numbered, stepped}
 use Rattle.table.proofs.Same.{Same, same-in, same-then, put-below, put-above, next-same, work-same, mode-of-same, filled-few}
-use Rattle.table.proofs.Stores.{next-got, work-got}
+use Rattle.table.proofs.Stores.{next-got, work-got, decided-got}
 use Rattle.table.proofs.Books.{length-book, at-book}
 use Rattle.table.proofs.Frames.{framed-long}
-use Rattle.table.proofs.Applied.{AllMove, Played, all-played, fits-move, framed-applied, book-applied, book-next, book-work}
+use Rattle.table.proofs.Applied.{AllMove, Played, all-played, fits-move, framed-applied, book-applied, book-next, book-work, book-decided}
 use Rattle.ticket.proofs.Running.{step-legible-first, step-legible-second}
 use Rattle.calls.specs.Told.{joined}
 use Rattle.calls.specs.Run.{stepReports}
@@ -50,11 +54,11 @@ module _ (t : List ℕ) (m : Market t) (l : 1 ≤ workOf t) where
   -- its events are ready in turn, and change amounts alone
   pub events-ready : Readies (bookOf t) (stepEvents t)
   unfolding stepEvents
-  events-ready = step-ready (isListed t) (modeOf t) (nextOf t) (bookOf t) (workOf t) in-work (m .held)
+  events-ready = step-ready (isListed t) (modeOf t) (missesNow t) (nextOf t) (bookOf t) (workOf t) in-work (m .held)
 
   pub events-fit : Fits (bookOf t) (stepEvents t)
   unfolding stepEvents
-  events-fit = happens-fits (modeOf t) (bookOf t) (workOf t) in-work
+  events-fit = happens-fits (modeOf t) (missesNow t) (bookOf t) (workOf t) in-work
 
   pub step-played : Played t (stepEvents t)
   step-played = all-played (stepEvents t) t (m .long) (fits-move (stepEvents t) (bookOf t) events-fit) events-ready
@@ -68,7 +72,7 @@ module _ (t : List ℕ) (m : Market t) (l : 1 ≤ workOf t) where
 
   pub numbers-left : nextOf t + length (stepEvents t) ≤ 1000000000
   unfolding stepEvents
-  numbers-left = step-held (isListed t) (modeOf t) (nextOf t) (bookOf t) (workOf t) in-work (m .held) .next-high
+  numbers-left = step-held (isListed t) (modeOf t) (missesNow t) (nextOf t) (bookOf t) (workOf t) in-work (m .held) .next-high
 
   -- ---- numbered, and with the work ended
   later : List ℕ
@@ -94,47 +98,77 @@ module _ (t : List ℕ) (m : Market t) (l : 1 ≤ workOf t) where
       (put-above (played t (stepEvents t)) 28 (bytesOf 4 k) 32 128 (omega (arith, length-bytesOf 4 k)))
       (same-in 32 128 (step-played .heading) (lit≤ tt) (lit≤ tt))
 
-  later-book : bookOf later ≡ bookAfter (modeOf t) (bookOf t) (workOf t)
+  later-book : bookOf later ≡ bookAfter (modeOf t) (missesNow t) (bookOf t) (workOf t)
   unfolding later numbered stepEvents
   later-book = book-next (played t (stepEvents t)) _ played-long ∙ step-played .book
 
-  ended : Same (endWork later) later 55 128
-  ended = put-above later 32 (0 ∷ textBytes 21 []) 55 128 (omega (arith, length-textBytes 21 [] (lit≤ tt)))
+  -- with the work ended, and with the decision noted
+  idle : List ℕ
+  idle = putWork later 0 []
+
+  idle-long : length idle ≡ tableBytes
+  unfolding idle
+  idle-long = put-below later 32 (0 ∷ textBytes 21 []) 0 0 (lit≤ tt) .size ∙ later-long
+
+  idle-above : Same idle later 55 128
+  unfolding idle
+  idle-above = put-above later 32 (0 ∷ textBytes 21 []) 55 128 (omega (arith, length-textBytes 21 [] (lit≤ tt)))
 
   -- ---- a step
   pub step-next : nextOf (stepped t) ≡ nextOf t + length (stepEvents t)
-  unfolding stepped later
+  unfolding stepped later idle
   step-next =
-      split (eqb (workAfter (bookOf t) (workOf t)) 0)
-      (λ x. rw x (next-same (put-below later 32 (0 ∷ textBytes 21 []) 28 32 (lit≤ tt)) ∙ later-next))
-      (λ x. rw x later-next)
+      split (eqb (stepWork t) 0)
+      (λ x. rw x (next-same (put-below idle 96 (0 ∷ []) 28 32 (lit≤ tt)) ∙ next-same (put-below later 32 (0 ∷ textBytes 21 []) 28 32 (lit≤ tt)) ∙ later-next))
+      (λ x. rw x (next-same (put-below later 96 _ 28 32 (lit≤ tt)) ∙ later-next))
 
-  work-stays : (workAfter (bookOf t) (workOf t) ≡ 0 → ⊥) → workAfter (bookOf t) (workOf t) ≡ workOf t
-  unfolding workAfter
-  work-stays n = split (eqb (partner (bookOf t) (workOf t)) 0) (λ x. absurd (n (rw x))) (λ x. rw x)
+  work-stays : (stepWork t ≡ 0 → ⊥) → stepWork t ≡ workOf t
+  unfolding stepWork workAfter
+  work-stays n = split (missesNow t || eqb (partner (bookOf t) (workOf t)) 0) (λ x. absurd (n (rw x))) (λ x. rw x)
 
-  pub step-work : workOf (stepped t) ≡ workAfter (bookOf t) (workOf t)
-  unfolding stepped later
+  pub step-work : workOf (stepped t) ≡ stepWork t
+  unfolding stepped later idle
   step-work =
-      split (eqb (workAfter (bookOf t) (workOf t)) 0)
-      (λ x. rw x (work-got later 0 [] (omega (arith, later-long)) (lit≤ tt)) ∙ sym (eqb-true _ _ x))
+      split (eqb (stepWork t) 0)
+      (λ x. rw x (work-same (put-below idle 96 (0 ∷ []) 32 33 (lit≤ tt)) ∙ work-got later 0 [] (omega (arith, later-long)) (lit≤ tt)) ∙ sym (eqb-true _ _ x))
       (λ x.
-      rw x (work-same (same-in 32 33 later-above (lit≤ tt) (lit≤ tt))) ∙ sym (work-stays (eqb-false _ _ x)))
+      rw x (work-same (put-below later 96 _ 32 33 (lit≤ tt)) ∙ work-same (same-in 32 33 later-above (lit≤ tt) (lit≤ tt))) ∙ sym (work-stays (eqb-false _ _ x)))
 
-  pub step-book : bookOf (stepped t) ≡ bookAfter (modeOf t) (bookOf t) (workOf t)
-  unfolding stepped later
+  pub step-book : bookOf (stepped t) ≡ bookAfter (modeOf t) (missesNow t) (bookOf t) (workOf t)
+  unfolding stepped later idle
   step-book =
-      split (eqb (workAfter (bookOf t) (workOf t)) 0)
-      (λ x. rw x (book-work later 0 [] later-long (lit≤ tt) ∙ later-book))
-      (λ x. rw x later-book)
+      split (eqb (stepWork t) 0)
+      (λ x. rw x (book-decided idle 0 idle-long ∙ book-work later 0 [] later-long (lit≤ tt) ∙ later-book))
+      (λ x. rw x (book-decided later _ later-long ∙ later-book))
 
   pub step-modes : modeOf (stepped t) ≡ modeOf t
-  unfolding stepped later
+  unfolding stepped later idle
   step-modes =
       let s : Same later t 56 96 = same-in 56 96 later-above (lit≤ tt) (lit≤ tt) in
-      split (eqb (workAfter (bookOf t) (workOf t)) 0)
-      (λ x. rw x (λ j k. mode-of-same (same-then (same-in 56 96 ended (lit≤ tt) (lit≤ tt)) s) k j))
-      (λ x. rw x (λ j k. mode-of-same s k j))
+      let r : Same idle later 56 96 = same-in 56 96 idle-above (lit≤ tt) (lit≤ tt) in
+      split (eqb (stepWork t) 0)
+      (λ x. rw x (λ j k. mode-of-same (same-then (put-below idle 96 (0 ∷ []) 56 96 (lit≤ tt)) (same-then r s)) k j))
+      (λ x. rw x (λ j k. mode-of-same (same-then (put-below later 96 (decidedAfter (bookOf t) (workOf t) ∷ []) 56 96 (lit≤ tt)) s) k j))
+
+  minimum-stays : minimumOf (at (bookAfter (modeOf t) (missesNow t) (bookOf t) (workOf t)) (workOf t)) ≡ minimumOf (at (bookOf t) (workOf t))
+  minimum-stays =
+      play-minimum (workOf t) (happens (modeOf t) (missesNow t) (bookOf t) (workOf t)) (bookOf t)
+      (happens-fits (modeOf t) (missesNow t) (bookOf t) (workOf t) in-work)
+
+  -- the decision that is noted where the work does not end
+  step-noted : (stepWork t ≡ 0 → ⊥) → decidedOf (stepped t) ≡ decidedAfter (bookOf t) (workOf t)
+  unfolding stepped later
+  step-noted n = rw (ne-eqb (stepWork t) 0 n) (decided-got later _ (omega (arith, later-long)))
+
+  -- after it no minimum is asked for: the work has ended, or the order is decided, or it has no minimum
+  pub step-decided : missesNow (stepped t) ≡ false
+  unfolding missesNow
+  step-decided =
+      split (eqb (stepWork t) 0)
+      (λ x. rw (step-work ∙ eqb-true _ _ x) (idle-misses (modeOf (stepped t)) (decidedOf (stepped t)) (bookOf (stepped t))))
+      (λ x.
+      let w : workOf (stepped t) ≡ workOf t = step-work ∙ work-stays (eqb-false _ _ x) in
+      rw (step-noted (eqb-false _ _ x), step-book, w) (noted-misses (modeOf (stepped t)) (bookOf t) _ (workOf t) minimum-stays))
 
 -- ---- the order in work and the one it is matched with
 
@@ -161,6 +195,29 @@ module _ (t : List ℕ) (y : Busy t) where
     pub worker-covered : Covered o
     worker-covered = rw worker at (y .market .held .sound (workOf t) (record { low = y .work; high = y .market .held .work }) .covered)
 
+    -- whether it misses its minimum: not if it has none or is decided, else by what it would trade
+    module _ (m : ℕ) (h : m ≡ minimumOf o) where
+      pub misses-none : m ≡ 0 → false ≡ missesNow t
+      unfolding missesNow
+      misses-none z = sym (no-minimum (modeOf t) (decidedOf t) (bookOf t) (workOf t) (rw worker (sym h ∙ z)))
+
+      pub misses-decided : (d : ℕ) → d ≡ decidedOf t → (d ≡ 0 → ⊥) → false ≡ missesNow t
+      unfolding missesNow
+      misses-decided d e n = sym (decided-misses (modeOf t) (decidedOf t) (bookOf t) (workOf t) (λ z. n (e ∙ z)))
+
+      pub lookable : (n w mode : ℕ) → n ≡ filled t → w ≡ workOf t → mode ≡ modeOf t (o .mpid) → Lookable t n w mode
+      lookable n w mode a b c =
+          record { market = y .market; size = a; work = b; some = rw b (y .work); by = c ∙ rw (x, b) }
+
+      pub misses-looked : (d q : ℕ) → d ≡ decidedOf t → d ≡ 0 → q ≡ wouldTrade (modeOf t) (bookOf t) (workOf t) → ltb q m ≡ missesNow t
+      unfolding missesNow misses
+      misses-looked d q e z l = rw (worker, ← h, ← l, sym e ∙ z)
+
+    -- the decision to be noted
+    pub noted-after : (d : ℕ) → d ≡ cond (ltb 0 (minimumOf o)) 1 0 → d ≡ decidedAfter (bookOf t) (workOf t)
+    unfolding decidedAfter
+    noted-after d e = e ∙ rw worker
+
     module _ (f : Bool) (g : f ≡ isOpen o) where
       pub partner-open : (n r : ℕ) → f ≡ true → n ≡ filled t → r ≡ best (bookOf t) o n → r ≡ partner (bookOf t) (workOf t)
       unfolding partner
@@ -171,9 +228,16 @@ module _ (t : List ℕ) (y : Busy t) where
       partner-shut h = rw (worker, ← g, h)
 
     module _ (r : ℕ) (e : r ≡ partner (bookOf t) (workOf t)) where
-      pub comes-ending : (a : Outcome) → r ≡ 0 → a ≡ ending o → a ≡ outcome (modeOf t) (bookOf t) (workOf t)
-      unfolding outcome
-      comes-ending a z h = h ∙ rw (← e, z, worker)
+      module _ (missed : Bool) (v : missed ≡ missesNow t) (q : ℕ) (u : q ≡ openOf o) where
+        -- an open one that misses its minimum is killed
+        pub comes-killed : (missed && ltb 0 q) ≡ true → Kills q ≡ outcome (modeOf t) (missesNow t) (bookOf t) (workOf t)
+        unfolding outcome
+        comes-killed h = rw (worker, ← v, ← u, h)
+
+        module _ (k : (missed && ltb 0 q) ≡ false) where
+          pub comes-ending : (a : Outcome) → r ≡ 0 → a ≡ ending o → a ≡ outcome (modeOf t) (missesNow t) (bookOf t) (workOf t)
+          unfolding outcome
+          comes-ending a z h = h ∙ rw (worker, ← v, ← u, k, ← e, z)
 
       module _ (d : r ≡ 0 → ⊥) (s : Order) (q : s ≡ orderAt t r) where
         resting : at (bookOf t) r ≡ s
@@ -184,9 +248,18 @@ module _ (t : List ℕ) (y : Busy t) where
             rw resting at
             (y .market .held .sound r (record { low = partner-filled r e d .0; high = omega (arith, partner-filled r e d .1, length-book t) }) .covered)
 
-        pub comes-meeting : (k : ℕ) (a : Outcome) → k ≡ modeOf t (o .mpid) → a ≡ meeting o s k → a ≡ outcome (modeOf t) (bookOf t) (workOf t)
+        pub comes-meeting : (missed : Bool) → missed ≡ missesNow t → (n : ℕ) → n ≡ openOf o → (missed && ltb 0 n) ≡ false
+            → (k : ℕ) (a : Outcome) → k ≡ modeOf t (o .mpid) → a ≡ meeting o s k → a ≡ outcome (modeOf t) (missesNow t) (bookOf t) (workOf t)
         unfolding outcome
-        comes-meeting k a j h = h ∙ rw (← e, ne-eqb r 0 d, worker, resting, j)
+        comes-meeting missed v n u f k a j h = h ∙ rw (worker, ← v, ← u, f, ← e, ne-eqb r 0 d, resting, j)
+
+-- ---- what is planned
+module _ (t : List ℕ) (y : Busy t) (o : Order) (w : ℕ) (x : o ≡ orderAt t w) (e : w ≡ workOf t) where
+  pub planned-is : (missed : Bool) (r : ℕ) (came : Outcome) (d : ℕ) → missed ≡ missesNow t → r ≡ partner (bookOf t) (workOf t)
+      → came ≡ outcome (modeOf t) (missesNow t) (bookOf t) (workOf t) → d ≡ cond (ltb 0 (minimumOf o)) 1 0
+      → Planned t (record { work = w; other = r; came = came; ends = missed || eqb r 0; decided = d })
+  planned-is missed r came d m p c n =
+      record { work = e; other = p; came = c; ends = rw (m, p); decided = noted-after t y o (worker-is t y o w x e) d n }
 
 -- ---- the events of a step can be told of
 
@@ -215,7 +288,7 @@ module _ (t : List ℕ) (y : Busy t) where
   -- there are at most two
   pub few-events : length (stepEvents t) ≤ 2
   unfolding stepEvents
-  few-events = step-two (bookOf t) (workOf t) _ (step-is (modeOf t) (bookOf t) (workOf t))
+  few-events = step-two (bookOf t) (workOf t) _ (step-is (modeOf t) (missesNow t) (bookOf t) (workOf t))
 
   tellings : (es : List Event) → stepEvents t ≡ es → Tellings t (nextOf t) es
   tellings [] q = tt
@@ -265,24 +338,24 @@ module _ (t : List ℕ) (y : Busy t) where
       unfolding numbered
       numbered-is = rw (counted, all-played-is, en, played-next t (y .market) (y .work))
 
-      finished-is : finished u (n + x .reports) (p .other) ≡ stepped t
-      unfolding finished stepped workAfter
+      finished-is : finished u (n + x .reports) (p .ends) (p .decided) ≡ stepped t
+      unfolding finished stepped stepWork workAfter
       finished-is =
           let e : eqb (workOf t) 0 ≡ false = ne-eqb (workOf t) 0 (λ z. omega (arith, y .work)) in
-          split (eqb (partner (bookOf t) (workOf t)) 0)
-          (λ z. rw (h .other, z, numbered-is))
-          (λ z. rw (h .other, z, e) numbered-is)
+          split (missesNow t || eqb (partner (bookOf t) (workOf t)) 0)
+          (λ z. rw (h .ends, z, numbered-is))
+          (λ z. rw (h .ends, z, e, h .decided, numbered-is))
 
-      pub step-turned : (v : List ℕ) → v ≡ finished u (n + x .reports) (p .other) → Turned t out x v area
+      pub step-turned : (v : List ℕ) → v ≡ finished u (n + x .reports) (p .ends) (p .decided) → Turned t out x v area
       step-turned v z = record { table = z ∙ finished-is; bytes-in = written; count = counted ∙ sym step-count }
 
 -- ---- the end of a step
 
-module _ (t u : List ℕ) (n r : ℕ) (e : u ≡ putNext t n) where
-  pub finish-ends : (v : List ℕ) → r ≡ 0 → v ≡ endWork u → v ≡ finished t n r
+module _ (t u : List ℕ) (n : ℕ) (ends : Bool) (d : ℕ) (e : u ≡ putNext t n) where
+  pub finish-ends : (v : List ℕ) → ends ≡ true → v ≡ endWork u → v ≡ finished t n ends d
   unfolding finished
   finish-ends v z h = h ∙ rw (z, e)
 
-  pub finish-goes : (r ≡ 0 → ⊥) → u ≡ finished t n r
+  pub finish-goes : (v : List ℕ) → ends ≡ false → v ≡ putDecided u d → v ≡ finished t n ends d
   unfolding finished
-  finish-goes d = e ∙ rw (ne-eqb r 0 d)
+  finish-goes v z h = h ∙ rw (z, e)

@@ -9,6 +9,7 @@ use Rattle.matching.specs.Matching.{metBy, run}
 use Rattle.table.specs.Heading.{nextOf, workOf, modeOf}
 use Rattle.table.specs.Orders.{bookOf}
 use Rattle.table.specs.Market.{isMarket}
+use Rattle.table.specs.Changes.{missesNow}
 use Rattle.table.proofs.Facts.{market-facts}
 use Rattle.calls.specs.Told.{joined, areaAfter}
 use Rattle.calls.specs.Run.{worked, ran, runSteps}
@@ -45,10 +46,11 @@ pub run-goes-on : (m n : ℕ) (t : List ℕ) (room : ℕ)
     GoesOn first (worked n (first .table) (room - length (joined (first .reports)))) (worked (m + n) t room)
 run-goes-on = worked-on
 
--- where there are 1,024 bytes for each step, the steps on a market are matching's steps on its book: the same book, order in work
+-- where there are 1,024 bytes for each step, the steps on a market are matching's steps on its book, the decision on a minimum with
+-- them: the same book, order in work
 -- and number of steps, and a report for each event
 pub run-is-matching : (n : ℕ) (t : List ℕ) (room : ℕ) → isMarket t ≡ true → 1024 * n ≤ room
-    → Agrees (worked n t room) (run (modeOf t) n (bookOf t) (workOf t))
+    → Agrees (worked n t room) (run (modeOf t) (missesNow t) n (bookOf t) (workOf t))
 run-is-matching n t room m h = agrees n t room (market-facts t m) h
 
 -- done: with m + 1 steps or more, and 1,024 bytes for each of m + 1, nothing is in work afterwards, and no more than m + 1 steps were

@@ -1,18 +1,18 @@
 -- What the functions below Run ask for and leave: events that can happen in turn on a table and be told of, and the table and the
 -- report area after them. Assumes nothing.
 use mathlib.Core.Path.{_≡_}
-use mathlib.Core.Bool.{cond}
+use mathlib.Core.Bool.{Bool, cond, _||_}
 use mathlib.Core.List.{List, [], _∷_}
 use Prim.Native.Nat.{ℕ, _+_, _≤_}
 use lib.Dec.{eqb}
 use lib.ListN.{length}
 use Rattle.octets.specs.Written.{Wrote}
 use Rattle.matching.specs.declared.Event.{Event}
-use Rattle.matching.specs.Matching.{who, partner, outcome}
-use Rattle.table.specs.Heading.{workOf, modeOf, putNext, endWork}
+use Rattle.matching.specs.Matching.{who, partner, outcome, decidedAfter}
+use Rattle.table.specs.Heading.{workOf, modeOf, putNext, putDecided, endWork}
 use Rattle.table.specs.Orders.{bookOf, applied}
 use Rattle.table.specs.Facts.{Market, Due}
-use Rattle.table.specs.Changes.{played, stepped}
+use Rattle.table.specs.Changes.{played, missesNow, stepped}
 use Rattle.ticket.specs.Tickets.{keptCause}
 use Rattle.ticket.specs.Legible.{Legible}
 use Rattle.calls.specs.declared.RunAnswer.{RunAnswer}
@@ -42,15 +42,18 @@ pub record Busy (t : List ℕ) : Type 0 where
   pub market : Market t
   pub work : 1 ≤ workOf t
 
--- what the next step comes to: who is in work, with whom he is matched, and the outcome
+-- what the next step comes to: who is in work, with whom he is matched, the outcome, whether it ends the work, and the decision
+-- to be noted if it does not
 pub record Planned (t : List ℕ) (p : Plan) : Type 0 where
   pub work : p .work ≡ workOf t
   pub other : p .other ≡ partner (bookOf t) (workOf t)
-  pub came : p .came ≡ outcome (modeOf t) (bookOf t) (workOf t)
+  pub came : p .came ≡ outcome (modeOf t) (missesNow t) (bookOf t) (workOf t)
+  pub ends : p .ends ≡ (missesNow t || eqb (partner (bookOf t) (workOf t)) 0)
+  pub decided : p .decided ≡ decidedAfter (bookOf t) (workOf t)
 
--- the end of a step, once its events have happened: the next number, and nothing in work if it matched the order in work with none
-unfoldable pub finished : List ℕ → ℕ → ℕ → List ℕ
-finished t n r = cond (eqb r 0) (endWork (putNext t n)) (putNext t n)
+-- the end of a step, once its events have happened: the next number, and nothing in work, or the decision
+unfoldable pub finished : List ℕ → ℕ → Bool → ℕ → List ℕ
+finished t n ends d = cond ends (endWork (putNext t n)) (putDecided (putNext t n) d)
 
 -- a step was taken
 pub record Turned (t out : List ℕ) (r : Told) (after area : List ℕ) : Type 0 where

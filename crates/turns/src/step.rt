@@ -3,12 +3,15 @@ ghost use mathlib.Core.Path.{_≡_};
 ghost use mathlib.Core.List.{[], _∷_};
 ghost use Prim.Native.Nat.{_+_, _≤_, _<_};
 ghost use lib.ListN.{length};
-ghost use Rattle.matching.specs.Matching.{partner, outcome, causes, preventing};
+ghost use mathlib.Core.Bool.{cond};
+ghost use lib.Dec.{ltb};
+ghost use Rattle.matching.specs.Matching.{partner, outcome, causes, preventing, minimumOf};
 ghost use Rattle.matching.specs.declared.Prevention.the-variants.{Decrement as Prevention·Decrement};
 ghost use Rattle.matching.specs.declared.Event.the-variants.{Traded};
 ghost use Rattle.table.specs.Places.{tableBytes};
 ghost use Rattle.table.specs.Heading.{workOf, modeOf};
 ghost use Rattle.table.specs.Orders.{orderAt, bookOf};
+ghost use Rattle.table.specs.Changes.{missesNow};
 ghost use Rattle.turns.specs.Turns.{Tellings, Reported, Busy, Planned, finished, Turned};
 use crate::events::Told;
 use crate::events::one;
@@ -21,17 +24,23 @@ use matching::matched;
 use table::book::best;
 use table::book::filled;
 use table::entries::mode_of;
+use table::heading::decided;
 use table::heading::end_work;
 use table::heading::next;
+use table::heading::put_decided;
 use table::heading::put_next;
 use table::heading::work;
+use table::look::would_trade;
 use table::record::load;
 
-// What a step comes to: who is in work, the one he is matched with (0 for none), and the outcome.
+// What a step comes to: who is in work, the one he is matched with (0 for none), the outcome, whether the work ends with it, and the
+// decision to be noted if it does not.
 pub struct Plan {
     pub work: u64,
     pub other: u64,
     pub came: Outcome,
+    pub ends: bool,
+    pub decided: u8,
 }
 
 // A decrement between w, in work, and r, resting: the smaller is canceled and the larger lowered; equal ones are both canceled, the
@@ -127,6 +136,7 @@ fn happen(table: &mut [u8], out: &mut [u8], n: u64, w: u64, r: u64, o: Outcome) 
     match o {
         Outcome::Trade { quantity, level } => trade(table, out, n, w, r, quantity, level),
         Outcome::Prevented(p) => prevent(table, out, n, w, r, p),
+        Outcome::Kills { quantity } => one(table, out, n, Event::Killed { order: w, quantity }),
         Outcome::Expires { quantity } => one(table, out, n, Event::Expired { order: w, quantity }),
         Outcome::Rests => Told {
             bytes: 0,
@@ -146,11 +156,40 @@ fn partner_of(t: &[u8], o: Order) -> usize
     0
 }
 
-// What the step of o, the order in work, comes to, matched with r.
-fn comes_to(t: &[u8], o: Order, r: usize) -> Outcome
-    requires { ⌜ Busy (now t) × (o ≡ orderAt (now t) (workOf (now t))) × (r ≡ partner (bookOf (now t)) (workOf (now t))) ⌝ }
-    ensures { λ x. ⌜ x ≡ outcome (modeOf (now (t .entry))) (bookOf (now (t .entry))) (workOf (now (t .entry))) ⌝ }
+// Whether o, the order in work, misses its minimum: asked of an order with a minimum that is not decided yet, by looking at the book.
+fn misses(t: &[u8], o: Order, w: usize) -> bool
+    requires { ⌜ Busy (now t) × (o ≡ orderAt (now t) (workOf (now t))) × (w ≡ workOf (now t)) ⌝ }
+    ensures { λ r. ⌜ r ≡ missesNow (now (t .entry)) ⌝ }
 {
+    let least = o.minimum_of();
+    if least == 0 {
+        return false;
+    }
+    if decided(t) != 0 {
+        return false;
+    }
+    would_trade(t, filled(t), w, mode_of(t, o.mpid)) < least
+}
+
+// The decision to be noted after a step of o: 1 if it has a minimum.
+fn noted(o: Order) -> u8
+    ensures { λ r. ⌜ r ≡ cond (ltb 0 (minimumOf o)) 1 0 ⌝ }
+{
+    if 0 < o.minimum_of() {
+        return 1;
+    }
+    0
+}
+
+// What the step of o, the order in work, comes to, matched with r; missed tells that it does not reach its minimum.
+fn comes_to(t: &[u8], o: Order, r: usize, missed: bool) -> Outcome
+    requires { ⌜ Busy (now t) × (o ≡ orderAt (now t) (workOf (now t))) × (r ≡ partner (bookOf (now t)) (workOf (now t))) × (missed ≡ missesNow (now t)) ⌝ }
+    ensures { λ x. ⌜ x ≡ outcome (modeOf (now (t .entry))) (missesNow (now (t .entry))) (bookOf (now (t .entry))) (workOf (now (t .entry))) ⌝ }
+{
+    let open = o.open_of();
+    if missed & (0 < open) {
+        return Outcome::Kills { quantity: open };
+    }
     if r == 0 {
         return o.ending();
     }
@@ -164,23 +203,29 @@ fn planned(t: &[u8]) -> Plan
 {
     let w = work(t);
     let o = load(t, w);
+    let missed = misses(t, o, w);
     let r = partner_of(t, o);
-    let came = comes_to(t, o, r);
+    let came = comes_to(t, o, r, missed);
+    let decided = noted(o);
     Plan {
         work: w as u64,
         other: r as u64,
         came,
+        ends: missed | (r == 0),
+        decided,
     }
 }
 
-// Sets the next number, and ends the work of an order that was matched with none.
-fn finish(table: &mut [u8], n: u64, r: u64)
+// Sets the next number, and ends the work or notes the decision.
+fn finish(table: &mut [u8], n: u64, ends: bool, d: u8)
     requires { ⌜ length (now table) ≡ tableBytes ⌝ }
-    ensures { λ _. ⌜ now (table .exit) ≡ finished (now (table .entry)) n r ⌝ }
+    ensures { λ _. ⌜ now (table .exit) ≡ finished (now (table .entry)) n ends d ⌝ }
 {
     put_next(table, n);
-    if r == 0 {
+    if ends {
         end_work(table);
+    } else {
+        put_decided(table, d);
     }
 }
 
@@ -193,6 +238,6 @@ pub fn step(table: &mut [u8], out: &mut [u8]) -> Told
     let n = next(table);
     let came = p.came;
     let told = happen(table, out, n, p.work, p.other, came);
-    finish(table, n + told.reports, p.other);
+    finish(table, n + told.reports, p.ends, p.decided);
     told
 }

@@ -86,8 +86,8 @@ fn client_id(feed: &Feed) -> Option<Vec<u8>> {
     (shown.iter().all(is_identifier) && text.len() <= LONGEST_CLIENT_ID).then_some(text)
 }
 
-/// The copy: 17 and 34 are the feed's number, 109 its identifiers, 797 is Y; 9 and 10 are worked out anew; everything
-/// else is the report's.
+/// The copy: 17 and 34 are the feed's number, 109 its identifiers, 797 is Y; a Fill or Kill shows as an IOC whose 110
+/// is its 38; 9 and 10 are worked out anew; everything else is the report's.
 fn written(report: &Report, number: u64, client_id: &[u8]) -> Vec<u8> {
     let number = number.to_string().into_bytes();
     let inner = &report.fields[2..report.fields.len() - 1];
@@ -96,6 +96,10 @@ fn written(report: &Report, number: u64, client_id: &[u8]) -> Vec<u8> {
     body.insert(17, &number);
     body.insert(109, client_id);
     body.insert(797, b"Y");
+    if body[&59] == b"4" {
+        body.insert(59, b"3");
+        body.insert(110, body[&38]);
+    }
     let header = header.iter().map(|field| (field.tag, if field.tag == 34 { number.as_slice() } else { field.value }));
     let mut counted = Vec::new();
     for (tag, value) in header.chain(body) {

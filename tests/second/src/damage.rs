@@ -36,7 +36,7 @@ fn damaged_draft(random: &mut Random, draft: Draft) -> Draft {
 }
 
 /// The number of header fields in a draft, 35 to 56: of a message, and of a report, which has 50 besides.
-const HEADER: usize = 5;
+pub const HEADER: usize = 5;
 const REPORT_HEADER: usize = 6;
 
 fn any_field(random: &mut Random, draft: &Draft) -> Option<usize> {
@@ -103,8 +103,9 @@ fn repeated_tag(random: &mut Random, mut draft: Draft) -> Draft {
 
 /// A tag of the three lists, whether or not it belongs to this type or is there already.
 fn foreign_tag(random: &mut Random, draft: Draft) -> Draft {
-    let tag =
-        random.pick(&["1", "1", "1", "11", "21", "38", "40", "41", "44", "47", "54", "55", "59", "60", "109", "8060"]);
+    let tag = random.pick(&[
+        "1", "1", "11", "21", "38", "40", "41", "44", "47", "54", "55", "59", "60", "109", "110", "110", "110", "8060",
+    ]);
     if draft.position(tag).is_some() && random.percent(80) {
         return draft;
     }
@@ -119,7 +120,7 @@ fn foreign_tag(random: &mut Random, draft: Draft) -> Draft {
 fn unlisted_tag(random: &mut Random, draft: Draft) -> Draft {
     let tag = random.pick(&[
         "2", "6", "7", "12", "14", "17", "20", "31", "32", "37", "39", "43", "45", "50", "57", "58", "97", "102",
-        "103", "110", "115", "122", "128", "150", "151", "371", "375", "378", "382", "423", "434", "797", "851", "880",
+        "103", "111", "115", "122", "128", "150", "151", "371", "375", "378", "382", "423", "434", "797", "851", "880",
         "8059", "8061", "9999",
     ]);
     let value = random.pick(&["x", "1", "Y", "", "DJGB", "0.100", "20261116-09:00:00"]);
@@ -288,7 +289,7 @@ fn odd_value(random: &mut Random, tag: &[u8]) -> Vec<u8> {
         b"1" => &["0123456789", "0123456789a", "0123456789 ", "an account", " ", ";"],
         b"11" | b"41" => IDS,
         b"21" => &["2", "3", "11", " ", "x", "0"],
-        b"38" => &[
+        b"38" | b"110" => &[
             "0", "00", "000000000", "0000000000", "000000001", "0000000001", "999999999", "1000000000", "4294967296",
             "1.0", "-1", "+1", " 1", "1 ", "x", "1e3",
         ],
@@ -300,7 +301,7 @@ fn odd_value(random: &mut Random, tag: &[u8]) -> Vec<u8> {
         b"47" => &["A", "P", "a", "p", "I", "AP", " "],
         b"54" => &["0", "3", "5", "12", "B", " "],
         b"55" => &["0", "0350", "351", "000000000", "999999999", "1234567890", "JGB", "35O", "-350", " 350"],
-        b"59" => &["1", "4", "6", "00", "33", " "],
+        b"59" => &["1", "4", "4", "6", "00", "33", "44", " "],
         b"60" | b"52" => TIMES,
         b"109" => &["0", "000000", "000010", "0000010", "1", "999999", "1000000", "15", "x", "-1", " 10"],
         b"8060" => &["0", "2", "7", "3", "6", "11", "H"],
@@ -382,6 +383,7 @@ fn with_field_ascending(random: &mut Random, mut draft: Draft) -> Draft {
         ("58", "x"),
         ("109", "10"),
         ("110", "5"),
+        ("110", "0"),
         ("378", "100"),
         ("378", "99"),
         ("797", "Y"),
@@ -404,7 +406,7 @@ fn odd_report_field(random: &mut Random, mut draft: Draft) -> Draft {
 fn odd_report_value(random: &mut Random, tag: &[u8]) -> Vec<u8> {
     let choices: &[&str] = match tag {
         b"34" | b"17" | b"880" | b"45" => &["0", "1", "01", "999999999", "1000000000", "-1", "x"],
-        b"14" | b"32" | b"38" | b"151" => &["0", "1", "00", "07", "999999999", "1000000000", "-1", "1.0"],
+        b"14" | b"32" | b"38" | b"110" | b"151" => &["0", "1", "00", "07", "999999999", "1000000000", "-1", "1.0"],
         b"37" => &["0", "1", "255", "256", "NONE", "01", "none"],
         b"31" | b"44" => &[
             "0.000", "-0.000", "-0.001", "999999.999", "-999999.999", "1000000.000", "0.1", "00.100", ".100", "1",
@@ -431,6 +433,7 @@ fn odd_report_value(random: &mut Random, tag: &[u8]) -> Vec<u8> {
         b"52" | b"60" => return odd_value(random, b"52"),
         b"55" => &["0", "000000000", "1234567890", "35a"],
         b"50" => &["DJGB", "djgb", "DJG", "DJGBX"],
+        b"59" => &["0", "3", "4", "4", "1", "44"],
         _ => &["0", "1", "2", "3", "4", "5", "6", "8", "9", "A", "P", "11", " "],
     };
     random.pick(choices).as_bytes().to_vec()

@@ -8,7 +8,7 @@ use std::collections::VecDeque;
 
 use crate::compose::Draft;
 use crate::copy::{copy, Feed};
-use crate::damage::{damaged, damaged_report};
+use crate::damage::{damaged, damaged_report, HEADER};
 use crate::market::{Market, Participant, LAST_SUBMIT_NUMBER};
 use crate::order::{Order, Side};
 use crate::random::Random;
@@ -119,6 +119,18 @@ const PROFILES: &[Profile] = &[
         ioc: 25,
         with_mpid: 40,
         first_number: (1, 1_000),
+    },
+    Profile {
+        name: "minimums",
+        yields: DEEP,
+        quantities: ROUND,
+        messages: 100,
+        damage: 15,
+        new_orders: 90,
+        sells: 80,
+        ioc: 40,
+        with_mpid: 75,
+        first_number: (1, 0),
     },
     Profile {
         name: "numbers that run out",
@@ -522,7 +534,8 @@ impl Generator {
         Self::add(&mut draft, "54", side.as_bytes());
         let code = self.code();
         Self::add(&mut draft, "55", &code);
-        Self::add(&mut draft, "59", if self.random.percent(self.profile.ioc) { b"3" } else { b"0" });
+        let is_ioc = self.random.percent(self.profile.ioc);
+        Self::add(&mut draft, "59", if is_ioc { b"3" } else { b"0" });
         let time = self.time();
         Self::add(&mut draft, "60", time.as_bytes());
         if self.random.percent(self.profile.with_mpid) {
@@ -530,7 +543,76 @@ impl Generator {
             Self::add(&mut draft, "109", mpid.as_bytes());
         }
         Self::add(&mut draft, "8060", self.random.pick(&["1", "3", "4", "5", "6"]).as_bytes());
+        if is_ioc && self.random.percent(60) {
+            let draft = if self.random.percent(60) { self.sweeping(draft) } else { draft };
+            self.with_minimum(draft)
+        } else {
+            draft
+        }
+    }
+
+    /// The order turned against the side that has more open orders: at the yield of one of them, of about as much as
+    /// they have open, and mostly of an MPID that is among the later half of them.
+    fn sweeping(&mut self, draft: Draft) -> Draft {
+        let open = |side| -> Vec<Order> {
+            let orders = self.market().orders().iter();
+            orders.filter(|order| order.side == side && order.open() > 0).cloned().collect()
+        };
+        let (buys, sells) = (open(Side::Buy), open(Side::Sell));
+        let mut met = if buys.len() > sells.len() { buys } else { sells };
+        met.sort_by_key(Order::rank);
+        let Some(first) = met.first() else { return draft };
+        let total: u64 = met.iter().map(Order::open).sum();
+        let quantity = (total * self.random.between(20, 130) / 100).clamp(1, 999_999_999);
+        let at = yield_text(self.random.pick(&met).yield_thousandths);
+        let side = if first.side == Side::Buy { "2" } else { "1" };
+        let mpid = self.random.pick(&met[met.len() / 2..]).mpid;
+        let draft = draft.with("54", side).with("38", &quantity.to_string()).with("44", &at);
+        match mpid {
+            Some(mpid) => draft.with("109", &mpid.to_string()),
+            None => draft.without("109"),
+        }
+    }
+
+    /// The IOC with a minimum close to what it would trade, or as a Fill or Kill; seldom with a minimum that it may not
+    /// have.
+    fn with_minimum(&mut self, draft: Draft) -> Draft {
+        let can = self.would_execute(&draft);
+        let close = [can, can + 1, can.saturating_sub(1)].map(|quantity| quantity.clamp(1, 999_999_999).to_string());
+        match self.random.below(100) {
+            0..=19 => draft.with("59", "4"),
+            20..=44 => draft.with("59", "4").with("38", &self.random.pick(&close)),
+            45..=79 => {
+                let minimum = self.random.pick(&close);
+                self.inserting_minimum(draft, &minimum)
+            }
+            80..=91 => {
+                let minimum = self.random.pick(&["1", "2", "10", "100", "0100", "000000200", "500", "999999999"]);
+                self.inserting_minimum(draft, minimum)
+            }
+            92..=95 => self.inserting_minimum(draft.with("59", "0"), "1"),
+            _ => self.inserting_minimum(draft.with("59", "4"), "1"),
+        }
+    }
+
+    /// A 110 anywhere in the body.
+    fn inserting_minimum(&mut self, mut draft: Draft, minimum: &str) -> Draft {
+        let at = self.random.between(HEADER as u64, draft.fields.len() as u64) as usize;
+        draft.fields.insert(at, (b"110".to_vec(), minimum.as_bytes().to_vec()));
         draft
+    }
+
+    /// What an IOC without a minimum would execute if it were submitted here and run to its end.
+    fn would_execute(&self, draft: &Draft) -> u64 {
+        let mut market = self.market().clone();
+        if market.submit(&draft.bytes(), 1024).number != 0 {
+            return 0;
+        }
+        let record = market.in_work().expect("a new order that is taken is in work");
+        while market.in_work().is_some() {
+            market.run(1024, 1);
+        }
+        market.orders()[record - 1].executed
     }
 
     /// A yield of the profile. In a market that is to fill up, buys mostly stay above sells.

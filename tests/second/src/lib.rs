@@ -3,10 +3,10 @@
 //! their answers must be the same bytes. It shares no code with that market.
 //!
 //! Read in this order: `shape` (digits, yields, times), `message` (what is garbled), `session` (what a good message
-//! asks, or why it gets a Session Reject), `order`, `matching` (one step), `report` (what is written), `market`
-//! (the calls), `read` (reports and drop copies read back), `copy` (drop copies written). Above them stand
-//! `transcript` (command files), `compose`, `damage` and `generate` (messages made for comparison), `script`, `points`
-//! (the hand-written walk through the paper) and `samples` (messages published by others).
+//! asks, or why it gets a Session Reject), `order`, `matching` (one step), `report` (what is written), `market` (the
+//! calls), `table` (its bytes), `read` (reports and drop copies read back), `copy` (drop copies written). Above them
+//! stand `transcript` (command files), `compose`, `damage` and `generate` (messages made for comparison), `script`,
+//! `points` (the hand-written walk through the paper) and `samples` (messages published by others).
 
 pub mod shape;
 
@@ -21,6 +21,8 @@ pub mod matching;
 pub mod report;
 
 pub mod market;
+
+pub mod table;
 
 pub mod read;
 

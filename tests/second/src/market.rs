@@ -1,9 +1,9 @@
 //! The market's calls: Open, Submit, Run and Depth, with every refusal in the order of 01.
 //!
-//! The state is held in plain structs; a table of bytes, and with it the refusal of tables that are not a market,
-//! is not this program's concern. A `Market` exists only once Open has taken its settings.
+//! The state is held in plain structs, which `table` lays out in bytes. A `Market` exists only once Open has taken its
+//! settings, or as what a table says that is a market.
 
-use crate::matching::{next_outcome, Mode, Outcome};
+use crate::matching::{falls_short, next_outcome, Mode, Outcome};
 use crate::message::{self, Message};
 use crate::order::{Order, Side};
 use crate::report::{self, CancelCause, CancelReject, Execution, Heading, Refused, RejectedOrder, Restatement};
@@ -73,23 +73,25 @@ pub struct Level {
     pub orders: u64,
 }
 
-/// The order in work and the 52 of its message.
+/// The order in work, the 52 of its message, and whether it has been decided that its minimum can be reached, which is
+/// not asked of an order without one.
 #[derive(Clone, Debug, PartialEq, Eq)]
-struct Work {
-    order: usize,
-    sending_time: Vec<u8>,
+pub(crate) struct Work {
+    pub(crate) order: usize,
+    pub(crate) sending_time: Vec<u8>,
+    pub(crate) is_decided: bool,
 }
 
 /// One bond, one FIX port, up to 255 orders. Record numbers are places in `orders`, counted from 1.
 #[derive(Clone, Debug, PartialEq, Eq)]
 pub struct Market {
-    venue: Vec<u8>,
-    port: Vec<u8>,
-    code: Vec<u8>,
-    participants: Vec<(u64, Mode)>,
-    next_number: u64,
-    orders: Vec<Order>,
-    work: Option<Work>,
+    pub(crate) venue: Vec<u8>,
+    pub(crate) port: Vec<u8>,
+    pub(crate) code: Vec<u8>,
+    pub(crate) participants: Vec<(u64, Mode)>,
+    pub(crate) next_number: u64,
+    pub(crate) orders: Vec<Order>,
+    pub(crate) work: Option<Work>,
 }
 
 impl Market {
@@ -192,10 +194,7 @@ impl Market {
     /// The levels of a side, best first.
     fn levels(&self, side: Side) -> Vec<Level> {
         let mut open: Vec<&Order> = self.orders.iter().filter(|order| order.side == side && order.open() > 0).collect();
-        open.sort_by_key(|order| match side {
-            Side::Buy => order.yield_thousandths,
-            Side::Sell => -order.yield_thousandths,
-        });
+        open.sort_by_key(|order| order.rank());
         let mut levels: Vec<Level> = Vec::new();
         for order in open {
             match levels.last_mut() {
@@ -217,6 +216,11 @@ impl Market {
     /// The record number of the order in work.
     pub fn in_work(&self) -> Option<usize> {
         self.work.as_ref().map(|work| work.order + 1)
+    }
+
+    /// Whether it has been decided that the order in work can reach its minimum.
+    pub fn is_decided(&self) -> bool {
+        self.work.as_ref().is_some_and(|work| work.is_decided)
     }
 
     /// The number that the next report will have.
@@ -297,6 +301,7 @@ impl Market {
             classification: new.classification,
             yield_thousandths: new.yield_thousandths,
             order_qty: new.order_qty,
+            min_qty: new.min_qty,
             executed: 0,
             decremented: 0,
             canceled: 0,
@@ -335,11 +340,24 @@ impl Market {
     }
 
     fn put_in_work(&mut self, order: usize, sending_time: &[u8]) {
-        self.work = Some(Work { order, sending_time: sending_time.to_vec() });
+        self.work = Some(Work { order, sending_time: sending_time.to_vec(), is_decided: false });
     }
 
-    /// One step: its reports in their order.
+    /// One step: its reports in their order. The first step of an order with a minimum begins by deciding: one that
+    /// can't reach it is canceled whole, and the work ends with that.
     fn step(&mut self, work: &Work) -> Vec<Vec<u8>> {
+        if !work.is_decided && falls_short(&self.orders, work.order, |mpid| self.mode_of(mpid)) {
+            self.work = None;
+            let whole = CancelCause::Unrequested(Restatement::NotStaying);
+            return vec![self.cancel(&work.sending_time, work.order, whole)];
+        }
+        let is_decided = self.orders[work.order].minimum() > 0;
+        self.work = Some(Work { is_decided, ..work.clone() });
+        self.matching_step(work)
+    }
+
+    /// One step of matching.
+    fn matching_step(&mut self, work: &Work) -> Vec<Vec<u8>> {
         let time = &work.sending_time;
         let prevention = CancelCause::Unrequested(Restatement::TradePrevention);
         match next_outcome(&self.orders, work.order, |mpid| self.mode_of(mpid)) {
@@ -354,7 +372,7 @@ impl Market {
             }
             Outcome::End { cancels_rest } => {
                 self.work = None;
-                let rest = CancelCause::Unrequested(Restatement::RestOfIoc);
+                let rest = CancelCause::Unrequested(Restatement::NotStaying);
                 if cancels_rest {
                     vec![self.cancel(time, work.order, rest)]
                 } else {
@@ -466,12 +484,12 @@ impl Replacement {
 }
 
 /// 1 to 8 characters, none a space.
-fn is_comp_id(id: &[u8]) -> bool {
+pub(crate) fn is_comp_id(id: &[u8]) -> bool {
     (1..=8).contains(&id.len()) && id.iter().all(|&byte| is_id_character(byte))
 }
 
 /// Open's list with its modes by name, if it has 1 to 8 entries, each in range, with distinct MPIDs.
-fn known_modes(participants: &[Participant]) -> Option<Vec<(u64, Mode)>> {
+pub(crate) fn known_modes(participants: &[Participant]) -> Option<Vec<(u64, Mode)>> {
     let mut mpids: Vec<u64> = participants.iter().map(|participant| participant.mpid).collect();
     mpids.sort_unstable();
     mpids.dedup();

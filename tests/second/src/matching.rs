@@ -20,6 +20,15 @@ impl Mode {
             _ => None,
         }
     }
+
+    /// Open's number for the mode.
+    pub fn number(self) -> u64 {
+        match self {
+            Mode::CancelNewest => 1,
+            Mode::CancelOldest => 2,
+            Mode::Decrement => 3,
+        }
+    }
 }
 
 /// What one step does. Orders are named by their place in the list of orders.
@@ -33,7 +42,7 @@ pub enum Outcome {
     CancelBoth { resting: usize },
     /// Decrement, sizes differ: the smaller is canceled and the larger loses its size.
     Decrement { smaller: usize, larger: usize },
-    /// The work ends; an IOC's rest is canceled.
+    /// The work ends; what an order that doesn't stay has open is canceled.
     End { cancels_rest: bool },
 }
 
@@ -48,20 +57,45 @@ pub fn next_outcome(orders: &[Order], in_work: usize, mode_of: impl Fn(u64) -> M
             };
         }
     }
-    Outcome::End { cancels_rest: working.open() > 0 && working.time_in_force == TimeInForce::ImmediateOrCancel }
+    Outcome::End { cancels_rest: working.open() > 0 && working.time_in_force != TimeInForce::Day }
+}
+
+/// Whether the order in work can't reach its minimum: what it has open, it must then give up whole. An order without a
+/// minimum, or with nothing open, is not asked.
+pub fn falls_short(orders: &[Order], in_work: usize, mode_of: impl Fn(u64) -> Mode) -> bool {
+    let working = &orders[in_work];
+    working.open() > 0 && would_trade(orders, in_work, mode_of) < working.minimum()
+}
+
+/// The quantity that the order in work would trade with the open orders that it meets, taken from the best on. Of its
+/// own orders, the first one ends it in mode 1, mode 2 passes over them, and in mode 3 they use up what it has open.
+pub fn would_trade(orders: &[Order], in_work: usize, mode_of: impl Fn(u64) -> Mode) -> u64 {
+    let working = &orders[in_work];
+    let (mut left, mut traded) = (working.open(), 0);
+    for resting in all_met(orders, in_work) {
+        let quantity = left.min(orders[resting].open());
+        match shared_mpid(working, &orders[resting]).map(&mode_of) {
+            None => (left, traded) = (left - quantity, traded + quantity),
+            Some(Mode::CancelNewest) => break,
+            Some(Mode::CancelOldest) => {}
+            Some(Mode::Decrement) => left -= quantity,
+        }
+    }
+    traded
+}
+
+/// The open opposite orders that the order in work meets, best first.
+fn all_met(orders: &[Order], in_work: usize) -> Vec<usize> {
+    let working = &orders[in_work];
+    let is_met = |order: &Order| order.side == working.side.opposite() && order.open() > 0 && working.meets(order);
+    let mut met: Vec<usize> = (0..orders.len()).filter(|&index| is_met(&orders[index])).collect();
+    met.sort_by_key(|&index| orders[index].rank());
+    met
 }
 
 /// The best open opposite order that the order in work meets.
 fn best_met(orders: &[Order], in_work: usize) -> Option<usize> {
-    let working = &orders[in_work];
-    let mut best: Option<usize> = None;
-    for (index, order) in orders.iter().enumerate() {
-        let is_met = order.side == working.side.opposite() && order.open() > 0 && working.meets(order);
-        if is_met && best.is_none_or(|known| order.is_before(&orders[known])) {
-            best = Some(index);
-        }
-    }
-    best
+    all_met(orders, in_work).first().copied()
 }
 
 /// The MPID that both orders carry, if it is one and the same.

@@ -47,6 +47,7 @@ impl Side {
 pub enum TimeInForce {
     Day,
     ImmediateOrCancel,
+    FillOrKill,
 }
 
 impl TimeInForce {
@@ -55,12 +56,14 @@ impl TimeInForce {
         match self {
             TimeInForce::Day => b'0',
             TimeInForce::ImmediateOrCancel => b'3',
+            TimeInForce::FillOrKill => b'4',
         }
     }
 }
 
 /// One order, alive or dead. `sum` is the sum of quantity times yield in thousandths over its executions.
 /// `place` is the number of its Accepted report, or of the last requested Replaced that did not keep the place.
+/// `min_qty` is its 110, if it was sent with one.
 #[derive(Clone, Debug, PartialEq, Eq)]
 pub struct Order {
     pub cl_ord_id: Vec<u8>,
@@ -72,6 +75,7 @@ pub struct Order {
     pub classification: u8,
     pub yield_thousandths: i64,
     pub order_qty: u64,
+    pub min_qty: Option<u64>,
     pub executed: u64,
     pub decremented: u64,
     pub canceled: u64,
@@ -85,6 +89,15 @@ impl Order {
         self.order_qty - self.executed - self.decremented - self.canceled
     }
 
+    /// What the order must be able to trade at once, or it is canceled whole: its 110, all of it for a Fill or Kill, 0
+    /// for an order without a minimum.
+    pub fn minimum(&self) -> u64 {
+        match self.time_in_force {
+            TimeInForce::FillOrKill => self.order_qty,
+            _ => self.min_qty.unwrap_or(0),
+        }
+    }
+
     /// The average yield of all executions in millionths: the nearest, halves away from zero; 0 before any.
     pub fn average_millionths(&self) -> i128 {
         match self.executed {
@@ -93,12 +106,11 @@ impl Order {
         }
     }
 
-    /// Whether this order comes before `other` of the same side: by better yield, then by smaller place.
-    pub fn is_before(&self, other: &Order) -> bool {
-        if self.yield_thousandths == other.yield_thousandths {
-            self.place < other.place
-        } else {
-            self.side.is_better(self.yield_thousandths, other.yield_thousandths)
+    /// The order's rank among those of its side, the best having the smallest: by better yield, then by smaller place.
+    pub fn rank(&self) -> (i64, u64) {
+        match self.side {
+            Side::Buy => (self.yield_thousandths, self.place),
+            Side::Sell => (-self.yield_thousandths, self.place),
         }
     }
 

@@ -93,10 +93,12 @@ const PRICE: Slot = needs(44, YIELD);
 const CAPACITY: Slot = needs(47, Shape::OneOf(&["A", "P"]));
 const SIDE: Slot = needs(54, Shape::OneOf(&["1", "2"]));
 const SYMBOL: Slot = needs(55, Shape::Code);
-const TIME_IN_FORCE: Slot = needs(59, Shape::OneOf(&["0", "3"]));
+const TIME_IN_FORCE: Slot = needs(59, Shape::OneOf(&["0", "3", "4"]));
 const TRANSACT_TIME: Slot = needs(60, Shape::Time);
 const CLIENT_ID: Slot = may_have(109, Shape::Number(1, 999_999));
-/// 109 and 797 of a drop copy.
+const MIN_QTY: Slot = may_have(110, QUANTITY);
+/// 59, 109 and 797 of a drop copy, which shows a Fill or Kill as an IOC.
+const TIME_IN_FORCE_OF_COPY: Slot = needs(59, Shape::OneOf(&["0", "3"]));
 const IDENTIFIERS: Slot = needs(109, Shape::Id(30));
 const COPY_MSG_INDICATOR: Slot = needs(797, Shape::OneOf(&["Y"]));
 const LEAVES_QTY: Slot = needs(151, QUANTITY);
@@ -139,6 +141,7 @@ const ACCEPTED: &[Slot] = &[
     TIME_IN_FORCE,
     TRANSACT_TIME,
     CLIENT_ID,
+    MIN_QTY,
     exec_type(&["0"]),
     LEAVES_QTY,
     PRICE_TYPE,
@@ -164,6 +167,7 @@ const REPLACED: &[Slot] = &[
     TIME_IN_FORCE,
     TRANSACT_TIME,
     CLIENT_ID,
+    MIN_QTY,
     exec_type(&["5"]),
     LEAVES_QTY,
     may_have(378, Shape::OneOf(&["100"])),
@@ -191,6 +195,7 @@ const CANCELED: &[Slot] = &[
     TIME_IN_FORCE,
     TRANSACT_TIME,
     CLIENT_ID,
+    MIN_QTY,
     exec_type(&["4"]),
     LEAVES_QTY,
     may_have(378, Shape::OneOf(&["99", "100"])),
@@ -218,6 +223,7 @@ const TRADE: &[Slot] = &[
     TIME_IN_FORCE,
     TRANSACT_TIME,
     CLIENT_ID,
+    MIN_QTY,
     exec_type(&["1", "2"]),
     LEAVES_QTY,
     needs(375, Shape::Number(0, 999_999)),
@@ -324,14 +330,15 @@ fn row_of(kind: Kind) -> &'static [Slot] {
     }
 }
 
-/// The row of a copy: 109 always stands and shows identifiers, and 797=Y stands where ascending tags put it. Rejects
-/// of any sort have no copy.
+/// The row of a copy: 59 is not 4, 109 always stands and shows identifiers, and 797=Y stands where ascending tags put
+/// it. Rejects of any sort have no copy.
 fn row_of_copy(kind: Kind) -> Option<Vec<Slot>> {
     if matches!(kind, Kind::Rejected | Kind::CancelReject | Kind::SessionReject) {
         return None;
     }
-    let but_109 = row_of(kind).iter().copied().filter(|slot| slot.tag != CLIENT_ID.tag);
-    let mut row: Vec<Slot> = but_109.chain([IDENTIFIERS, COPY_MSG_INDICATOR]).collect();
+    let of_copy = [TIME_IN_FORCE_OF_COPY, IDENTIFIERS, COPY_MSG_INDICATOR];
+    let others = row_of(kind).iter().filter(|slot| of_copy.iter().all(|own| own.tag != slot.tag));
+    let mut row: Vec<Slot> = others.chain(&of_copy).copied().collect();
     row.sort_by_key(|slot| slot.tag);
     Some(row)
 }

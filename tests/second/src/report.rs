@@ -22,14 +22,15 @@ pub struct Heading<'a> {
 #[derive(Clone, Copy, Debug, PartialEq, Eq)]
 pub enum Restatement {
     TradePrevention,
-    RestOfIoc,
+    /// What is left of an order that doesn't stay, or all of one that can't reach its minimum.
+    NotStaying,
 }
 
 impl Restatement {
     fn code(self) -> u64 {
         match self {
             Restatement::TradePrevention => 100,
-            Restatement::RestOfIoc => 99,
+            Restatement::NotStaying => 99,
         }
     }
 }
@@ -249,6 +250,9 @@ fn of_order(heading: Heading, record: usize, order: &Order) -> Body {
     }
     if let Some(mpid) = order.mpid {
         body.number(109, mpid);
+    }
+    if let Some(min_qty) = order.min_qty {
+        body.number(110, min_qty);
     }
     body
 }

@@ -31,6 +31,7 @@ pub struct NewOrder<'a> {
     pub symbol: &'a [u8],
     pub time_in_force: TimeInForce,
     pub mpid: Option<u64>,
+    pub min_qty: Option<u64>,
     pub classification: u8,
 }
 
@@ -82,7 +83,7 @@ fn needed(msg_type: MsgType) -> &'static [u32] {
 /// The tags that a type may have besides.
 fn allowed(msg_type: MsgType) -> &'static [u32] {
     match msg_type {
-        MsgType::NewOrder => &[1, 109],
+        MsgType::NewOrder => &[1, 109, 110],
         MsgType::Replace => &[],
         MsgType::Cancel => &[38],
     }
@@ -103,6 +104,7 @@ pub fn request<'a>(message: &Message<'a>, port: &[u8], venue: &[u8]) -> Result<R
     for field in &message.body {
         check_field(field, msg_type)?;
     }
+    check_minimum(message)?;
     check_nothing_is_missing(message, msg_type)?;
     Ok(match msg_type {
         MsgType::NewOrder => Request::New(new_order(message)),
@@ -153,7 +155,7 @@ fn has_shape(field: &Field) -> bool {
     match field.tag {
         1 => value.len() <= 10,
         11 | 41 => value.len() <= 32,
-        38 | 55 => is_digits(value, 9),
+        38 | 55 | 110 => is_digits(value, 9),
         109 => is_digits(value, 6),
         60 => has_time_shape(value),
         44 => yield_thousandths(value).is_some(),
@@ -165,15 +167,30 @@ fn has_shape(field: &Field) -> bool {
 fn has_known_value(field: &Field) -> bool {
     let value = field.value;
     match field.tag {
-        38 | 109 => value.iter().any(|&digit| digit != b'0'),
+        38 | 109 | 110 => value.iter().any(|&digit| digit != b'0'),
         60 => has_time_ranges(value),
         21 => value == b"1",
         40 => value == b"2",
         47 => b"AP".contains(&value[0]),
         54 => b"12".contains(&value[0]),
-        59 => b"03".contains(&value[0]),
+        59 => b"034".contains(&value[0]),
         8060 => b"13456".contains(&value[0]),
         _ => true,
+    }
+}
+
+/// A minimum belongs to an IOC and is at most OrderQty. What it would be compared with may be missing: then nothing is
+/// said here. Only a D has come so far with a 110.
+fn check_minimum(message: &Message) -> Result<(), SessionReject> {
+    let Some(minimum) = number_of(message, 110) else {
+        return Ok(());
+    };
+    let is_ioc = value_of(message, 59).is_none_or(|value| value == b"3");
+    let is_reachable = number_of(message, 38).is_none_or(|order_qty| minimum <= order_qty);
+    if is_ioc && is_reachable {
+        Ok(())
+    } else {
+        Err(SessionReject { tag: 110, reason: reason::VALUE_INCORRECT })
     }
 }
 
@@ -194,9 +211,13 @@ fn needed_value<'a>(message: &Message<'a>, tag: u32) -> &'a [u8] {
     value_of(message, tag).expect("a needed tag is there once nothing is missing")
 }
 
-/// The number of a tag whose shape has been looked at.
+/// The number of a tag, if it is there; its shape has been looked at.
+fn number_of(message: &Message, tag: u32) -> Option<u64> {
+    value_of(message, tag).map(|value| number(value, 9).expect("the shape has been looked at"))
+}
+
 fn needed_number(message: &Message, tag: u32) -> u64 {
-    number(needed_value(message, tag), 9).expect("the shape has been looked at")
+    number_of(message, tag).expect("a needed tag is there once nothing is missing")
 }
 
 fn needed_yield(message: &Message) -> i64 {
@@ -212,10 +233,10 @@ fn side(message: &Message) -> Side {
 }
 
 fn time_in_force(message: &Message) -> TimeInForce {
-    if needed_value(message, 59) == b"0" {
-        TimeInForce::Day
-    } else {
-        TimeInForce::ImmediateOrCancel
+    match needed_value(message, 59) {
+        b"0" => TimeInForce::Day,
+        b"3" => TimeInForce::ImmediateOrCancel,
+        _ => TimeInForce::FillOrKill,
     }
 }
 
@@ -230,7 +251,8 @@ fn new_order<'a>(message: &Message<'a>) -> NewOrder<'a> {
         side: side(message),
         symbol: needed_value(message, 55),
         time_in_force: time_in_force(message),
-        mpid: value_of(message, 109).map(|_| needed_number(message, 109)),
+        mpid: number_of(message, 109),
+        min_qty: number_of(message, 110),
         classification: needed_value(message, 8060)[0],
     }
 }

@@ -4,7 +4,7 @@ use crate::{generate, points, samples};
 
 /// The seed and the number of messages of the generated part.
 pub const SEED: u64 = 20_261_116;
-pub const GENERATED: u64 = 1_250;
+pub const GENERATED: u64 = 1_000;
 
 /// The command file, each line with its LF.
 pub fn commands() -> String {

@@ -15,7 +15,7 @@ use second::report::{split_reports, LONGEST_REPORT};
 use second::transcript::{Command, Desk};
 
 /// Seeds and sizes of the histories; the second is long enough for full tables.
-const HISTORIES: [(u64, u64); 3] = [(1, 700), (2, 2_700), (3, 500)];
+const HISTORIES: [(u64, u64); 3] = [(1, 900), (2, 2_700), (3, 900)];
 
 /// What the reports have said about one order.
 #[derive(Clone, Debug, Default, PartialEq, Eq)]
@@ -113,12 +113,17 @@ impl BackOffice {
     }
 }
 
-/// A copy has the report's kind and fields, but for 9, 10, 17, 34, 109 and 797.
+/// A copy has the report's kind and fields, but for 9, 10, 17, 34, 109 and 797, and for 59 and 110 of a Fill or Kill.
 fn assert_same_but_for_six_fields(copy: &Report, report: &Report) {
+    let is_fill_or_kill = report.value(59) == Some(b"4");
+    let changes = if is_fill_or_kill { &[9, 10, 17, 34, 59, 109, 110, 797][..] } else { &[9, 10, 17, 34, 109, 797] };
     let others = |of: &Report| -> Vec<(u32, Vec<u8>)> {
-        let fields = of.fields.iter().filter(|field| ![9, 10, 17, 34, 109, 797].contains(&field.tag));
+        let fields = of.fields.iter().filter(|field| !changes.contains(&field.tag));
         fields.map(|field| (field.tag, field.value.to_vec())).collect()
     };
+    if is_fill_or_kill {
+        assert_eq!((copy.value(59), copy.value(110), report.value(110)), (Some(&b"3"[..]), report.value(38), None));
+    }
     assert_eq!((copy.kind, others(copy)), (report.kind, others(report)));
     assert_eq!((copy.value(109), copy.value(797)), (Some(&b"PORT1-DESK"[..]), Some(&b"Y"[..])));
 }
@@ -183,7 +188,11 @@ fn assert_is_market(market: &Market) {
         assert!(order.sum.abs() <= i128::from(order.executed) * 999_999_999);
         assert!(order.mpid.is_none_or(|mpid| market.mpids().contains(&mpid)));
         assert!((1..market.next_number()).contains(&order.place));
+        assert!(order.min_qty.is_none_or(|minimum| (1..=order.order_qty).contains(&minimum)));
+        assert!(order.min_qty.is_none() || order.time_in_force == TimeInForce::ImmediateOrCancel);
     }
+    let in_work = market.in_work().map(|record| &orders[record - 1]);
+    assert!(!market.is_decided() || in_work.is_some_and(|order| order.minimum() > 0));
     assert_eq!(orders.iter().map(|order| &order.cl_ord_id).collect::<BTreeSet<_>>().len(), orders.len());
     assert_eq!(orders.iter().map(|order| order.place).collect::<BTreeSet<_>>().len(), orders.len());
     assert_uncrossed(market);
@@ -211,6 +220,18 @@ fn assert_numbers_suffice(market: &Market) {
     }
 }
 
+/// An order with a minimum whose work has ended has executed at least that, or it was canceled whole and the other
+/// orders are as they were before it came.
+fn assert_minimum_kept(before: &Market, after: &Market, record: usize) {
+    let (orders, order) = (after.orders(), &after.orders()[record - 1]);
+    if order.executed >= order.minimum() {
+        return;
+    }
+    assert_eq!((order.executed, order.decremented, order.canceled), (0, 0, order.order_qty));
+    let others = |orders: &[Order]| -> Vec<Order> { [&orders[..record - 1], &orders[record..]].concat() };
+    assert_eq!(others(orders), others(before.orders()));
+}
+
 /// How many open opposite orders the order in work meets.
 fn met(market: &Market) -> u64 {
     let order = &market.orders()[market.in_work().expect("an order is in work") - 1];
@@ -224,6 +245,7 @@ struct History {
     reconciliation: BackOffice,
     full: BackOffice,
     steps_left: u64,
+    taken: Option<Market>,
 }
 
 impl History {
@@ -234,6 +256,7 @@ impl History {
             reconciliation: BackOffice::new(1),
             full: BackOffice::new(2),
             steps_left: 0,
+            taken: None,
         }
     }
 
@@ -275,6 +298,7 @@ impl History {
         }
         if submitted.number == 0 && self.market().in_work().is_some() {
             self.steps_left = met(self.market()) + 1;
+            self.taken = self.desk.market().cloned();
             let report = read(&submitted.report).expect("what is written can be read");
             if report.kind == Kind::Replaced {
                 assert_place_follows(before.expect("a market is open"), self.market(), &report);
@@ -295,6 +319,10 @@ impl History {
         assert!(ran.steps <= self.steps_left, "done within m + 1 steps");
         self.steps_left -= ran.steps;
         assert_eq!(self.market().in_work().is_none(), self.is_stepwise_end(before, ran.steps));
+        if self.market().in_work().is_none() {
+            let taken = self.taken.as_ref().expect("what was in work was taken");
+            assert_minimum_kept(taken, self.market(), taken.in_work().expect("it was in work"));
+        }
     }
 
     /// Whether so many single steps, each with room of its own, end the work that stood before.
@@ -367,7 +395,7 @@ fn a_generated_history_meets_every_outcome() {
             *answers.entry(words.join(" ")).or_default() += 1;
             let fields = answer
                 .split('|')
-                .filter(|field| ["103=", "102=", "373=", "378="].iter().any(|tag| field.starts_with(tag)));
+                .filter(|field| ["103=", "102=", "371=110", "373=", "378="].iter().any(|tag| field.starts_with(tag)));
             for field in fields {
                 *answers.entry(field.to_string()).or_default() += 1;
             }
@@ -377,7 +405,7 @@ fn a_generated_history_meets_every_outcome() {
         "o 0", "o 9", "s 0", "s 1", "s 3", "s 4", "s 5", "s 6", "s 7", "s 8", "r 0", "r 1", "d 0", "d 3", "d 10",
         "x 11", "x 0 1", "x 0 2", "x 0 3", "x 0 4", "x 0 5", "x 0 6", "x 0 7", "103=0", "103=1", "103=6", "103=99",
         "102=0", "102=1", "102=2", "373=1", "373=2", "373=3", "373=4", "373=5", "373=6", "373=9", "373=11", "378=99",
-        "378=100", "c 0", "c 1", "c 4", "c 11", "c 17", "y 11", "y 0 1", "y 0 2", "y 0 3", "y 0 4",
+        "371=110", "378=100", "c 0", "c 1", "c 4", "c 11", "c 17", "y 11", "y 0 1", "y 0 2", "y 0 3", "y 0 4",
     ] {
         assert!(answers.contains_key(outcome), "{outcome} never came up");
     }
@@ -401,6 +429,51 @@ fn generated_messages_have_both_lengths_of_time_in_52_and_60() {
         }
     }
     assert_eq!(lengths, BTreeSet::from([(17, 17), (17, 21), (21, 17), (21, 21)]));
+}
+
+/// The orders with a minimum that ended in a history: how many traded and how many were killed, by the mode of their
+/// MPID, if they meet orders of their own.
+fn ends_of_minimums(commands: &[Command]) -> BTreeMap<(u64, bool), u64> {
+    let mut desk = Desk::new();
+    let mut ends = BTreeMap::new();
+    let mut modes = BTreeMap::new();
+    let mut waiting: Option<(usize, u64)> = None;
+    for command in commands {
+        let answer = desk.answer(command);
+        if let (Command::Open { participants, .. }, "o 0") = (command, answer.as_str()) {
+            modes = participants.iter().map(|entry| (entry.mpid, entry.mode)).collect();
+            waiting = None;
+        }
+        let Some(market) = desk.market() else { continue };
+        match (market.in_work(), waiting) {
+            (Some(record), None) => {
+                let order = &market.orders()[record - 1];
+                let opposite = open_orders(market, order.side.opposite());
+                let meets_own = opposite.iter().any(|other| order.meets(other) && other.mpid == order.mpid);
+                let mode = order.mpid.filter(|_| meets_own).map_or(0, |mpid| modes[&mpid]);
+                waiting = (order.minimum() > 0).then_some((record, mode));
+            }
+            (None, Some((record, mode))) => {
+                let is_killed = market.orders()[record - 1].executed == 0;
+                *ends.entry((mode, is_killed)).or_default() += 1;
+                waiting = None;
+            }
+            _ => {}
+        }
+    }
+    ends
+}
+
+#[test]
+fn generated_minimums_are_reached_and_missed_in_all_three_modes() {
+    let all: Vec<Command> = HISTORIES.iter().flat_map(|&(seed, count)| commands(seed, count)).collect();
+    let ends = ends_of_minimums(&all);
+    for mode in 0..=3 {
+        for is_killed in [false, true] {
+            let count = ends.get(&(mode, is_killed)).copied().unwrap_or(0);
+            assert!(count >= 5, "mode {mode}, killed {is_killed}: {count}");
+        }
+    }
 }
 
 /// Whether an open order of the same side and yield stands behind this one.

@@ -79,7 +79,7 @@ fn longest_reports() -> [Vec<u8>; 2] {
     let id = "x".repeat(32);
     let head =
         "35=8|34=999999999|49=12345678|50=DJGB|52=20261116-09:00:00.000|56=12345678|1=0123456789|6=-999999.999999|";
-    let tail = "47=A|54=1|55=123456789|59=0|60=20261116-09:00:00.000|109=999999|";
+    let tail = "47=A|54=1|55=123456789|59=0|60=20261116-09:00:00.000|109=999999|110=999999999|";
     let trade = format!(
         "{head}11={id}|14=999999999|17=999999999|20=0|31=-999999.999|32=999999999|37=255|38=999999999|39=1|40=2|\
          44=-999999.999|{tail}150=1|151=999999999|375=999999|382=1|423=9|851=1|880=999999999|8060=1|"
@@ -92,16 +92,16 @@ fn longest_reports() -> [Vec<u8>; 2] {
 }
 
 #[test]
-fn the_longest_reports_are_402_bytes() {
+fn the_longest_reports_are_416_bytes() {
     let reports = longest_reports();
     assert!(reports.iter().all(|report| read(report).is_some()));
-    assert_eq!(reports.map(|report| report.len()).into_iter().max(), Some(402));
+    assert_eq!(reports.map(|report| report.len()).into_iter().max(), Some(416));
 }
 
 #[test]
-fn the_longest_copies_are_432_bytes() {
+fn the_longest_copies_are_446_bytes() {
     let feed = Feed { subscription: 2, shows: 3, port: vec![b'p'; 15], group: vec![b'g'; 14], next: 999_999_999 };
     let copies = longest_reports().map(|report| copy(&feed, 1024, &report).copy);
     assert!(copies.iter().all(|copy| read_copy(copy).is_some()));
-    assert_eq!(copies.map(|copy| copy.len()).into_iter().max(), Some(432));
+    assert_eq!(copies.map(|copy| copy.len()).into_iter().max(), Some(446));
 }

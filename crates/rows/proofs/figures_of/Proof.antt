@@ -8,6 +8,9 @@ use Rattle.rows.proofs.figures_of.Tie as tie
 or-number-requires : tie.Need-or-number-requires
 or-number-requires c κs = search needs
 
+or-number-requires-2 : tie.Need-or-number-requires-2
+or-number-requires-2 c κs = search needs
+
 digit-requires : tie.Need-digit-requires
 digit-requires c κs = search needs
 
@@ -37,13 +40,14 @@ open-of-requires c κs = search needs
 
 returns : tie.Need-returns
 unfolding figuresOf
-returns c = λ j. record { client = c .before .before .before .before .before .before .before .before .before .or-number .ensures j; mean = c .before .avg-px .ensures j; left = c .open-of .ensures j; side = c .before .before .before .before .before .before .before .before .digit .ensures j; tif = c .before .before .before .before .before .before .before .digit2 .ensures j; class = c .before .before .before .before .before .before .digit3 .ensures j; traded = (c .before .before .before .before .digit4 .ensures ∙ ap digit (c .before .before .before .before .before .trade-status .ensures)) j; replaced = (c .before .before .digit5 .ensures ∙ ap digit (c .before .before .before .replaced-status .ensures)) j }
+returns c = λ j. record { client = c .before .before .before .before .before .before .before .before .before .before .or-number .ensures j; least = c .before .before .before .before .before .before .before .before .before .or-number2 .ensures j; mean = c .before .avg-px .ensures j; left = c .open-of .ensures j; side = c .before .before .before .before .before .before .before .before .digit .ensures j; tif = c .before .before .before .before .before .before .before .digit2 .ensures j; class = c .before .before .before .before .before .before .digit3 .ensures j; traded = (c .before .before .before .before .digit4 .ensures ∙ ap digit (c .before .before .before .before .before .trade-status .ensures)) j; replaced = (c .before .before .digit5 .ensures ∙ ap digit (c .before .before .before .replaced-status .ensures)) j }
 
 pub figures-of-spec : {M : Type 1} → statement M
 figures-of-spec =
     tie.close
     (tie.spec
     or-number-requires
+    or-number-requires-2
     digit-requires
     digit-requires-2
     digit-requires-3

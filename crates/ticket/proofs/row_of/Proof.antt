@@ -1,5 +1,5 @@
 -- `ticket::row_of` meets its contract, event by event.
-use Rattle.ticket.proofs.Events.{shown-sound, fill-ready, accepted-is, replaced-is, withdrawn-is, canceled-is, decremented-is, traded-is, expired-is}
+use Rattle.ticket.proofs.Events.{shown-sound, fill-ready, accepted-is, replaced-is, withdrawn-is, canceled-is, decremented-is, traded-is, killed-is, expired-is}
 use borrow.Author.Needs.{needs}
 use Rattle.ticket.proofs.row_of.Statement.{statement}
 use Rattle.ticket.proofs.row_of.Tie as tie
@@ -73,6 +73,15 @@ expired-requires c κs = search needs
 canceled-row-requires-3 : tie.Need-canceled-row-requires-3
 canceled-row-requires-3 c κs = shown-sound (c .before .before .before .before .before .before .before .before .before .args .t .now) (c .before .before .before .before .before .before .before .before .before .args .n) (c .before .before .before .before .before .before .before .before .before .args .c) (c .before .before .before .before .before .before .before .before .before .args .e) (c .before .before .before .before .before .stamp-on .result) (c .before .before .before .before .order-of .result) (c .before .before .before .shown-on .result) (c .before .before .before .before .before .before .before .before .before .pre) (c .before .before .before .before .order-of .ensures) (c .before .before .before .shown-on .ensures)
 
+enum-told-7 : tie.Need-enum-told-7
+enum-told-7 c = search needs
+
+expired-requires-2 : tie.Need-expired-requires-2
+expired-requires-2 c κs = search needs
+
+canceled-row-requires-4 : tie.Need-canceled-row-requires-4
+canceled-row-requires-4 c κs = shown-sound (c .before .before .before .before .before .before .before .before .before .args .t .now) (c .before .before .before .before .before .before .before .before .before .args .n) (c .before .before .before .before .before .before .before .before .before .args .c) (c .before .before .before .before .before .before .before .before .before .args .e) (c .before .before .before .before .before .stamp-on .result) (c .before .before .before .before .order-of .result) (c .before .before .before .shown-on .result) (c .before .before .before .before .before .before .before .before .before .pre) (c .before .before .before .before .order-of .ensures) (c .before .before .before .shown-on .ensures)
+
 returns : tie.Need-returns
 returns c = accepted-is (c .before .before .before .before .before .before .before .before .before .args .t .now) (c .before .before .before .before .before .before .before .before .before .args .n) (c .before .before .before .before .before .before .before .before .before .args .c) (c .before .before .before .before .before .before .before .before .before .args .e) (c .before .before .before .before .before .stamp-on .result) (c .before .before .before .before .order-of .result) (c .before .before .before .shown-on .result) (c .before .before .before .before .before .stamp-on .ensures) (c .before .before .before .before .order-of .ensures) (c .before .before .before .shown-on .ensures) (c .accepted-row .result) (c .before .enum-told .given .1) (c .accepted-row .ensures)
 
@@ -92,7 +101,10 @@ returns-6 : tie.Need-returns-6
 returns-6 c = traded-is (c .before .before .before .before .before .before .before .before .before .before .before .args .t .now) (c .before .before .before .before .before .before .before .before .before .before .before .args .n) (c .before .before .before .before .before .before .before .before .before .before .before .args .c) (c .before .before .before .before .before .before .before .before .before .before .before .args .e) (c .before .before .before .before .before .before .before .stamp-on .result) (c .before .before .before .before .before .before .order-of .result) (c .before .before .before .before .before .shown-on .result) (c .before .before .before .before .before .before .before .stamp-on .ensures) (c .before .before .before .before .before .before .order-of .ensures) (c .before .before .before .before .before .shown-on .ensures) (c .before .fill-on .result) (c .trade-row .result) (c .before .before .before .e .given .1) (c .before .fill-on .ensures) (c .trade-row .ensures)
 
 returns-7 : tie.Need-returns-7
-returns-7 c = expired-is (c .before .before .before .before .before .before .before .before .before .before .args .t .now) (c .before .before .before .before .before .before .before .before .before .before .args .n) (c .before .before .before .before .before .before .before .before .before .before .args .c) (c .before .before .before .before .before .before .before .before .before .before .args .e) (c .before .before .before .before .before .before .stamp-on .result) (c .before .before .before .before .before .order-of .result) (c .before .before .before .before .shown-on .result) (c .before .before .before .before .before .before .stamp-on .ensures) (c .before .before .before .before .before .order-of .ensures) (c .before .before .before .before .shown-on .ensures) (c .before .expired .result) (c .canceled-row3 .result) (c .before .before .enum-told6 .given .1) (c .before .expired .ensures) (c .canceled-row3 .ensures)
+returns-7 c = killed-is (c .before .before .before .before .before .before .before .before .before .before .args .t .now) (c .before .before .before .before .before .before .before .before .before .before .args .n) (c .before .before .before .before .before .before .before .before .before .before .args .c) (c .before .before .before .before .before .before .before .before .before .before .args .e) (c .before .before .before .before .before .before .stamp-on .result) (c .before .before .before .before .before .order-of .result) (c .before .before .before .before .shown-on .result) (c .before .before .before .before .before .before .stamp-on .ensures) (c .before .before .before .before .before .order-of .ensures) (c .before .before .before .before .shown-on .ensures) (c .before .expired .result) (c .canceled-row3 .result) (c .before .before .enum-told6 .given .1) (c .before .expired .ensures) (c .canceled-row3 .ensures)
+
+returns-8 : tie.Need-returns-8
+returns-8 c = expired-is (c .before .before .before .before .before .before .before .before .before .before .args .t .now) (c .before .before .before .before .before .before .before .before .before .before .args .n) (c .before .before .before .before .before .before .before .before .before .before .args .c) (c .before .before .before .before .before .before .before .before .before .before .args .e) (c .before .before .before .before .before .before .stamp-on .result) (c .before .before .before .before .before .order-of .result) (c .before .before .before .before .shown-on .result) (c .before .before .before .before .before .before .stamp-on .ensures) (c .before .before .before .before .before .order-of .ensures) (c .before .before .before .before .shown-on .ensures) (c .before .expired2 .result) (c .canceled-row4 .result) (c .before .before .enum-told7 .given .1) (c .before .expired2 .ensures) (c .canceled-row4 .ensures)
 
 pub row-of-spec : {M : Type 1} → statement M
 row-of-spec =
@@ -121,10 +133,14 @@ row-of-spec =
     enum-told-6
     expired-requires
     canceled-row-requires-3
+    enum-told-7
+    expired-requires-2
+    canceled-row-requires-4
     returns
     returns-2
     returns-3
     returns-4
     returns-5
     returns-6
-    returns-7)
+    returns-7
+    returns-8)

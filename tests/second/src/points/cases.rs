@@ -4,7 +4,7 @@ use crate::compose::{cancel, new_order, order, order_of};
 use crate::script::Script;
 
 /// Book R: four sells, records 1 to 4, A's being record 3.
-fn book_r(script: &mut Script, mode: u64) {
+pub(super) fn book_r(script: &mut Script, mode: u64) {
     script.open(mode);
     script.rests(&order_of("11", "s1", "2", "100", "0.101"));
     script.rests(&order_of("12", "s2", "2", "200", "0.100"));

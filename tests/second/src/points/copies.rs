@@ -142,6 +142,21 @@ pub fn ranges_and_sets_of_a_copy_are_those_of_a_report(script: &mut Script) {
     }
 }
 
+pub fn minimums_of_a_copy(script: &mut Script) {
+    script.say("Copy read: 59 is 0 or 3, with a 110 or without; a Fill or Kill never stands on a copy");
+    for (copy, kind) in one_of_each() {
+        let with_minimum = copy.clone().inserting("150", "110", "100");
+        for copy in [copy, with_minimum.clone()] {
+            all_read(script, &copy, kind, "59", &["0", "3"]);
+            none_read(script, &copy, "59", &["4"]);
+        }
+        all_read(script, &with_minimum, kind, "110", &["0", "101", "999999999"]);
+        none_read(script, &with_minimum, "110", &["1000000000", "0100", ""]);
+        script.copy_not_read(&with_minimum.clone().swapping("109", "110"));
+        script.copy_not_read(&with_minimum.clone().swapping("110", "150"));
+    }
+}
+
 pub fn forms_of_a_copy_are_those_of_a_report(script: &mut Script) {
     script.say("Copy read: Canceled has 41 or 378, not both and not neither; Replaced has 378=100 or none");
     script.copy_not_read(&copy_of(canceled_by_request()).without("41"));
@@ -187,6 +202,6 @@ pub fn tags_of_a_copy_stand_in_their_order(script: &mut Script) {
         script.copy_not_read(&copy.clone().without(tag));
     }
     script.copy_not_read(&copy.clone().inserting("109", "109", "PORT1"));
-    script.copy_not_read(&copy.clone().inserting("150", "110", "5"));
+    script.copy_not_read(&copy.clone().inserting("151", "110", "5"));
     script.copy_not_read(&copy.clone().adding("9999", "x"));
 }

@@ -282,6 +282,34 @@ pub fn a_copy_is_the_report_but_for_six_fields(script: &mut Script) {
     );
 }
 
+pub fn a_fill_or_kill_is_copied_as_an_ioc_with_a_minimum(script: &mut Script) {
+    script.say("Feed: 59=4 is copied as 59=3 with a 110 that is 38, on every form of copy");
+    for report in about_orders() {
+        let fill_or_kill = report.with("59", "4").with("38", "250");
+        script.copied(&feed(PORT, 5), &fill_or_kill, &["59=3", "38=250", "109=PORT1|110=250"]);
+    }
+    script.copied_whole(&feed(PORT, 5), &accepted().with("59", "4"), "8=FIX.4.2|9=212|35=8|34=5|49=V|50=DJGB|52=20261116-09:00:00|56=P|1=acct|6=0.000000|11=a|14=0|17=5|20=0|37=3|38=100|39=0|40=2|44=0.100|47=A|54=1|55=350|59=3|60=20261116-09:00:00|109=PORT1|110=100|150=0|151=100|423=9|797=Y|8060=1|10=242|");
+    script.say("Feed: also where the report has another 110, and where 38 is 0 or has nine digits");
+    for (order_qty, min_qty) in [("250", "7"), ("0", "7"), ("999999999", "1"), ("100", "100")] {
+        let report = accepted().with("59", "4").with("38", order_qty).inserting("150", "110", min_qty);
+        let shown = format!("110={order_qty}");
+        script.copied(&feed(GROUP, 5), &report, &["59=3", &shown]);
+    }
+    script.say("Feed: what is not 59=4 keeps its 59 and its 110, or has none");
+    for report in about_orders() {
+        for time_in_force in ["0", "3"] {
+            let plain = report.clone().with("59", time_in_force);
+            let shown = format!("59={time_in_force}");
+            script.copied(&feed(PORT, 5), &plain, &[&shown, "no 110"]);
+            script.copied(&feed(PORT, 5), &plain.inserting("150", "110", "7"), &[&shown, "110=7"]);
+        }
+    }
+    script.say("Feed: a report that is not copied is none with 59=4 either");
+    let reconciliation = Feed { subscription: RECONCILIATION, ..feed(BOTH, 5) };
+    script.not_copied(&reconciliation, &accepted().with("59", "4"));
+    script.copied(&reconciliation, &trade().with("59", "4"), &["59=3", "110=100"]);
+}
+
 pub fn fields_that_look_like_others_are_not_touched(script: &mut Script) {
     script.say("Feed: fields that look like those that change are not touched");
     script.copied(
@@ -317,6 +345,7 @@ pub fn the_longest_copies(script: &mut Script) {
             .with("55", "123456789")
             .with("60", "20261116-09:00:00.123")
             .with("151", "999999999")
+            .inserting("150", "110", "999999999")
     };
     let longest_trade = long(trade()).with("31", "-999999.999").with("32", "999999999").with("375", "999999");
     let longest = Feed { next: 999_999_999, ..showing(BOTH, &identifier(15), &identifier(14)) };

@@ -19,6 +19,8 @@ pub mod feeds;
 
 pub mod messages;
 
+pub mod minimums;
+
 pub mod opening;
 
 pub mod reading;
@@ -160,6 +162,20 @@ points! {
         a_rejected_replacement_leaves_the_place
         places_kept_and_taken_among_many
     }
+    minimums {
+        a_fill_or_kill_trades_all_or_nothing
+        a_minimum_in_mode_1_ends_at_the_first_order_of_ones_own
+        a_minimum_in_mode_2_passes_over_ones_own
+        a_minimum_in_mode_3_is_used_up_by_ones_own
+        a_sell_has_a_minimum_like_a_buy
+        deciding_is_part_of_the_first_step
+        a_killed_order_is_canceled_like_any_other
+        shape_and_values_of_a_minimum
+        a_minimum_beside_other_fields
+        a_minimum_belongs_to_a_new_order_alone
+        reports_show_the_minimum_that_was_sent
+        whole_bytes_with_minimums
+    }
     opening {
         levels_past_the_last
         in_work_comes_before_a_wrong_side
@@ -213,6 +229,7 @@ points! {
         read_seven_kinds
         read_body_length_is_canonical_and_true
         read_account_and_mpid_on_the_execution_kinds_only
+        read_minimums
         read_wants_tags_in_their_order
     }
     feeds {
@@ -230,6 +247,7 @@ points! {
         refusals_of_a_feed_come_in_their_order
         what_is_no_report_is_not_copied
         a_copy_is_the_report_but_for_six_fields
+        a_fill_or_kill_is_copied_as_an_ioc_with_a_minimum
         fields_that_look_like_others_are_not_touched
         the_longest_copies
     }
@@ -240,6 +258,7 @@ points! {
         identifiers_of_a_copy
         numbers_of_a_copy
         ranges_and_sets_of_a_copy_are_those_of_a_report
+        minimums_of_a_copy
         forms_of_a_copy_are_those_of_a_report
         one_copy_and_nothing_beside_it
         tags_of_a_copy_stand_in_their_order

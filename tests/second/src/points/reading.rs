@@ -204,7 +204,8 @@ pub fn read_sets_of_values(script: &mut Script) {
     none_read(script, &trade(), "47", &["a", "I", "AA", ""]);
     none_read(script, &trade(), "54", &["0", "3", "12"]);
     none_read(script, &rejected(), "54", &["3"]);
-    none_read(script, &trade(), "59", &["1", "4", ""]);
+    all_read(script, &trade(), TRADE, "59", &["0", "3", "4"]);
+    none_read(script, &trade(), "59", &["1", "2", "5", "04", ""]);
     all_read(script, &trade(), TRADE, "8060", &["1", "3", "4", "5", "6"]);
     none_read(script, &trade(), "8060", &["0", "2", "7", ""]);
 }
@@ -365,7 +366,8 @@ pub fn read_one_report_and_nothing_after_it(script: &mut Script) {
         .with("37", "255")
         .with("52", "20261116-09:00:00.123")
         .with("60", "20261116-09:00:00.123")
-        .inserting("150", "109", "999999");
+        .inserting("150", "109", "999999")
+        .inserting("150", "110", "999999999");
     script.read_as(&draft, REPLACED);
     script.say("Read: the longest Trade");
     let draft = trade()
@@ -387,6 +389,7 @@ pub fn read_one_report_and_nothing_after_it(script: &mut Script) {
         .with("52", "20261116-09:00:00.123")
         .with("60", "20261116-09:00:00.123")
         .with("109", "999999")
+        .inserting("150", "110", "999999999")
         .with("375", "999999")
         .with("880", "999999999");
     script.read_as(&draft, TRADE);
@@ -452,6 +455,39 @@ pub fn read_account_and_mpid_on_the_execution_kinds_only(script: &mut Script) {
     script.not_read(&session_reject().inserting("371", "109", "10"));
 }
 
+pub fn read_minimums(script: &mut Script) {
+    script.say("Read: 110 is a quantity, optional on the four execution kinds, and compared with nothing");
+    for (report, kind) in [
+        (accepted(), ACCEPTED),
+        (replaced(), REPLACED),
+        (decremented(), REPLACED),
+        (canceled_by_request(), CANCELED),
+        (canceled_unrequested("99"), CANCELED),
+        (canceled_unrequested("100"), CANCELED),
+        (trade(), TRADE),
+    ] {
+        for time_in_force in ["0", "3", "4"] {
+            script.read_as(&report.clone().with("59", time_in_force), kind);
+            script.read_as(&report.clone().with("59", time_in_force).inserting("150", "110", "101"), kind);
+        }
+        let with_minimum = report.inserting("150", "110", "7");
+        all_read(script, &with_minimum, kind, "110", &["0", "1", "999999999"]);
+        none_read(script, &with_minimum, "110", &["1000000000", "007", "", "x"]);
+        script.read_as(&with_minimum.clone().without("109"), kind);
+        script.not_read(&with_minimum.clone().swapping("60", "110"));
+        script.not_read(&with_minimum.clone().swapping("110", "150"));
+    }
+    let with_minimum = trade().inserting("150", "110", "7");
+    none_read(script, &with_minimum, "110", &["00", "-1", "+1", "1.0", " 1", "1 ", "NONE"]);
+    script.not_read(&with_minimum.clone().swapping("109", "110"));
+    script.not_read(&with_minimum.inserting("150", "110", "7"));
+    script.say("Read: and on no other kind");
+    script.not_read(&rejected().inserting("150", "110", "7"));
+    script.not_read(&rejected().inserting("103", "59", "4"));
+    script.not_read(&cancel_reject().inserting("434", "110", "7"));
+    script.not_read(&session_reject().inserting("371", "110", "7"));
+}
+
 pub fn read_wants_tags_in_their_order(script: &mut Script) {
     script.say("Read: two fields that change places, one that is missing, doubled or added, are refused");
     for (report, _) in one_of_each() {
@@ -475,13 +511,12 @@ pub fn read_wants_tags_in_their_order(script: &mut Script) {
             script.not_read(&trade().without(&tag));
         }
     }
-    script.say("Read: 41 and 378 stand on no Accepted and no Trade, 31 on no Canceled, 110 and 797 nowhere");
+    script.say("Read: 41 and 378 stand on no Accepted and no Trade, 31 on no Canceled, 797 nowhere");
     script.not_read(&accepted().inserting("44", "41", "x"));
     script.not_read(&accepted().inserting("423", "378", "100"));
     script.not_read(&trade().inserting("44", "41", "x"));
     script.not_read(&trade().inserting("382", "378", "100"));
     script.not_read(&canceled_by_request().inserting("37", "31", "0.100"));
-    script.not_read(&accepted().inserting("150", "110", "1"));
     script.not_read(&accepted().inserting("8060", "797", "Y"));
     script.not_read(&replaced().without("41"));
 }

@@ -26,7 +26,7 @@ pub fn fields_are_asked_one_by_one_from_the_left(script: &mut Script) {
 pub fn tags_of_no_list_are_undefined(script: &mut Script) {
     script.say("Session Reject: tags in none of the three lists are 3, also those that reports have");
     script.open(1);
-    for tag in [2, 6, 14, 15, 37, 39, 45, 58, 102, 103, 110, 150, 151, 371, 378, 423, 797, 8061, 9999] {
+    for tag in [2, 6, 14, 15, 37, 39, 45, 58, 102, 103, 111, 150, 151, 371, 378, 423, 797, 8061, 9999] {
         script.session_reject(&new_order("a").adding(&tag.to_string(), "1"), 3, tag);
     }
 }
@@ -35,7 +35,7 @@ pub fn tags_of_another_type(script: &mut Script) {
     script.say("Session Reject: in another type's list, but neither needed nor allowed here: 2, also when empty");
     script.open(1);
     script.session_reject(&new_order("a").adding("41", "x"), 2, 41);
-    for (tag, value) in [(1, "x"), (47, "A"), (59, "0"), (109, "10"), (8060, "1")] {
+    for (tag, value) in [(1, "x"), (47, "A"), (59, "0"), (109, "10"), (110, "1"), (8060, "1")] {
         let tag_text = tag.to_string();
         script.session_reject(&replace("x", "a", "1", "1", "1").adding(&tag_text, value), 2, tag);
         script.session_reject(&cancel("x", "a", "1").adding(&tag_text, value), 2, tag);
@@ -77,7 +77,7 @@ pub fn one_character_is_shape_and_the_set_is_values(script: &mut Script) {
     script.say("Session Reject: two characters are 6, a character outside the set is 5");
     script.open(1);
     for (tag, known, unknown) in
-        [(21, "1", "2"), (40, "2", "1"), (47, "A", "I"), (54, "1", "3"), (59, "0", "4"), (8060, "1", "2")]
+        [(21, "1", "2"), (40, "2", "1"), (47, "A", "I"), (54, "1", "3"), (59, "0", "6"), (8060, "1", "2")]
     {
         let tag_text = tag.to_string();
         script.session_reject(&new_order("a").with(&tag_text, unknown), 5, tag);
@@ -85,13 +85,14 @@ pub fn one_character_is_shape_and_the_set_is_values(script: &mut Script) {
         script.session_reject(&new_order("a").with(&tag_text, &format!("{known} ")), 6, tag);
         script.session_reject(&new_order("a").with(&tag_text, " "), 5, tag);
     }
-    for (tag, value) in [(21, "3"), (47, "Q"), (54, "0"), (59, "1"), (59, "5"), (8060, "0"), (8060, "7")] {
+    for (tag, value) in [(21, "3"), (47, "Q"), (54, "0"), (59, "1"), (59, "2"), (59, "5"), (8060, "0"), (8060, "7")] {
         script.session_reject(&new_order("a").with(&tag.to_string(), value), 5, tag);
     }
     script.say("Session Reject: every value of the sets is taken and said back");
     for (id, tag, value) in [
         ("a", "47", "P"),
         ("b", "59", "3"),
+        ("g", "59", "4"),
         ("c", "8060", "3"),
         ("d", "8060", "4"),
         ("e", "8060", "5"),

@@ -1,7 +1,7 @@
 -- `audit::is_done_at` meets its contract.
 use mathlib.Core.Path.{_∙_}
 use Rattle.audit.proofs.Amounts.{narrow-load}
-use Rattle.audit.proofs.Walked.{not-ioc}
+use Rattle.audit.proofs.Walked.{day-done}
 use borrow.Author.Needs.{needs}
 use Rattle.audit.proofs.book.is_done_at.Statement.{statement}
 use Rattle.audit.proofs.book.is_done_at.Tie as tie
@@ -16,7 +16,7 @@ shared-slice-read-if1 : tie.Need-shared-slice-read-if1
 shared-slice-read-if1 c = search needs
 
 returns : tie.Need-returns
-returns c = not-ioc _ _ (c .if1 .taken)
+returns c = day-done _ _ (c .if1 .taken)
 
 load-requires : tie.Need-load-requires
 load-requires c κs = search needs

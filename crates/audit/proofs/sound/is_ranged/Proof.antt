@@ -1,12 +1,17 @@
 -- `audit::is_ranged` meets its contract.
-use mathlib.Core.Path.{refl}
-use Rattle.table.specs.Market.{isRanged}
+use borrow.Author.Needs.{needs}
+use Rattle.audit.proofs.Amounts.{ranged-is}
 use Rattle.audit.proofs.sound.is_ranged.Statement.{statement}
 use Rattle.audit.proofs.sound.is_ranged.Tie as tie
 
+is-immediate-requires : tie.Need-is-immediate-requires
+is-immediate-requires c κs = search needs
+
+may-minimum-requires : tie.Need-may-minimum-requires
+may-minimum-requires c κs = search needs
+
 returns : tie.Need-returns
-unfolding isRanged
-returns c = refl
+returns c = search (needs, ranged-is)
 
 pub is-ranged-spec : {M : Type 1} → statement M
-is-ranged-spec = tie.close (tie.spec returns)
+is-ranged-spec = tie.close (tie.spec is-immediate-requires may-minimum-requires returns)

@@ -22,6 +22,12 @@ add-is-account c = search needs
 is-account-requires : tie.Need-is-account-requires
 is-account-requires c κs = search needs
 
+add-zeros-at : tie.Need-add-zeros-at
+add-zeros-at c = search needs
+
+zeros-at-requires : tie.Need-zeros-at-requires
+zeros-at-requires c κs = search needs
+
 add-is-unused : tie.Need-add-is-unused
 add-is-unused c = search needs
 
@@ -42,6 +48,8 @@ is-record-spec =
     is-text-requires
     add-is-account
     is-account-requires
+    add-zeros-at
+    zeros-at-requires
     add-is-unused
     is-unused-requires
     returns)

@@ -22,26 +22,8 @@ add-le-at c = search needs
 le-at-requires : tie.Need-le-at-requires
 le-at-requires c κs = search needs
 
-add-le-at-2 : tie.Need-add-le-at-2
-add-le-at-2 c = search needs
-
-le-at-requires-2 : tie.Need-le-at-requires-2
-le-at-requires-2 c κs = search needs
-
-add-le-at-3 : tie.Need-add-le-at-3
-add-le-at-3 c = search needs
-
-le-at-requires-3 : tie.Need-le-at-requires-3
-le-at-requires-3 c κs = search needs
-
 add-result : tie.Need-add-result
 add-result c = search needs
-
-add-result-2 : tie.Need-add-result-2
-add-result-2 c = search needs
-
-add-result-3 : tie.Need-add-result-3
-add-result-3 c = search needs
 
 returns : tie.Need-returns
 returns c = search (needs, sum-unused)
@@ -56,11 +38,5 @@ is-unused-spec =
     add-most
     add-le-at
     le-at-requires
-    add-le-at-2
-    le-at-requires-2
-    add-le-at-3
-    le-at-requires-3
     add-result
-    add-result-2
-    add-result-3
     returns)

@@ -1,5 +1,4 @@
 -- `audit::is_market` meets its contract.
-use Rattle.audit.proofs.Amounts.{next-small}
 use Rattle.audit.proofs.Walked.{not-long, market-is}
 use borrow.Author.Needs.{needs}
 use Rattle.audit.proofs.whole.is_market.Statement.{statement}
@@ -41,20 +40,11 @@ has-orders-requires c κs = search needs
 has-ids-requires : tie.Need-has-ids-requires
 has-ids-requires c κs = search needs
 
-work-requires : tie.Need-work-requires
-work-requires c κs = search needs
-
-next-requires : tie.Need-next-requires
-next-requires c κs = search needs
-
-is-book-requires : tie.Need-is-book-requires
-is-book-requires c κs = (c .before .before .before .before .before .before .before .before .before .before .before .if1 .left, c .before .before .before .before .before .before .before .before .before .filled .ensures .0, c .before .before .before .before .before .before .before .before .before .filled .ensures .1, next-small _ (λ j. c .before .before .before .before .before .before .before .before .before .before .before .before .shared-slice-known .given j .fits) (c .next .ensures))
+has-book-requires : tie.Need-has-book-requires
+has-book-requires c κs = search needs
 
 returns-2 : tie.Need-returns-2
-returns-2 c =
-    market-is _ _ _ _ _ _ _ _ _ _ _ _ (c .before .before .before .before .before .before .before .before .before .before .before .before .if1 .left) (c .before .before .before .before .before .before .before .before .before .before .filled .ensures .0) (c .before .before .work .ensures .0) (c .before .next .ensures)
-    (c .before .before .before .before .before .before .before .before .before .has-settings .ensures) (c .before .before .before .before .before .before .before .before .has-next .ensures) (c .before .before .before .before .before .before .before .has-work .ensures) (c .before .before .before .before .before .before .has-spare .ensures)
-    (c .before .before .before .before .before .rest-zero .ensures) (c .before .before .before .before .has-orders .ensures) (c .before .before .before .has-ids .ensures) (c .is-book .ensures)
+returns-2 c = search (needs, market-is)
 
 pub is-market-spec : {M : Type 1} → statement M
 is-market-spec =
@@ -72,7 +62,5 @@ is-market-spec =
     rest-zero-requires
     has-orders-requires
     has-ids-requires
-    work-requires
-    next-requires
-    is-book-requires
+    has-book-requires
     returns-2)

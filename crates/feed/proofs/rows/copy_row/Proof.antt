@@ -1,8 +1,8 @@
 -- `rows::copy_row` meets its contract. The invariant: what is still to do gives the end.
 use Prim.Native.Nat.{_-_}
 use borrow.Author.Needs.{needs}
-use Rattle.feed.specs.Rows.{copyField, yes797, copyRow}
-use Rattle.feed.proofs.Weaving.{Weaving, weave-first, weave-behind, weave-before, weave-still, weave-end, kept-field}
+use Rattle.feed.specs.Rows.{copyField, yes797}
+use Rattle.feed.proofs.Weaving.{Weaving, weave-first, weave-behind, weave-before, weave-still, weave-end, kept-field, copy-row-is}
 use Rattle.feed.proofs.rows.copy_row.Statement.{statement}
 use Rattle.feed.proofs.rows.copy_row.Tie as tie
 
@@ -11,6 +11,9 @@ Inv-loop number width row₀ held₀ behind₀ i₀ row held behind i = Weaving 
 
 abbrev μ-loop : tie.MeasureT-loop
 μ-loop number width row₀ held₀ behind₀ i₀ row held behind i = 35 - i
+
+shown-row-requires : tie.Need-shown-row-requires Inv-loop μ-loop
+shown-row-requires c κs = search needs
 
 loop-holds : tie.Need-loop-holds Inv-loop μ-loop
 loop-holds c = weave-first _ _ _ _ (search needs)
@@ -64,8 +67,7 @@ array-set-from-row-3 : tie.Need-array-set-from-row-3 Inv-loop μ-loop
 array-set-from-row-3 c = search needs
 
 returns : tie.Need-returns Inv-loop μ-loop
-unfolding copyRow
-returns c = weave-end _ _ _ _ _ _ _ _ (c .before .loop .inv) (c .loop-test .left)
+returns c = copy-row-is _ _ _ _ _ (c .before .before .shown-row .ensures) (weave-end _ _ _ _ _ _ _ _ (c .before .loop .inv) (c .loop-test .left))
 
 pub copy-row-spec : {M : Type 1} → statement M
 copy-row-spec =
@@ -73,6 +75,7 @@ copy-row-spec =
     (tie.spec
     Inv-loop
     μ-loop
+    shown-row-requires
     loop-holds
     mul-field
     array-copy-out-field

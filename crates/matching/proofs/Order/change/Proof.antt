@@ -56,6 +56,13 @@ add-o-6 : tie.Need-add-o-6
 unfolding openOf
 add-o-6 c = record { fits = omega (arith, rw (c .before .before .e7 .given .1) at (c .before .before .before .before .pre .1 .enough)) }
 
+enum-known-e-8 : tie.Need-enum-known-e-8
+enum-known-e-8 c = search needs
+
+add-o-7 : tie.Need-add-o-7
+unfolding openOf
+add-o-7 c = record { fits = omega (arith, rw (c .before .before .e8 .given .1) at (c .before .before .before .before .pre .1 .enough)) }
+
 returns : tie.Need-returns
 unfolding change
 returns c = rw (c .before .e .given .1)
@@ -84,6 +91,10 @@ returns-7 : tie.Need-returns-7
 unfolding change
 returns-7 c = rw (c .before .before .e7 .given .1)
 
+returns-8 : tie.Need-returns-8
+unfolding change
+returns-8 c = rw (c .before .before .e8 .given .1)
+
 pub change-spec : {M : Type 1} → statement M
 change-spec =
     tie.close
@@ -103,10 +114,13 @@ change-spec =
     add-o-5
     enum-known-e-7
     add-o-6
+    enum-known-e-8
+    add-o-7
     returns
     returns-2
     returns-3
     returns-4
     returns-5
     returns-6
-    returns-7)
+    returns-7
+    returns-8)

@@ -19,8 +19,8 @@ refuses-requires c κs = search needs
 enum-told : tie.Need-enum-told
 enum-told c = search needs
 
-completes-requires : tie.Need-completes-requires
-completes-requires c κs = search needs
+agrees-requires : tie.Need-agrees-requires
+agrees-requires c κs = search needs
 
 returns : tie.Need-returns
 returns c = search (needs, decides-fails)
@@ -37,6 +37,6 @@ decides-spec =
     enum-known-reason
     refuses-requires
     enum-told
-    completes-requires
+    agrees-requires
     returns
     returns-2)

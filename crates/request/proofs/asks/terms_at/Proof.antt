@@ -25,6 +25,9 @@ in-row-requires-6 c κs = search needs
 in-row-requires-7 : tie.Need-in-row-requires-7
 in-row-requires-7 c κs = search needs
 
+in-row-requires-8 : tie.Need-in-row-requires-8
+in-row-requires-8 c κs = search needs
+
 returns : tie.Need-returns
 unfolding termsRow
 returns c = cc
@@ -40,4 +43,5 @@ terms-at-spec =
     in-row-requires-5
     in-row-requires-6
     in-row-requires-7
+    in-row-requires-8
     returns)

@@ -21,11 +21,8 @@ mul-t c = search needs
 shared-slice-read-t : tie.Need-shared-slice-read-t Inv-loop μ-loop
 shared-slice-read-t c = search needs
 
-mul-if1 : tie.Need-mul-if1 Inv-loop μ-loop
-mul-if1 c = search needs
-
-element-copy-out-if1 : tie.Need-element-copy-out-if1 Inv-loop μ-loop
-element-copy-out-if1 c = search needs
+in-row-requires : tie.Need-in-row-requires Inv-loop μ-loop
+in-row-requires c κs = search needs
 
 returns : tie.Need-returns Inv-loop μ-loop
 returns c = search (needs, unset-here)
@@ -51,8 +48,7 @@ first-unset-spec =
     loop-holds
     mul-t
     shared-slice-read-t
-    mul-if1
-    element-copy-out-if1
+    in-row-requires
     returns
     add-i
     loop-less

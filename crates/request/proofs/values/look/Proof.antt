@@ -24,6 +24,9 @@ amount-requires c κs = search needs
 amount-requires-2 : tie.Need-amount-requires-2
 amount-requires-2 c κs = search needs
 
+amount-requires-3 : tie.Need-amount-requires-3
+amount-requires-3 c κs = search needs
+
 level-requires : tie.Need-level-requires
 level-requires c κs = search needs
 
@@ -92,40 +95,44 @@ returns-6 c = rw (c .before .match .keys6) (c .amount2 .ensures)
 
 returns-7 : tie.Need-returns-7
 unfolding shapeOf oneOf
-returns-7 c = rw (c .before .match .keys7) (c .level .ensures)
+returns-7 c = rw (c .before .match .keys7) (c .amount3 .ensures)
 
 returns-8 : tie.Need-returns-8
 unfolding shapeOf oneOf
-returns-8 c = rw (c .before .match .keys8) (c .time .ensures)
+returns-8 c = rw (c .before .match .keys8) (c .level .ensures)
 
 returns-9 : tie.Need-returns-9
 unfolding shapeOf oneOf
-returns-9 c = rw (c .before .before .match .keys9) (c .among .ensures)
+returns-9 c = rw (c .before .match .keys9) (c .time .ensures)
 
 returns-10 : tie.Need-returns-10
 unfolding shapeOf oneOf
-returns-10 c = rw (c .before .before .match .keys10) (c .among2 .ensures)
+returns-10 c = rw (c .before .before .match .keys10) (c .among .ensures)
 
 returns-11 : tie.Need-returns-11
 unfolding shapeOf oneOf
-returns-11 c = rw (c .before .before .match .keys11) (c .among3 .ensures)
+returns-11 c = rw (c .before .before .match .keys11) (c .among2 .ensures)
 
 returns-12 : tie.Need-returns-12
 unfolding shapeOf oneOf
-returns-12 c = rw (c .before .before .match .keys12) (c .among4 .ensures)
+returns-12 c = rw (c .before .before .match .keys12) (c .among3 .ensures)
 
 returns-13 : tie.Need-returns-13
 unfolding shapeOf oneOf
-returns-13 c = rw (c .before .before .match .keys13) (c .among5 .ensures)
+returns-13 c = rw (c .before .before .match .keys13) (c .among4 .ensures)
 
 returns-14 : tie.Need-returns-14
 unfolding shapeOf oneOf
-returns-14 c = rw (c .before .before .match .keys14) (c .among6 .ensures)
+returns-14 c = rw (c .before .before .match .keys14) (c .among5 .ensures)
 
 returns-15 : tie.Need-returns-15
+unfolding shapeOf oneOf
+returns-15 c = rw (c .before .before .match .keys15) (c .among6 .ensures)
+
+returns-16 : tie.Need-returns-16
 unfolding shapeOf lookAs oneOf
-returns-15 c = let t = c .before .before .args .tag in
-    rw (ne-eqb t 1 (c .match .rest .0 .0 .0 .0 .0 .0 .0 .0 .0 .0 .0 .0 .0 .1), ne-eqb t 11 (c .match .rest .0 .0 .0 .0 .0 .0 .0 .0 .0 .0 .0 .0 .1), ne-eqb t 41 (c .match .rest .0 .0 .0 .0 .0 .0 .0 .0 .0 .0 .0 .1), ne-eqb t 55 (c .match .rest .0 .0 .0 .0 .0 .0 .0 .0 .0 .0 .1), ne-eqb t 38 (c .match .rest .0 .0 .0 .0 .0 .0 .0 .0 .0 .1), ne-eqb t 109 (c .match .rest .0 .0 .0 .0 .0 .0 .0 .0 .1), ne-eqb t 44 (c .match .rest .0 .0 .0 .0 .0 .0 .0 .1), ne-eqb t 60 (c .match .rest .0 .0 .0 .0 .0 .0 .1), ne-eqb t 21 (c .match .rest .0 .0 .0 .0 .0 .1), ne-eqb t 40 (c .match .rest .0 .0 .0 .0 .1), ne-eqb t 47 (c .match .rest .0 .0 .0 .1), ne-eqb t 54 (c .match .rest .0 .0 .1), ne-eqb t 59 (c .match .rest .0 .1), ne-eqb t 8060 (c .match .rest .1))
+returns-16 c = let t = c .before .before .args .tag in
+    rw (ne-eqb t 1 (c .match .rest .0 .0 .0 .0 .0 .0 .0 .0 .0 .0 .0 .0 .0 .0 .1), ne-eqb t 11 (c .match .rest .0 .0 .0 .0 .0 .0 .0 .0 .0 .0 .0 .0 .0 .1), ne-eqb t 41 (c .match .rest .0 .0 .0 .0 .0 .0 .0 .0 .0 .0 .0 .0 .1), ne-eqb t 55 (c .match .rest .0 .0 .0 .0 .0 .0 .0 .0 .0 .0 .0 .1), ne-eqb t 38 (c .match .rest .0 .0 .0 .0 .0 .0 .0 .0 .0 .0 .1), ne-eqb t 110 (c .match .rest .0 .0 .0 .0 .0 .0 .0 .0 .0 .1), ne-eqb t 109 (c .match .rest .0 .0 .0 .0 .0 .0 .0 .0 .1), ne-eqb t 44 (c .match .rest .0 .0 .0 .0 .0 .0 .0 .1), ne-eqb t 60 (c .match .rest .0 .0 .0 .0 .0 .0 .1), ne-eqb t 21 (c .match .rest .0 .0 .0 .0 .0 .1), ne-eqb t 40 (c .match .rest .0 .0 .0 .0 .1), ne-eqb t 47 (c .match .rest .0 .0 .0 .1), ne-eqb t 54 (c .match .rest .0 .0 .1), ne-eqb t 59 (c .match .rest .0 .1), ne-eqb t 8060 (c .match .rest .1))
 
 pub look-spec : {M : Type 1} → statement M
 look-spec =
@@ -137,6 +144,7 @@ look-spec =
     digits-requires
     amount-requires
     amount-requires-2
+    amount-requires-3
     level-requires
     time-requires
     slice-aggregate-among
@@ -165,4 +173,5 @@ look-spec =
     returns-12
     returns-13
     returns-14
-    returns-15)
+    returns-15
+    returns-16)

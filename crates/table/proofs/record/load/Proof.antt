@@ -70,6 +70,12 @@ add-four-at-7 c = search needs
 four-at-requires-7 : tie.Need-four-at-requires-7
 four-at-requires-7 c κs = search needs
 
+add-four-at-8 : tie.Need-add-four-at-8
+add-four-at-8 c = search needs
+
+four-at-requires-8 : tie.Need-four-at-requires-8
+four-at-requires-8 c κs = search needs
+
 returns : tie.Need-returns
 unfolding orderAt
 returns c = cc
@@ -100,4 +106,6 @@ load-spec =
     four-at-requires-6
     add-four-at-7
     four-at-requires-7
+    add-four-at-8
+    four-at-requires-8
     returns)

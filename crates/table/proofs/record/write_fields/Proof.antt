@@ -1,4 +1,4 @@
--- `table::record::write_fields` meets its contract: four bytes, the terms, the MPID and the amounts one after the other are the fields.
+-- `table::record::write_fields` meets its contract: four bytes, the terms, the MPID and the tail one after the other are the fields.
 use Rattle.table.proofs.Writes.{fields-written}
 use borrow.Author.Needs.{needs}
 use Rattle.table.proofs.record.write_fields.Statement.{statement}
@@ -25,11 +25,11 @@ add-put-le c = search needs
 put-le-requires : tie.Need-put-le-requires
 put-le-requires c κs = search needs
 
-add-write-amounts : tie.Need-add-write-amounts
-add-write-amounts c = search needs
+add-write-tail : tie.Need-add-write-tail
+add-write-tail c = search needs
 
-write-amounts-requires : tie.Need-write-amounts-requires
-write-amounts-requires c κs = search needs
+write-tail-requires : tie.Need-write-tail-requires
+write-tail-requires c κs = search needs
 
 same-length : tie.Need-same-length
 same-length c = search needs
@@ -48,7 +48,7 @@ write-fields-spec =
     write-terms-requires
     add-put-le
     put-le-requires
-    add-write-amounts
-    write-amounts-requires
+    add-write-tail
+    write-tail-requires
     same-length
     returns)

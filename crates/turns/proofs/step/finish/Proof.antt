@@ -16,6 +16,9 @@ same-length c = search needs
 returns : tie.Need-returns
 returns c = search (needs, finish-ends)
 
+put-decided-requires : tie.Need-put-decided-requires
+put-decided-requires c κs = search needs
+
 same-length-2 : tie.Need-same-length-2
 same-length-2 c = search needs
 
@@ -25,4 +28,4 @@ returns-2 c = search (needs, finish-goes)
 pub finish-spec : {M : Type 1} → statement M
 finish-spec =
     tie.close
-    (tie.spec put-next-requires end-work-requires same-length returns same-length-2 returns-2)
+    (tie.spec put-next-requires end-work-requires put-decided-requires same-length returns same-length-2 returns-2)

@@ -1,5 +1,5 @@
 -- `turns::step::happen` meets its contract, by outcome.
-use Rattle.turns.proofs.Happening.{trade-tells, prevented-tells, expires-tells, trade-told, prevented-told, expires-told, rests-told}
+use Rattle.turns.proofs.Happening.{trade-tells, prevented-tells, kills-tells, expires-tells, trade-told, prevented-told, kills-told, expires-told, rests-told}
 use borrow.Author.Needs.{needs}
 use Rattle.turns.proofs.step.happen.Statement.{statement}
 use Rattle.turns.proofs.step.happen.Tie as tie
@@ -20,7 +20,13 @@ enum-known-o-3 : tie.Need-enum-known-o-3
 enum-known-o-3 c = search needs
 
 one-requires : tie.Need-one-requires
-one-requires c κs = (search (needs, expires-tells), search needs)
+one-requires c κs = (search (needs, kills-tells), search needs)
+
+enum-known-o-4 : tie.Need-enum-known-o-4
+enum-known-o-4 c = search needs
+
+one-requires-2 : tie.Need-one-requires-2
+one-requires-2 c κs = (search (needs, expires-tells), search needs)
 
 enum-told : tie.Need-enum-told
 enum-told c = search needs
@@ -50,10 +56,19 @@ same-length-6 : tie.Need-same-length-6
 same-length-6 c = search needs
 
 returns-3 : tie.Need-returns-3
-returns-3 c = search (needs, expires-told)
+returns-3 c = search (needs, kills-told)
+
+same-length-7 : tie.Need-same-length-7
+same-length-7 c = search needs
+
+same-length-8 : tie.Need-same-length-8
+same-length-8 c = search needs
 
 returns-4 : tie.Need-returns-4
-returns-4 c = search (needs, rests-told)
+returns-4 c = search (needs, expires-told)
+
+returns-5 : tie.Need-returns-5
+returns-5 c = search (needs, rests-told)
 
 pub happen-spec : {M : Type 1} → statement M
 happen-spec =
@@ -65,6 +80,8 @@ happen-spec =
     prevent-requires
     enum-known-o-3
     one-requires
+    enum-known-o-4
+    one-requires-2
     enum-told
     same-length
     same-length-2
@@ -75,4 +92,7 @@ happen-spec =
     same-length-5
     same-length-6
     returns-3
-    returns-4)
+    same-length-7
+    same-length-8
+    returns-4
+    returns-5)

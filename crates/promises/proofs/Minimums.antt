@@ -1,0 +1,210 @@
+-- What becomes of an order with a minimum, whatever calls follow: any Runs together are one run of matching from where they began, and so
+-- the order has traded its minimum when its work has ended, or was killed whole.
+use mathlib.Core.Path.{_≡_, refl, sym, ap, _∙_}
+use mathlib.Core.Bool.{Bool, true, false, _&&_}
+use mathlib.Core.List.{List, [], _∷_, _++_, append-nil}
+use mathlib.Core.Logic.{_≢_, _⊎_, inl, inr, ⊎-elim}
+use Prim.Native.Nat.{ℕ, zero, suc, _+_, _-_, _≤_, _<_}
+use native.Mathlib.Omega.{arith}
+use lib.Dec.{eqb, ltb}
+use lib.ListN.{length}
+use borrow.Author.Tests.{ne-eqb}
+use Rattle.octets.proofs.Bools.{split, not-both}
+use Rattle.matching.specs.declared.Order.{Order}
+use Rattle.matching.specs.declared.Event.{Event}
+use Rattle.matching.specs.Matching.{Book, at, openOf, bookAfter, workAfter, happens, Ran, run, minimumOf, misses}
+use Rattle.matching.specs.Held.{In}
+use Rattle.matching.specs.Runs.{KilledWhole}
+use Rattle.matching.proofs.Events.{length-play}
+use Rattle.matching.proofs.Steps.{run-plays, run-fits}
+use Rattle.matching.proofs.Theorems as matching
+use Rattle.table.specs.Heading.{workOf, decidedOf, modeOf}
+use Rattle.table.specs.Orders.{orderAt, filled, bookOf}
+use Rattle.table.specs.Market.{isMarket}
+use Rattle.table.specs.Facts.{Market}
+use Rattle.table.specs.Changes.{missesNow, stepEvents, stepWork, stepped}
+use Rattle.table.proofs.Facts.{market-facts}
+use Rattle.table.proofs.Kept.{stepped-kept}
+use Rattle.table.proofs.Books.{length-book, at-book}
+use Rattle.calls.specs.Told.{joined, roomAsked}
+use Rattle.calls.specs.Run.{stepReports, stops, worked, ran}
+use Rattle.turns.proofs.Stepping.{step-book, step-work, step-modes, step-decided}
+use Rattle.turns.proofs.Taking.{goes-busy}
+use Rattle.promises.specs.History.{Call, Submit, Run, Depth, Read, tableAfter, reportsAfter, noSubmit}
+use Rattle.promises.specs.Shown.{ReportsOf}
+use Rattle.promises.specs.Minimums.{CanceledWhole, Reached}
+use Rattle.promises.proofs.Agreeing.{step-reports, reports-append}
+use Rattle.promises.proofs.Histories.{call-keeps}
+use Rattle.promises.proofs.Putting.{Put, nothing, undecided}
+
+-- table u with the reports rs is what n steps of matching lead to from table t
+pub record Stepping (t u : List ℕ) (rs : List (List ℕ)) (n : ℕ) : Type 0 where
+  pub book : bookOf u ≡ run (modeOf t) (missesNow t) n (bookOf t) (workOf t) .book
+  pub work : workOf u ≡ run (modeOf t) (missesNow t) n (bookOf t) (workOf t) .work
+  pub modes : modeOf u ≡ modeOf t
+  pub missed : missesNow u ≡ (eqb n 0 && missesNow t)
+  pub events : ReportsOf rs (run (modeOf t) (missesNow t) n (bookOf t) (workOf t) .events)
+
+pub record Steps (t u : List ℕ) (rs : List (List ℕ)) : Type 0 where
+  pub number : ℕ
+  pub by : Stepping t u rs number
+
+-- no step
+none-steps : (t : List ℕ) → Steps t t []
+unfolding run
+none-steps t = record { number = 0; by = record { book = refl; work = refl; modes = refl; missed = refl; events = tt } }
+
+-- one
+one-run : (modes : ℕ → ℕ) (missed : Bool) (b : Book) (w : ℕ) → 1 ≤ w
+    → run modes missed 1 b w ≡ record { book = bookAfter modes missed b w; work = workAfter missed b w; events = happens modes missed b w; steps = 1 }
+unfolding run
+one-run modes missed b zero l = absurd (omega arith)
+one-run modes missed b (suc k) l =
+    let e = append-nil (happens modes missed b (suc k)) in
+    λ j. record { book = bookAfter modes missed b (suc k); work = workAfter missed b (suc k); events = e j; steps = 1 }
+
+one-step : (t : List ℕ) → Market t → 1 ≤ workOf t → Steps t (stepped t) (stepReports t)
+unfolding stepEvents stepWork
+one-step t m l =
+    let e = one-run (modeOf t) (missesNow t) (bookOf t) (workOf t) l in
+    record {
+      number = 1;
+      by = record {
+        book = step-book t m l ∙ ap (λ (r : Ran). r .book) (sym e);
+        work = step-work t m l ∙ ap (λ (r : Ran). r .work) (sym e);
+        modes = step-modes t m l;
+        missed = step-decided t m l;
+        events = rw e (step-reports t m l);
+      };
+    }
+
+-- some and then others
+missed-then : (m n : ℕ) (x : Bool) → (eqb n 0 && (eqb m 0 && x)) ≡ (eqb (m + n) 0 && x)
+missed-then zero zero x = refl
+missed-then zero (suc n) x = rw (ne-eqb (suc n) 0 (λ e. omega arith), ne-eqb (zero + suc n) 0 (λ e. omega arith))
+missed-then (suc m) n x =
+    rw (ne-eqb (suc m) 0 (λ e. omega arith), ne-eqb (suc m + n) 0 (λ e. omega arith)) (no (eqb n 0))
+  where
+    no : (y : Bool) → (y && false) ≡ false
+    no true = refl
+    no false = refl
+
+stepping-then : (t u v : List ℕ) (rs qs : List (List ℕ)) (m n : ℕ) → Stepping t u rs m → Stepping u v qs n → Stepping t v (rs ++ qs) (m + n)
+stepping-then t u v rs qs m n a b =
+    let g = matching.goes-on (modeOf t) (missesNow t) m n (bookOf t) (workOf t) in
+    let first = run (modeOf t) (missesNow t) m (bookOf t) (workOf t) in
+    let e : run (modeOf u) (missesNow u) n (bookOf u) (workOf u) ≡ run (modeOf t) (eqb m 0 && missesNow t) n (first .book) (first .work) =
+    rw (a .modes, a .missed, a .book, a .work) in
+    let f = rw e at (b .events) in
+    record {
+      book = b .book ∙ ap (λ (r : Ran). r .book) e ∙ sym (g .book);
+      work = b .work ∙ ap (λ (r : Ran). r .work) e ∙ sym (g .work);
+      modes = b .modes ∙ a .modes;
+      missed = b .missed ∙ ap (λ (x : Bool). eqb n 0 && x) (a .missed) ∙ missed-then m n (missesNow t);
+      events = rw (g .events) (reports-append rs qs _ _ (a .events) f);
+    }
+
+steps-then : (t u v : List ℕ) (rs qs : List (List ℕ)) → Steps t u rs → Steps u v qs → Steps t v (rs ++ qs)
+steps-then t u v rs qs a b = record { number = a .number + b .number; by = stepping-then t u v rs qs (a .number) (b .number) (a .by) (b .by) }
+
+-- Run, and calls of which Submit is no part
+worked-steps : (n : ℕ) (t : List ℕ) (room : ℕ) → Market t → Steps t (worked n t room .table) (worked n t room .reports)
+unfolding worked
+worked-steps zero t room m = none-steps t
+worked-steps (suc n) t room m =
+    split (stops t room)
+    (λ e. rw e (none-steps t))
+    (λ e.
+    let l = goes-busy t room e in
+    rw e
+    (steps-then t (stepped t) _ (stepReports t) _ (one-step t m l)
+    (worked-steps n (stepped t) (room - length (joined (stepReports t))) (stepped-kept t m l))))
+
+ran-steps : (t : List ℕ) (room budget : ℕ) → isMarket t ≡ true → Steps t (ran t room budget .table) (ran t room budget .reports)
+unfolding ran
+ran-steps t room budget m =
+    split (ltb room roomAsked)
+    (λ e. rw e (none-steps t))
+    (λ e. rw (e, m) (worked-steps budget t room (market-facts t m)))
+
+pub after-steps : (cs : List Call) (t : List ℕ) → isMarket t ≡ true → noSubmit cs ≡ true → Steps t (tableAfter t cs) (reportsAfter t cs)
+unfolding tableAfter reportsAfter
+after-steps [] t m h = none-steps t
+after-steps (Submit message room ∷ cs) t m h = absurd (not-both h refl)
+after-steps (Run room budget ∷ cs) t m h =
+    steps-then t (ran t room budget .table) _ (ran t room budget .reports) _ (ran-steps t room budget m)
+    (after-steps cs (ran t room budget .table) (call-keeps t (Run room budget) m) h)
+after-steps (Depth side k ∷ cs) t m h = after-steps cs t m h
+after-steps (Read report ∷ cs) t m h = after-steps cs t m h
+
+-- ---- the order in work, open and not decided yet, once its work has ended
+module _ (t : List ℕ) (m : isMarket t ≡ true) (l : 1 ≤ workOf t) (o : 0 < openOf (orderAt t (workOf t))) (d : decidedOf t ≡ 0) where
+  facts : Market t
+  facts = market-facts t m
+
+  inside : In (bookOf t) (workOf t)
+  inside = record { low = l; high = facts .held .work }
+
+  here : at (bookOf t) (workOf t) ≡ orderAt t (workOf t)
+  here = at-book t (workOf t) l (omega (arith, facts .held .work, length-book t))
+
+  undecided-now : missesNow t ≡ misses (modeOf t) 0 (bookOf t) (workOf t)
+  unfolding missesNow
+  undecided-now = rw d
+
+  module _ (u : List ℕ) (rs : List (List ℕ)) (n : ℕ) (s : Stepping t u rs n) (same : filled u ≡ filled t) (z : workOf u ≡ 0) where
+    abbrev w : ℕ
+    w = workOf t
+
+    abbrev ended : Ran
+    ended = run (modeOf t) (misses (modeOf t) 0 (bookOf t) w) n (bookOf t) w
+
+    book-ended : bookOf u ≡ ended .book
+    book-ended = rw undecided-now at (s .book)
+
+    order-ended : (i : ℕ) → 1 ≤ i → i ≤ filled t → orderAt u i ≡ at (ended .book) i
+    order-ended i a b = sym (at-book u i a (omega arith)) ∙ ap (λ (b : Book). at b i) book-ended
+
+    work-high : w ≤ filled t
+    work-high = omega (arith, facts .held .work, length-book t)
+
+    by-kill : KilledWhole (bookOf t) w ended → CanceledWhole t u rs w
+    by-kill k =
+        record {
+          report = rw (undecided-now, k .events, here) at (s .events);
+          shut = rw (order-ended w l work-high) (k .shut);
+          others = λ i a b x. order-ended i a b ∙ k .others i x ∙ at-book t i a b;
+        }
+
+    by-trade : minimumOf (at (bookOf t) w) ≤ at (ended .book) w .executed - at (bookOf t) w .executed → Reached t u w
+    by-trade h =
+        let e : minimumOf (at (bookOf t) w) ≡ minimumOf (orderAt t w) = ap minimumOf here in
+        record { executed = rw (order-ended w l work-high) (omega arith) }
+
+    pub minimum-stepped : CanceledWhole t u rs w ⊎ Reached t u w
+    minimum-stepped =
+        let q : 0 < openOf (at (bookOf t) w) = rw here o in
+        let y : ended .work ≡ 0 = sym (rw undecided-now at (s .work)) ∙ z in
+        ⊎-elim (λ (k : KilledWhole (bookOf t) w ended). inl (by-kill k))
+        (λ (k : minimumOf (at (bookOf t) w) ≤ at (ended .book) w .executed - at (bookOf t) w .executed). inr (by-trade k))
+        (matching.minimum-kept (modeOf t) (bookOf t) w inside n q y)
+
+  pub minimum-after : (cs : List Call) → noSubmit cs ≡ true → workOf (tableAfter t cs) ≡ 0
+      → CanceledWhole t (tableAfter t cs) (reportsAfter t cs) (workOf t) ⊎ Reached t (tableAfter t cs) (workOf t)
+  minimum-after cs h z =
+      let s = after-steps cs t m h in
+      minimum-stepped (tableAfter t cs) (reportsAfter t cs) (s .number) (s .by) (same-size (tableAfter t cs) (reportsAfter t cs) (s .number) (s .by)) z
+    where
+      same-size : (u : List ℕ) (rs : List (List ℕ)) (n : ℕ) → Stepping t u rs n → filled u ≡ filled t
+      same-size u rs n s =
+          sym (length-book u) ∙ ap length (s .book)
+          ∙ ap length (run-plays (modeOf t) (missesNow t) n (bookOf t) (workOf t))
+          ∙ length-play _ (bookOf t) (run-fits (modeOf t) (missesNow t) n (bookOf t) (workOf t) (facts .held .work))
+          ∙ length-book t
+
+-- what was put in work, once its work has ended
+pub minimum-put : (t : List ℕ) → isMarket t ≡ true → Put t → 1 ≤ workOf t → (cs : List Call) → noSubmit cs ≡ true → workOf (tableAfter t cs) ≡ 0
+    → CanceledWhole t (tableAfter t cs) (reportsAfter t cs) (workOf t) ⊎ Reached t (tableAfter t cs) (workOf t)
+minimum-put t m (nothing z) l cs = absurd (omega arith)
+minimum-put t m (undecided o d) l cs =
+    minimum-after t m l (rw (at-book t (workOf t) l (omega (arith, market-facts t m .held .work, length-book t))) at o) d cs

@@ -1,0 +1,32 @@
+-- `samples::sell` meets its contract: with such amounts it is a sound order.
+use mathlib.Core.Path.{refl}
+use native.Mathlib.Omega.{arith}
+use lib.Dec.{lit≤, lit<}
+use Rattle.matching.specs.Matching.{openOf}
+use Rattle.matching.specs.Held.{mayMinimum}
+use Rattle.trials.proofs.samples.sell.Statement.{statement}
+use Rattle.trials.proofs.samples.sell.Tie as tie
+
+returns : tie.Need-returns
+unfolding openOf mayMinimum
+returns c =
+    let a = c .pre .2 in (
+      record {
+        sides = refl;
+        tifs = refl;
+        minimum = refl;
+        level-low = c .pre .0;
+        level-high = c .pre .1;
+        qty-low = lit< tt;
+        qty-high = lit≤ tt;
+        covered = a .covered;
+        dead = λ h. omega (arith, a .dead h);
+        sum-low = a .sum-low;
+        sum-high = a .sum-high;
+        place-low = lit< tt;
+      },
+      lit< tt,
+    )
+
+pub sell-spec : {M : Type 1} → statement M
+sell-spec = tie.close (tie.spec returns)

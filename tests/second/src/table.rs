@@ -1,0 +1,261 @@
+//! The bytes of a table: a market laid out as docs/TABLE.md says, and the market that such bytes are, if they are one
+//! ("A table is a market exactly if" of 01, with what requests of 02 add to it).
+//!
+//! Numbers are little endian. A text is one byte of length, its characters, and zeros up to its room. What nothing uses
+//! is zero.
+
+use crate::market::{is_comp_id, known_modes, Market, Participant, Work, MOST_ORDERS};
+use crate::matching::Mode;
+use crate::order::{Order, Side, TimeInForce};
+use crate::shape::{is_character, is_digits, is_time};
+
+/// A table is 256 records: the heading, then the orders.
+pub const RECORD: usize = 128;
+pub const TABLE: usize = RECORD * (1 + MOST_ORDERS);
+
+/// A yield of 0 in a table; the level is this and the yield in thousandths.
+const ZERO_LEVEL: i128 = 1_000_000_000;
+
+/// Where the heading has its fields.
+mod heading {
+    pub const VENUE: usize = 0;
+    pub const PORT: usize = 9;
+    pub const CODE: usize = 18;
+    pub const NEXT_NUMBER: usize = 28;
+    pub const IN_WORK: usize = 32;
+    pub const SENDING_TIME: usize = 33;
+    pub const MPIDS: usize = 56;
+    pub const MODES: usize = 88;
+    pub const DECIDED: usize = 96;
+}
+
+/// Where a record has its fields.
+mod record {
+    pub const CL_ORD_ID: usize = 0;
+    pub const ACCOUNT: usize = 33;
+    pub const SIDE: usize = 44;
+    pub const TIME_IN_FORCE: usize = 45;
+    pub const CAPACITY: usize = 46;
+    pub const CLASSIFICATION: usize = 47;
+    pub const LEVEL: usize = 48;
+    pub const ORDER_QTY: usize = 52;
+    pub const PLACE: usize = 56;
+    pub const MPID: usize = 60;
+    pub const SUM: usize = 64;
+    pub const EXECUTED: usize = 72;
+    pub const DECREMENTED: usize = 76;
+    pub const CANCELED: usize = 80;
+    pub const MIN_QTY: usize = 88;
+}
+
+/// The table of a market.
+pub fn bytes(market: &Market) -> Vec<u8> {
+    let mut table = vec![0; TABLE];
+    put_heading(&mut table[..RECORD], market);
+    for (order, record) in market.orders.iter().zip(table.chunks_exact_mut(RECORD).skip(1)) {
+        put_order(record, order);
+    }
+    table
+}
+
+/// The market that a table is, if it is one.
+pub fn market(table: &[u8]) -> Option<Market> {
+    if table.len() != TABLE {
+        return None;
+    }
+    let market = parsed(table)?;
+    (is_market(&market) && bytes(&market) == table).then_some(market)
+}
+
+fn put_text(record: &mut [u8], at: usize, text: &[u8]) {
+    record[at] = text.len() as u8;
+    record[at + 1..=at + text.len()].copy_from_slice(text);
+}
+
+fn put_number(record: &mut [u8], at: usize, width: usize, number: u64) {
+    record[at..at + width].copy_from_slice(&number.to_le_bytes()[..width]);
+}
+
+fn put_heading(record: &mut [u8], market: &Market) {
+    put_text(record, heading::VENUE, &market.venue);
+    put_text(record, heading::PORT, &market.port);
+    put_text(record, heading::CODE, &market.code);
+    put_number(record, heading::NEXT_NUMBER, 4, market.next_number);
+    for (at, &(mpid, mode)) in market.participants.iter().enumerate() {
+        put_number(record, heading::MPIDS + 4 * at, 4, mpid);
+        record[heading::MODES + at] = mode.number() as u8;
+    }
+    if let Some(work) = &market.work {
+        record[heading::IN_WORK] = work.order as u8 + 1;
+        put_text(record, heading::SENDING_TIME, &work.sending_time);
+        record[heading::DECIDED] = u8::from(work.is_decided);
+    }
+}
+
+fn put_order(record: &mut [u8], order: &Order) {
+    put_text(record, record::CL_ORD_ID, &order.cl_ord_id);
+    put_text(record, record::ACCOUNT, order.account.as_deref().unwrap_or(b""));
+    record[record::SIDE] = order.side.code() - b'0';
+    record[record::TIME_IN_FORCE] = order.time_in_force.code() - b'0';
+    record[record::CAPACITY] = order.capacity;
+    record[record::CLASSIFICATION] = order.classification - b'0';
+    let sum_of_levels = order.sum + i128::from(order.executed) * ZERO_LEVEL;
+    put_number(record, record::LEVEL, 4, (ZERO_LEVEL + i128::from(order.yield_thousandths)) as u64);
+    put_number(record, record::SUM, 8, sum_of_levels as u64);
+    for (at, number) in [
+        (record::ORDER_QTY, order.order_qty),
+        (record::PLACE, order.place),
+        (record::MPID, order.mpid.unwrap_or(0)),
+        (record::EXECUTED, order.executed),
+        (record::DECREMENTED, order.decremented),
+        (record::CANCELED, order.canceled),
+        (record::MIN_QTY, order.min_qty.unwrap_or(0)),
+    ] {
+        put_number(record, at, 4, number);
+    }
+}
+
+fn number(record: &[u8], at: usize, width: usize) -> u64 {
+    record[at..at + width].iter().rev().fold(0, |number, &byte| number << 8 | u64::from(byte))
+}
+
+/// The text at a place; its length may not be more than its room.
+fn text(record: &[u8], at: usize, room: usize) -> Option<Vec<u8>> {
+    let length = usize::from(record[at]);
+    (length <= room).then(|| record[at + 1..=at + length].to_vec())
+}
+
+/// What a table says, with no rule looked at that does not stand in the way of saying it.
+fn parsed(table: &[u8]) -> Option<Market> {
+    let (head, records) = table.split_at(RECORD);
+    let filled = records.chunks_exact(RECORD).take_while(|record| record[record::CL_ORD_ID] != 0);
+    let orders: Vec<Order> = filled.map(parsed_order).collect::<Option<_>>()?;
+    let is_decided = match head[heading::DECIDED] {
+        0 => false,
+        1 => true,
+        _ => return None,
+    };
+    let sending_time = text(head, heading::SENDING_TIME, 21)?;
+    let work = match usize::from(head[heading::IN_WORK]) {
+        0 => None,
+        record => Some(Work { order: record - 1, sending_time, is_decided }),
+    };
+    Some(Market {
+        venue: text(head, heading::VENUE, 8)?,
+        port: text(head, heading::PORT, 8)?,
+        code: text(head, heading::CODE, 9)?,
+        participants: parsed_participants(head)?,
+        next_number: number(head, heading::NEXT_NUMBER, 4),
+        orders,
+        work,
+    })
+}
+
+/// The MPIDs and modes up to the first that is none, if they are as Open takes them.
+fn parsed_participants(head: &[u8]) -> Option<Vec<(u64, Mode)>> {
+    let entries = (0..8).map(|at| Participant {
+        mpid: number(head, heading::MPIDS + 4 * at, 4),
+        mode: u64::from(head[heading::MODES + at]),
+    });
+    known_modes(&entries.take_while(|entry| entry.mpid != 0).collect::<Vec<_>>())
+}
+
+fn parsed_order(record: &[u8]) -> Option<Order> {
+    let four = |at| number(record, at, 4);
+    let executed = four(record::EXECUTED);
+    Some(Order {
+        cl_ord_id: text(record, record::CL_ORD_ID, 32)?,
+        account: text(record, record::ACCOUNT, 10).map(|account| Some(account).filter(|text| !text.is_empty()))?,
+        mpid: Some(four(record::MPID)).filter(|&mpid| mpid != 0),
+        side: match record[record::SIDE] {
+            1 => Side::Buy,
+            2 => Side::Sell,
+            _ => return None,
+        },
+        time_in_force: match record[record::TIME_IN_FORCE] {
+            0 => TimeInForce::Day,
+            3 => TimeInForce::ImmediateOrCancel,
+            4 => TimeInForce::FillOrKill,
+            _ => return None,
+        },
+        capacity: record[record::CAPACITY],
+        classification: record[record::CLASSIFICATION].checked_add(b'0')?,
+        yield_thousandths: four(record::LEVEL) as i64 - ZERO_LEVEL as i64,
+        order_qty: four(record::ORDER_QTY),
+        min_qty: Some(four(record::MIN_QTY)).filter(|&minimum| minimum != 0),
+        executed,
+        decremented: four(record::DECREMENTED),
+        canceled: four(record::CANCELED),
+        sum: i128::from(number(record, record::SUM, 8)) - i128::from(executed) * ZERO_LEVEL,
+        place: four(record::PLACE),
+    })
+}
+
+/// The rules of a market, but for the bytes that must be zero.
+fn is_market(market: &Market) -> bool {
+    is_comp_id(&market.venue)
+        && is_comp_id(&market.port)
+        && is_digits(&market.code, 9)
+        && (1..=1_000_000_000).contains(&market.next_number)
+        && market.orders.iter().all(|order| is_order(market, order))
+        && are_distinct(market.orders.iter().map(|order| order.cl_ord_id.as_slice()))
+        && are_distinct(market.orders.iter().map(|order| order.place))
+        && market.work.as_ref().is_none_or(|work| is_work(market, work))
+        && is_settled(market)
+}
+
+fn are_distinct<T: Ord>(values: impl Iterator<Item = T>) -> bool {
+    let mut values: Vec<T> = values.collect();
+    let count = values.len();
+    values.sort_unstable();
+    values.dedup();
+    values.len() == count
+}
+
+/// An order by itself: each field in its range, and what happened to it within its OrderQty.
+fn is_order(market: &Market, order: &Order) -> bool {
+    let is_text = |text: &[u8]| text.iter().all(|&byte| is_character(byte));
+    let gone = order.executed + order.decremented + order.canceled;
+    is_text(&order.cl_ord_id)
+        && order.account.as_deref().is_none_or(is_text)
+        && order.mpid.is_none_or(|mpid| market.mpids().contains(&mpid))
+        && b"AP".contains(&order.capacity)
+        && b"13456".contains(&order.classification)
+        && order.yield_thousandths.abs() <= 999_999_999
+        && (1..=999_999_999).contains(&order.order_qty)
+        && gone <= order.order_qty
+        && (order.canceled == 0 || gone == order.order_qty)
+        && order.sum.abs() <= i128::from(order.executed) * 999_999_999
+        && (1..market.next_number).contains(&order.place)
+        && has_good_minimum(order)
+}
+
+/// A 110 stands on an IOC alone and is at most OrderQty.
+fn has_good_minimum(order: &Order) -> bool {
+    order
+        .min_qty
+        .is_none_or(|minimum| order.time_in_force == TimeInForce::ImmediateOrCancel && minimum <= order.order_qty)
+}
+
+/// The order in work is there, its message's 52 is a time, only a minimum is decided on, and while it has something
+/// open there are numbers for all that may still be reported.
+fn is_work(market: &Market, work: &Work) -> bool {
+    let Some(order) = market.orders.get(work.order) else {
+        return false;
+    };
+    let is_opposite = |other: &&Order| other.side == order.side.opposite() && other.open() > 0;
+    let opposite = market.orders.iter().filter(is_opposite).count() as u64;
+    is_time(&work.sending_time)
+        && (!work.is_decided || order.minimum() > 0)
+        && (order.open() == 0 || market.next_number + 2 * opposite < 1_000_000_000)
+}
+
+/// Apart from the order in work, only Day orders are open, and every open buy yield is above every open sell yield.
+fn is_settled(market: &Market) -> bool {
+    let in_work = market.work.as_ref().map(|work| work.order);
+    let open = market.orders.iter().enumerate().filter(|&(at, order)| Some(at) != in_work && order.open() > 0);
+    let resting: Vec<&Order> = open.map(|(_, order)| order).collect();
+    let yields = |side| resting.iter().filter(move |order| order.side == side).map(|order| order.yield_thousandths);
+    let is_apart = yields(Side::Buy).min().zip(yields(Side::Sell).max()).is_none_or(|(buy, sell)| buy > sell);
+    is_apart && resting.iter().all(|order| order.time_in_force == TimeInForce::Day)
+}

@@ -1,0 +1,17 @@
+/* Orders that could not trade their minimum. */
+#ifndef MINIMUM_H
+#define MINIMUM_H
+
+#include "lines.h"
+#include "reports.h"
+
+/* Keeps the table as it is before a message is submitted, and the message, for print_killed. */
+void note_before(const uint8_t *table, const struct message *message);
+
+/* Whether a report says that an order was canceled whole because it could not trade its minimum. */
+bool is_killed(struct part report);
+
+/* Says of such a report, which is of the message noted last, how much could have traded; no line end. */
+void print_killed(struct part report);
+
+#endif
