@@ -216,13 +216,23 @@ static void garbling(unsigned n, int calls)
         must(submit(&m) == 5);
 }
 
+/* The n-th sell with an account of 10 characters. */
+static struct message with_account(unsigned n)
+{
+    char body[600];
+    snprintf(body, sizeof body, "1=ACCOUNT-%02u|11=ORDER-%06u|21=1|38=100|40=2|44=0.%03u|47=A|54=2|55=350|59=0|60=20260105-09:00:00|109=11|8060=1|",
+             n % 100, n, n);
+    return sent("D", body);
+}
+
 /* The check of a table with n open orders, alone: there is no such side. */
-static void checking(unsigned n, int calls)
+static void checking(unsigned n, int accounts, int calls)
 {
     uint64_t found, total, orders;
     int64_t yield;
     must(open_market() == 0);
-    enter_sells(1, n);
+    for (unsigned i = 1; i <= n; i++)
+        enter(accounts ? with_account(i) : nth(i, KAMURJESH_SELL));
     if (calls)
         must(kamurjesh_depth(table, sizeof table, 3, 0, &found, &yield, &total, &orders) == 10);
 }
@@ -256,7 +266,9 @@ int main(int count, char **words)
     else if (sscanf(name, "garbled-%u%c", &n, &rest) == 1 && n >= 64 && n <= 1024)
         garbling(n, calls);
     else if (sscanf(name, "check-%u%c", &n, &rest) == 1 && n <= 254)
-        checking(n, calls);
+        checking(n, 0, calls);
+    else if (sscanf(name, "check-accounts-%u%c", &n, &rest) == 1 && n <= 254)
+        checking(n, 1, calls);
     else if (strcmp(name, "read") == 0)
         reading(calls);
     else if (strcmp(name, "field") == 0)

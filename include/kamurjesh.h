@@ -1,4 +1,4 @@
-/* The rehearsal bond market for C and C++: one bond, one FIX port, up to 255 orders.
+/* The rehearsal bond market for C and C++: one bond, one FIX port, up to 255 open orders.
  *
  *     rt staticlib kamurjesh
  *     cc -Iinclude -o host examples/host.c target/staticlib/libkamurjesh.a        (on x86-64 Linux)
@@ -84,7 +84,9 @@ uint64_t kamurjesh_open(uint8_t *table, size_t table_length,
 
 /* Takes one FIX message and writes its first report at the start of the area. A new order or a replacement that is taken is
  * then in work: call kamurjesh_run until it is done. A cancel is done at once. A replacement with the same yield and a 38 not
- * above the one in force keeps its place among the orders of that yield; any other goes behind them.
+ * above the one in force keeps its place among the orders of that yield; any other goes behind them. A new order finds no room
+ * (103=0) only while 255 orders are open: if no record is free it takes that of an order with nothing open, which is gone then.
+ * 37 of all reports of an order is the number of its Accepted report.
  * length: of the report; the area's bytes behind it stay as they were.
  * Refusals: 1 to 8. */
 uint64_t kamurjesh_submit(uint8_t *table, size_t table_length,

@@ -456,9 +456,24 @@ static void test_submit_reported(void)
     EXPECT(submit(cancellation("A-2", "A-9", 1)) == 8);
     EXPECT(kind_of(area, (size_t)report_length) == KAMURJESH_IS_CANCEL_REJECT);
     EXPECT(says(102, "1") && says(434, "1") && says(37, "NONE") && says(41, "A-9") && says(39, "8"));
-    EXPECT(submit(replacement("A-2", "A-1", 2, 5, "0.100")) == 8 && says(102, "2") && says(434, "2") && says(37, "1"));
+    EXPECT(submit(replacement("A-2", "A-1", 2, 5, "0.100")) == 8 && says(102, "2") && says(434, "2") && says(37, "6"));
     EXPECT(submit(cancellation("A-2", "A-1", 1)) == 0);
     EXPECT(submit(cancellation("A-3", "A-2", 1)) == 8 && says(102, "0") && says(39, "4"));
+}
+
+/* A new order with this ClOrdID takes this record and no other, and the number of its report is its OrderID. */
+static void expect_taken_over(unsigned record, const char *id)
+{
+    enum { RECORD = 128 };
+    const uint8_t *before = kept.all + GUARD;
+    size_t behind = (record + 1) * RECORD;
+    char number[16];
+    snprintf(number, sizeof number, "%" PRIu64, next_number());
+    EXPECT(submit(new_order(id, 2, 1, "0.100", 0, '0')) == 0 && says(17, number) && says(37, number));
+    EXPECT(memcmp(table + RECORD, before + RECORD, (record - 1) * RECORD) == 0);
+    EXPECT(memcmp(table + behind, before + behind, TABLE - behind) == 0);
+    EXPECT(table[record * RECORD] == strlen(id) && memcmp(table + record * RECORD + 1, id, strlen(id)) == 0);
+    EXPECT(run() == 0 && ran.steps == 1);
 }
 
 static void test_full_table(void)
@@ -475,6 +490,15 @@ static void test_full_table(void)
     EXPECT(submit(replacement("N256", "N255", 2, 1, "-999999.999")) == 0);
     EXPECT(run() == 0 && ran.steps == 1);
     EXPECT(level_is(2, 0, 999999999, 254ull * 999999999, 254) && level_is(2, 1, -999999999, 1, 1));
+    /* records with nothing open go to new orders, the lowest-numbered first, and a ClOrdID is free when its order is gone */
+    EXPECT(submit(cancellation("C-3", "N3", 2)) == 0 && says(37, "3"));
+    EXPECT(submit(cancellation("C-250", "N250", 2)) == 0 && says(37, "250"));
+    EXPECT(submit(new_order("C-3", 2, 1, "0.100", 0, '0')) == 7 && says(103, "6"));
+    expect_taken_over(3, "O-1");
+    expect_taken_over(250, "C-3");
+    EXPECT(level_is(2, 1, 100, 2, 2));
+    EXPECT(submit(cancellation("C-4", "C-250", 2)) == 8 && says(102, "1") && says(37, "NONE"));
+    EXPECT(submit(new_order("O-2", 2, 1, "0.100", 0, '0')) == 7 && says(103, "0"));
 }
 
 /* ---- Run */

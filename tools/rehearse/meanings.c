@@ -34,7 +34,7 @@ static const struct meaning session_reasons[] = {
 
 /* 103 */
 static const struct meaning order_reasons[] = {
-    {"0", "no room: the market has 255 orders"},
+    {"0", "no room: 255 orders are open"},
     {"1", "unknown bond code in tag 55"},
     {"6", "duplicate ClOrdID"},
     {"99", "MPID in tag 109 not listed in this market"},

@@ -1,5 +1,5 @@
 -- Marks at keys against comparing every two: keys that were passed have a mark, so one without a mark is new; and the keys
--- of ClOrdIDs and places.
+-- of ClOrdIDs, of places and OrderIDs.
 use mathlib.Core.Path.{_≡_, refl, sym, ap, _∙_}
 use mathlib.Core.Bool.{Bool, true, false, not, _&&_}
 use mathlib.Core.List.{List}
@@ -13,15 +13,17 @@ use lib.Dec.{eqb, ltb}
 use lib.ListN.{length, getD, set, drop, length-set}
 use lib.Seq.{getD-set-same, getD-set-other, drop-cons, drop-length}
 use Rattle.octets.specs.Octets.{sameBytes}
-use Rattle.octets.specs.Tests.{allUpTo}
 use Rattle.octets.proofs.Bools.{split, both-i, both-not-l, both-not-r}
 use Rattle.octets.proofs.Parts.{not-same}
 use Rattle.octets.proofs.Ranges.{all-from}
-use Rattle.matching.specs.Matching.{Book, at}
+use Rattle.matching.specs.declared.Order.{Order}
+use Rattle.matching.specs.Matching.{at}
+use Rattle.table.specs.Heading.{nextOf}
 use Rattle.table.specs.Orders.{clOrdIdAt, orderAt, filled, bookOf}
-use Rattle.table.specs.Market.{isFreshId, isFreshPlace, hasPlaces}
+use Rattle.table.specs.Market.{isFreshId, isFresh, areFresh, hasPlaces, hasOrderIds}
 use Rattle.table.proofs.Books.{length-book, at-book}
-use Rattle.audit.specs.Checking.{digest, keyOf, placeKey}
+use Rattle.table.proofs.Fresh.{fresh-ext}
+use Rattle.audit.specs.Checking.{digest, keyOf, numberKey, numberAt}
 
 -- ---- the first j keys have a mark: at the start, one more, and what a key without a mark tells
 pub record Marked (key : ℕ → ℕ) (mark : List ℕ) (j : ℕ) : Type 0 where
@@ -100,40 +102,48 @@ id-unmarked t j x y {low} {high} m k e f h =
     let g : not (eqb (getD high y 0) 0) ≡ false = rw z at h in
     id-new t j (λ i l same. unmarked y k f (eqb-true _ 0 (not-false _ g)) i l (ap (λ (q : ℕ). q / 2048) same)))
 
--- ---- places: order k + 1 of the book is record k + 1
+-- ---- order k + 1 of the book is record k + 1
 pub at-record : (t : List ℕ) (n k : ℕ) → n ≡ filled t → k < n → at (bookOf t) (suc k) ≡ orderAt t (k + 1)
 at-record t n k e l = at-book t (suc k) (omega arith) (omega arith) ∙ ap (orderAt t) (sym (add-one k))
 
 pub book-length : (t : List ℕ) (n : ℕ) → n ≡ filled t → length (bookOf t) ≡ n
 book-length t n e = length-book t ∙ sym e
 
-abbrev pub placeKeyAt : Book → ℕ → ℕ
-placeKeyAt b i = placeKey (at b (suc i) .place)
+-- ---- numbers of records, f i that of record i: one whose key is that of none before is new
+abbrev pub keyAt : (ℕ → ℕ) → ℕ → ℕ
+keyAt f i = numberKey (f (i + 1))
 
-pub place-new : (b : Book) (j : ℕ) → ((i : ℕ) → i < j → placeKeyAt b i ≡ placeKeyAt b j → ⊥) → isFreshPlace b j ≡ true
-unfolding isFreshPlace
-place-new b j h =
-    all-from (λ i. not (eqb (at b (suc i) .place) (at b (suc j) .place))) j (λ i l.
-    ap not (ne-eqb (at b (suc i) .place) (at b (suc j) .place) (λ e. h i l (ap placeKey e))))
+pub number-new : (f : ℕ → ℕ) (j : ℕ) → ((i : ℕ) → i < j → keyAt f i ≡ keyAt f j → ⊥) → isFresh f j ≡ true
+unfolding isFresh
+number-new f j h =
+    all-from (λ i. not (eqb (f (i + 1)) (f (j + 1)))) j (λ i l. ap not (ne-eqb (f (i + 1)) (f (j + 1)) (λ e. h i l (ap numberKey e))))
 
--- the place of order k + 1, as it was read
-pub place-read : (t : List ℕ) (n k p : ℕ) → n ≡ filled t → k < n → p ≡ orderAt t (k + 1) .place → p ≡ at (bookOf t) (suc k) .place
-place-read t n k p e l h = h ∙ rw (at-record t n k e l)
+-- the test of record j + 1, by the number that was read
+module _ (f : ℕ → ℕ) (next : ℕ) where
+  abbrev pub fresh : ℕ → Bool
+  fresh j = ltb (f (j + 1)) next && isFresh f j
 
--- the test of order j + 1, and of all
-module _ (t : List ℕ) (n next : ℕ) (e : n ≡ filled t) where
-  abbrev pub placed : ℕ → Bool
-  placed j = ltb (at (bookOf t) (suc j) .place) next && isFreshPlace (bookOf t) j
+  pub number-high : (j x : ℕ) → x ≡ f (j + 1) → next ≤ x → fresh j ≡ false
+  number-high j x h m = both-not-l (ltb (f (j + 1)) next) (isFresh f j) (le-ltb _ _ (rw h at m))
 
-  pub place-high : (j p : ℕ) → j < n → p ≡ orderAt t (j + 1) .place → next ≤ p → placed j ≡ false
-  place-high j p l h m = both-not-l (ltb (at (bookOf t) (suc j) .place) next) (isFreshPlace (bookOf t) j) (le-ltb _ _ (rw (place-read t n j p e l h) at m))
+  pub number-old : (j : ℕ) → isFresh f j ≡ false → fresh j ≡ false
+  number-old j h = both-not-r (ltb (f (j + 1)) next) (isFresh f j) h
 
-  pub place-old : (j : ℕ) → isFreshPlace (bookOf t) j ≡ false → placed j ≡ false
-  place-old j h = both-not-r (ltb (at (bookOf t) (suc j) .place) next) (isFreshPlace (bookOf t) j) h
+  pub number-good : (j x : ℕ) → x ≡ f (j + 1) → x < next → isFresh f j ≡ true → fresh j ≡ true
+  number-good j x h m g = both-i (lt-ltb _ _ (rw h at m)) g
 
-  pub place-good : (j p : ℕ) → j < n → p ≡ orderAt t (j + 1) .place → p < next → isFreshPlace (bookOf t) j ≡ true → placed j ≡ true
-  place-good j p l h m f = both-i (lt-ltb _ _ (rw (place-read t n j p e l h) at m)) f
+-- ---- the places of the book, and the OrderIDs, are numbers of the filled records
+place-read : (t : List ℕ) (i : ℕ) → 1 ≤ i → i ≤ filled t → at (bookOf t) i .place ≡ numberAt t 56 i
+unfolding orderAt
+place-read t i l h = ap (λ (o : Order). o .place) (at-book t i l h)
 
-  pub places-all : (r : Bool) → allUpTo placed n ≡ r → r ≡ hasPlaces (bookOf t) next
-  unfolding hasPlaces
-  places-all r h = sym h ∙ rw (book-length t n e)
+pub places-are : (t : List ℕ) (n next : ℕ) (r : Bool) → n ≡ filled t → r ≡ areFresh (numberAt t 56) next n → r ≡ hasPlaces (bookOf t) next
+unfolding hasPlaces
+places-are t n next r e h =
+    let s : areFresh (λ i. at (bookOf t) i .place) next n ≡ areFresh (numberAt t 56) next n =
+    fresh-ext (λ i. at (bookOf t) i .place) (numberAt t 56) next n (λ i l m. place-read t i l (omega arith)) in
+    h ∙ sym s ∙ ap (areFresh (λ i. at (bookOf t) i .place) next) (sym (book-length t n e))
+
+pub order-ids-are : (t : List ℕ) (n next : ℕ) (r : Bool) → n ≡ filled t → next ≡ nextOf t → r ≡ areFresh (numberAt t 84) next n → r ≡ hasOrderIds t
+unfolding hasOrderIds
+order-ids-are t n next r e f h = rw (← e, ← f) h

@@ -17,7 +17,7 @@ use Rattle.matching.specs.declared.Order.{Order}
 use Rattle.matching.specs.Matching.{none, at, openOf, isOpen, isBuy, isImmediate, minimumOf, opposite, opposed, opposedTo, sumOver, countOf}
 use Rattle.table.specs.Heading.{nextOf, workOf, decidedOf}
 use Rattle.table.specs.Orders.{orderAt, filled, bookOf}
-use Rattle.table.specs.Market.{hasLength, hasSettings, hasNext, hasWork, hasSpare, restZero, hasOrders, hasIds, isDone, noIoc, noCross, hasNumbers, isBook, hasDecision, isMarket}
+use Rattle.table.specs.Market.{hasLength, hasSettings, hasNext, hasWork, hasSpare, restZero, hasOrders, hasIds, hasOrderIds, isDone, noIoc, noCross, hasNumbers, isBook, hasDecision, isMarket}
 use Rattle.table.proofs.Books.{length-book, at-book}
 use Rattle.audit.specs.Checking.{top, lowWith, highWith, lowBuy, highSell}
 use Rattle.audit.proofs.Amounts.{narrow-order}
@@ -223,11 +223,11 @@ pub not-long : (t : List ℕ) → (length t ≡ 32768 → ⊥) → false ≡ isM
 unfolding isMarket hasLength
 not-long t h = rw (ne-eqb (length t) 32768 h)
 
-pub market-is : (t : List ℕ) (n : ℕ) (a b c d e f g h : Bool) → length t ≡ 32768 → n ≡ filled t
+pub market-is : (t : List ℕ) (n : ℕ) (a b c d e f g o h : Bool) → length t ≡ 32768 → n ≡ filled t
     → a ≡ hasSettings t → b ≡ hasNext t → c ≡ hasWork t → d ≡ hasSpare t → e ≡ allZero (drop (128 * (n + 1)) t) → f ≡ hasOrders t
-    → g ≡ hasIds t → h ≡ (isBook (bookOf t) (workOf t) (nextOf t) && hasDecision (bookOf t) (workOf t) (decidedOf t)) → (a && b && c && d && e && f && g && h) ≡ isMarket t
+    → g ≡ hasIds t → o ≡ hasOrderIds t → h ≡ (isBook (bookOf t) (workOf t) (nextOf t) && hasDecision (bookOf t) (workOf t) (decidedOf t)) → (a && b && c && d && e && f && g && o && h) ≡ isMarket t
 unfolding isMarket hasLength restZero
-market-is t n a b c d e f g h l pn pa pb pc pd pe pf pg ph =
-    rw (eq-eqb (length t) 32768 l, pa, pb, pc, pd, pe, pf, pg, ph, pn)
-    (sym (and-assoc (hasSettings t && hasNext t && hasWork t && hasSpare t && allZero (drop (128 * (filled t + 1)) t) && hasOrders t && hasIds t)
+market-is t n a b c d e f g o h l pn pa pb pc pd pe pf pg po ph =
+    rw (eq-eqb (length t) 32768 l, pa, pb, pc, pd, pe, pf, pg, po, ph, pn)
+    (sym (and-assoc (hasSettings t && hasNext t && hasWork t && hasSpare t && allZero (drop (128 * (filled t + 1)) t) && hasOrders t && hasIds t && hasOrderIds t)
     (isBook (bookOf t) (workOf t) (nextOf t)) (hasDecision (bookOf t) (workOf t) (decidedOf t))))

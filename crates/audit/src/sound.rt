@@ -22,6 +22,7 @@ use table::places;
 use table::record::capacity;
 use table::record::classification;
 use table::record::load;
+use table::record::order_id;
 
 // Whether an account or none stands at place p. Most orders have none, and then all its room is zeros.
 fn is_account(t: &[u8], p: usize) -> bool
@@ -44,7 +45,7 @@ fn is_unused(t: &[u8], p: usize) -> bool
     most + x == 0
 }
 
-// Whether the texts, the capacity, the classification and the unused bytes of record i are in order.
+// Whether the texts, the capacity, the classification, the OrderID and the unused bytes of record i are in order.
 fn is_record(t: &[u8], i: usize) -> bool
     requires { ⌜ (length (now t) ≡ tableBytes) × (i < 256) ⌝ }
     ensures { λ r. ⌜ r ≡ isRecord (now (t .entry)) i ⌝ }
@@ -56,7 +57,7 @@ fn is_record(t: &[u8], i: usize) -> bool
         & is_account(t, b + places::ACCOUNT)
         & ((capacity == 65) | (capacity == 80))
         & ((class == 1) | ((3 <= class) & (class <= 6)))
-        & zeros_at(t, b + places::GAP, 4)
+        & (1 <= order_id(t, i))
         & is_unused(t, b + places::RECORD_END)
 }
 

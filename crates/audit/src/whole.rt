@@ -14,6 +14,7 @@ use crate::checks::has_settings;
 use crate::checks::has_spare;
 use crate::checks::has_work;
 use crate::marks::has_ids;
+use crate::marks::has_order_ids;
 use crate::sound::has_orders;
 use table::book::filled;
 use table::entries::entries;
@@ -47,5 +48,6 @@ pub fn is_market(t: &[u8]) -> bool
         & octets::rest_zero(t, places::RECORD * (n + 1))
         & has_orders(t, m, n)
         & has_ids(t, n)
+        & has_order_ids(t, n)
         & has_book(t, n)
 }

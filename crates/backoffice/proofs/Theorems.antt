@@ -76,7 +76,7 @@ module _ (before venue port code : List ℕ) (first : ℕ) (mpids modes : List �
     numbered-without-gap subscription set =
         numbered subscription shows feedPort feedGroup set reports 1 (omega arith) few (all-read before venue port code first mpids modes taken calls)
 
-    -- a full feed: the account of every order (37) by the copies is its account by the reports
+    -- a full feed: the account of every OrderID (37) by the copies is its account by the reports, those of orders that are gone too
     pub same-accounts : isSetting 2 shows feedPort feedGroup ≡ true → (k : ℕ) → copyAccountOf k (copiesFrom 2 shows feedPort feedGroup 1 reports) ≡ accountOf k reports
     same-accounts set k = full-accounts shows feedPort feedGroup set k reports blank 1 (omega arith) few (all-read before venue port code first mpids modes taken calls)
 

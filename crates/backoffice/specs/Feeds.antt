@@ -39,7 +39,7 @@ copiesFrom subscription shows port group n (r ∷ rs) =
 
 -- ---- what is told from them
 
--- the account of order k (37), copy by copy
+-- the account of the order with OrderID k (37), copy by copy
 unfoldable pub copyAccountFrom : ℕ → Account → List (List ℕ) → Account
 copyAccountFrom k a [] = a
 copyAccountFrom k a (c ∷ cs) = copyAccountFrom k (noted k a (readCopyOf c)) cs

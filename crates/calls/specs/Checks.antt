@@ -1,19 +1,18 @@
--- Whether a request can be done on a table (document 01, "Reading a message", the checks of D, F and G): the first check that fails
--- gives the reason, 103 of a new order and 102 of a change. A ClOrdID is in the table while an order has it, dead orders included.
--- Assumes nothing.
+-- Whether a request can be done on a table (document 01, "Reading a message", the checks of D, F and G; document 02, T-09): the first
+-- check that fails gives the reason, 103 of a new order and 102 of a change. A ClOrdID is in the table while a record has it, those
+-- of dead orders included. Assumes nothing.
 use mathlib.Core.Bool.{Bool, cond, not, _&&_, _||_}
 use mathlib.Core.List.{List}
 use Prim.Native.Nat.{ℕ, _+_}
-use lib.Dec.{eqb, ltb, leb}
+use lib.Dec.{eqb, ltb}
 use Rattle.octets.specs.Octets.{partAt, sameBytes}
 use Rattle.fix.specs.declared.frame.Part.{Part}
 use Rattle.request.specs.declared.NewOrder.{NewOrder}
 use Rattle.request.specs.declared.Replacement.{Replacement}
 use Rattle.request.specs.declared.Cancellation.{Cancellation}
 use Rattle.matching.specs.Matching.{openOf}
-use Rattle.table.specs.Places.{mostOrders}
 use Rattle.table.specs.Heading.{codeOf, isListed}
-use Rattle.table.specs.Orders.{orderAt, filled, recordWith}
+use Rattle.table.specs.Orders.{orderAt, filled, recordWith, recordFor}
 use Rattle.calls.specs.declared.Standing.{Standing}
 use Rattle.calls.specs.declared.Standing.the-variants.{Stands, Fails}
 
@@ -32,13 +31,14 @@ inTable t clOrdId = not (eqb (holder t clOrdId) 0)
 abbrev pub isCode : List ℕ → List ℕ → Bool
 isCode t code = sameBytes code (codeOf t)
 
--- a new order, 103: 1 another code, 99 an MPID that is not listed, 6 a ClOrdID in the table, 0 a full table
+-- a new order, 103: 1 another code, 99 an MPID that is not listed, 6 a ClOrdID in the table, 0 no record that it can take, which is so
+-- exactly if 255 orders are open
 unfoldable pub newStands : List ℕ → List ℕ → NewOrder → Standing
 newStands t message o =
     cond (not (isCode t (textOf message (o .code)))) (Fails 1)
     (cond (ltb 0 (o .terms .mpid) && not (isListed t (o .terms .mpid))) (Fails 99)
     (cond (inTable t (textOf message (o .id))) (Fails 6)
-    (cond (leb mostOrders (filled t)) (Fails 0)
+    (cond (eqb (recordFor t) 0) (Fails 0)
     Stands)))
 
 -- a change of the order that has ClOrdID 41, record k, 102: 1 another code or no such order, 2 another side, 0 nothing open, 2 a

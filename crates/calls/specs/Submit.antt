@@ -1,8 +1,8 @@
--- What Submit answers and leaves (document 01, "The table and its calls", Submit and refusals 1 to 8): for any bytes of a table, of a
--- message, and any length of the report area. Assumes nothing.
+-- What Submit answers and leaves (document 01, "The table and its calls", Submit and refusals 1 to 8; document 02, T-09): for any
+-- bytes of a table, of a message, and any length of the report area. Assumes nothing.
 use mathlib.Core.Bool.{Bool, true, false, cond, not}
 use mathlib.Core.List.{List, [], _∷_}
-use Prim.Native.Nat.{ℕ, _+_}
+use Prim.Native.Nat.{ℕ}
 use lib.Dec.{eqb, ltb}
 use lib.ListN.{length}
 use Rattle.fix.specs.declared.frame.Part.{Part}
@@ -18,7 +18,7 @@ use Rattle.matching.specs.declared.Event.{Event}
 use Rattle.matching.specs.declared.Event.the-variants.{Accepted, Replaced, Withdrawn}
 use Rattle.matching.specs.Matching.{openOf}
 use Rattle.table.specs.Heading.{venueOf, portOf, nextOf, workOf}
-use Rattle.table.specs.Orders.{orderAt, filled, accepted, replaced, withdrawn}
+use Rattle.table.specs.Orders.{orderAt, recordFor, accepted, replaced, withdrawn}
 use Rattle.table.specs.Market.{isMarket}
 use Rattle.table.specs.Changes.{numbered, entered, renewed, taken}
 use Rattle.report.specs.declared.Place.{Place}
@@ -87,7 +87,7 @@ module _ (t message : List ℕ) where
 
   -- ---- what is taken: the report of its event, and the table after it
 
-  -- a new order: the next record, its place the number of this report
+  -- a new order: the number of this report is its place, and its OrderID
   abbrev pub newOrderOf : NewOrder → Order
   newOrderOf o =
       record {
@@ -106,11 +106,11 @@ module _ (t message : List ℕ) where
 
   unfoldable pub newTaken : NewOrder → Submitted
   newTaken o =
-      let k = filled t + 1 in
+      let k = recordFor t in
       let clOrdId = textOf message (o .id) in
       let account = textOf message (o .account) in
-      reported (entered t clOrdId account (o .terms .capacity) (o .terms .class) (newOrderOf o) (textOf message (o .time)))
-      (ticketOf (accepted t k clOrdId account (o .terms .capacity) (o .terms .class) (newOrderOf o)) message (nextOf t) (causeOf (o .time) noText) (Accepted k (newOrderOf o)))
+      reported (entered t k clOrdId account (o .terms .capacity) (o .terms .class) (newOrderOf o) (textOf message (o .time)))
+      (ticketOf (accepted t k (nextOf t) clOrdId account (o .terms .capacity) (o .terms .class) (newOrderOf o)) message (nextOf t) (causeOf (o .time) noText) (Accepted k (newOrderOf o)))
       (λ n. answer.Taken n)
 
   -- a replacement of record k: the place that it may take is the number of this report

@@ -45,7 +45,7 @@ numbers (shape.OneOf a b c d e) = false
 numbers (shape.Range least most) = leb least 1 && leb 999999999 most
 numbers (shape.Listed a b c d e f g h) = false
 numbers (shape.Exact w x y z) = false
-numbers shape.Record = false
+numbers shape.OrderId = false
 numbers (shape.Text most low) = false
 numbers shape.Digits = false
 numbers shape.Time = false
@@ -93,7 +93,7 @@ module _ (s client : List ℕ) (n : ℕ) where
             (tt, λ place. ap numberIn said)
         by (shape.Listed a b c d x f h i) e = absurd (false≢true e)
         by (shape.Exact w x y z) e = absurd (false≢true e)
-        by shape.Record e = absurd (false≢true e)
+        by shape.OrderId e = absurd (false≢true e)
         by (shape.Text most low) e = absurd (false≢true e)
         by shape.Digits e = absurd (false≢true e)
         by shape.Time e = absurd (false≢true e)

@@ -170,7 +170,7 @@ isUnused (shape.OneOf a b c d e) = false
 isUnused (shape.Range least most) = false
 isUnused (shape.Listed a b c d e f g h) = false
 isUnused (shape.Exact w x y z) = false
-isUnused shape.Record = false
+isUnused shape.OrderId = false
 isUnused (shape.Text most low) = false
 isUnused shape.Digits = false
 isUnused shape.Time = false
@@ -202,7 +202,7 @@ module _ (sent stored : List ℕ) where
       by (shape.Range least most) e = refl
       by (shape.Listed a b c d g h i j) e = refl
       by (shape.Exact w x y z) e = refl
-      by shape.Record e = refl
+      by shape.OrderId e = refl
       by (shape.Text most low) e = refl
       by shape.Digits e = refl
       by shape.Time e = refl

@@ -17,7 +17,7 @@ use Rattle.report.specs.declared.Shape.{Shape}
 use Rattle.report.specs.declared.Shape.the-variants as shape
 use Rattle.report.specs.declared.Pick.{Pick}
 use Rattle.report.specs.declared.Pick.the-variants.{Is, No}
-use Rattle.report.specs.Shapes.{oneIn, numberIn, listedIn, wordIn, recordIn, allFrom, textIn, placeIn, timeIn, yieldIn, averageIn, valueIn}
+use Rattle.report.specs.Shapes.{oneIn, numberIn, listedIn, wordIn, orderIdIn, allFrom, textIn, placeIn, timeIn, yieldIn, averageIn, valueIn}
 use Rattle.report.proofs.Back.{moved}
 
 pub is-never : (x : Value) → No ≡ Is x → ⊥
@@ -65,9 +65,9 @@ plain-word : (w x y z : ℕ) (v : List ℕ) → plainly (wordIn w x y z v) ≡ t
 unfolding wordIn
 plain-word w x y z v = plain-cond (sameBytes v (w ∷ x ∷ y ∷ z ∷ [])) (Is (Word w x y z)) No refl refl
 
-plain-record : (v : List ℕ) → plainly (recordIn v) ≡ true
-unfolding recordIn
-plain-record v = plain-cond (sameBytes v (78 ∷ 79 ∷ 78 ∷ 69 ∷ [])) (Is (Word 78 79 78 69)) (numberIn (within 1 255 (bareOf 9 v))) refl (plain-number (within 1 255 (bareOf 9 v)))
+plain-order-id : (v : List ℕ) → plainly (orderIdIn v) ≡ true
+unfolding orderIdIn
+plain-order-id v = plain-cond (sameBytes v (78 ∷ 79 ∷ 78 ∷ 69 ∷ [])) (Is (Word 78 79 78 69)) (numberIn (within 1 999999999 (bareOf 9 v))) refl (plain-number (within 1 999999999 (bareOf 9 v)))
 
 plain-yield : (q : Said) → plainly (yieldIn q) ≡ true
 plain-yield (Says n) = refl
@@ -113,7 +113,7 @@ module _ (s stored : List ℕ) (place : ℕ) where
   again (shape.Range least most) from v x h e = same-plain (numberIn (within least most (bareOf 9 v))) x (plain-number (within least most (bareOf 9 v))) e
   again (shape.Listed a b c d g i j k) from v x h e = same-plain (listedIn a b c d g i j k (bareOf 9 v)) x (plain-listed a b c d g i j k (bareOf 9 v)) e
   again (shape.Exact w y z u) from v x h e = same-plain (wordIn w y z u v) x (plain-word w y z u v) e
-  again shape.Record from v x h e = same-plain (recordIn v) x (plain-record v) e
+  again shape.OrderId from v x h e = same-plain (orderIdIn v) x (plain-order-id v) e
   again (shape.Text most low) from v x h e = same-text (eqb (length v) 0) (ltb most (length v)) (allFrom low v) from (length v) x h e
   again shape.Digits from v x h e = same-digits (numOf 9 v) from (length v) x h e
   again shape.Time from v x h e = same-text false false (isTime v) from (length v) x h e

@@ -14,7 +14,7 @@ use Rattle.decimal.specs.Reading.{isDigit, digitOf, runOf, numberAfter, isNumbe
 use Rattle.fix.specs.Garbled.{sumOf, checkSum}
 use Rattle.report.specs.Fields.{label, written, fieldBytes}
 use Rattle.report.specs.Frame.{version, front, trailer, reportBytes}
-use Rattle.report.specs.Shapes.{oneIn, wordIn, recordIn, textIn, timeIn}
+use Rattle.report.specs.Shapes.{oneIn, wordIn, orderIdIn, textIn, timeIn}
 use Rattle.report.specs.Parse.{valueAt, fieldAt, hop, placeOf}
 use Rattle.report.specs.Slots.{acceptedSlots, canceledSlots, tradeSlots, rejectedSlots}
 use Rattle.report.specs.Reports.{bodyAt, trailerAt, readFramed, executionFor, kindFor, firstOf, kindOf, oneReason, refused, readOf}
@@ -26,7 +26,7 @@ use Rattle.feed.specs.Copies.{copyBytes, fed, readCopyOf}
 
 -- open the definitions that a copy is computed with
 computes : ℕ
-unfolding partAt sameBytes decimal places plain fixed bare bareOf exactlyOf amountOf fixedOf isDigit digitOf runOf numberAfter isNumber numOf digitAt isFraction fractionOf sizeOf levelOf isTimeLength twoAt timeShaped timeRanged isTime sumOf checkSum label written fieldBytes version front trailer reportBytes oneIn wordIn recordIn textIn timeIn valueAt fieldAt hop placeOf acceptedSlots canceledSlots tradeSlots rejectedSlots bodyAt trailerAt readFramed executionFor kindFor firstOf kindOf oneReason readOf with797 isFillOrKill iocValue iocField shownRow copyValue copyField copyRow copySlot copySlots clientOf isIdentifier areIdentifiers isSetting copyBytes fed readCopyOf
+unfolding partAt sameBytes decimal places plain fixed bare bareOf exactlyOf amountOf fixedOf isDigit digitOf runOf numberAfter isNumber numOf digitAt isFraction fractionOf sizeOf levelOf isTimeLength twoAt timeShaped timeRanged isTime sumOf checkSum label written fieldBytes version front trailer reportBytes oneIn wordIn orderIdIn textIn timeIn valueAt fieldAt hop placeOf acceptedSlots canceledSlots tradeSlots rejectedSlots bodyAt trailerAt readFramed executionFor kindFor firstOf kindOf oneReason readOf with797 isFillOrKill iocValue iocField shownRow copyValue copyField copyRow copySlot copySlots clientOf isIdentifier areIdentifiers isSetting copyBytes fed readCopyOf
 computes = 0
 
 -- the identifiers P1 and G

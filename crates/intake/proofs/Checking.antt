@@ -7,7 +7,7 @@ use native.Mathlib.Omega.{arith}
 use lib.Dec.{eqb, ltb}
 use mir.Syntax.{w64}
 use mir.Val.{Fits}
-use borrow.Author.Tests.{eqb-false, eq-eqb, ne-eqb, le-leb, lt-leb, lt-ltb, le-ltb}
+use borrow.Author.Tests.{eqb-false, eq-eqb, ne-eqb, lt-ltb, le-ltb}
 use Rattle.octets.proofs.Bools.{neither-r}
 use Rattle.fix.specs.declared.frame.Part.{Part}
 use Rattle.request.specs.declared.NewOrder.{NewOrder}
@@ -17,7 +17,7 @@ use Rattle.matching.specs.declared.Order.{Order}
 use Rattle.matching.specs.Matching.{openOf}
 use Rattle.matching.specs.Held.{Covered}
 use Rattle.table.specs.Heading.{isListed}
-use Rattle.table.specs.Orders.{orderAt, filled}
+use Rattle.table.specs.Orders.{orderAt, filled, recordFor}
 use Rattle.table.specs.Facts.{Market}
 use Rattle.table.proofs.Same.{filled-few}
 use Rattle.table.proofs.Lookups.{market-sound}
@@ -52,14 +52,14 @@ module _ (t message : List ℕ) (o : NewOrder) (xs : List ℕ) (q : xs ≡ textO
       unfolding newStands
       new-known h = rw (coded, a, ← r, b, ← s, ne-eqb k 0 h)
 
-      module _ (d : k ≡ 0) (n : ℕ) (u : n ≡ filled t) where
-        pub new-full : 255 ≤ n → Fails 0 ≡ newStands t message o
+      module _ (d : k ≡ 0) (n : ℕ) (u : n ≡ recordFor t) where
+        pub new-full : n ≡ 0 → Fails 0 ≡ newStands t message o
         unfolding newStands
-        new-full h = rw (coded, a, ← r, b, ← s, eq-eqb k 0 d, ← u, le-leb 255 n h)
+        new-full h = rw (coded, a, ← r, b, ← s, eq-eqb k 0 d, ← u, eq-eqb n 0 h)
 
-        pub new-good : n < 255 → Stands ≡ newStands t message o
+        pub new-good : (n ≡ 0 → ⊥) → Stands ≡ newStands t message o
         unfolding newStands
-        new-good h = rw (coded, a, ← r, b, ← s, eq-eqb k 0 d, ← u, lt-leb 255 n h)
+        new-good h = rw (coded, a, ← r, b, ← s, eq-eqb k 0 d, ← u, ne-eqb n 0 h)
 
 -- ---- a change
 

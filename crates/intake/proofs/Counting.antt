@@ -22,7 +22,7 @@ use Rattle.matching.specs.declared.Event.the-variants.{Replaced, Withdrawn}
 use Rattle.matching.specs.Matching.{openOf, who, change}
 use Rattle.table.specs.Places.{tableBytes}
 use Rattle.table.specs.Heading.{venueOf, portOf, nextOf, putWork}
-use Rattle.table.specs.Orders.{orderAt, filled, termBytes, amountBytes, recordOf, putId, accepted, replaced, withdrawn}
+use Rattle.table.specs.Orders.{orderAt, recordFor, termBytes, amountBytes, recordOf, putId, accepted, replaced, withdrawn}
 use Rattle.table.specs.Market.{isMarket}
 use Rattle.table.specs.Changes.{numbered, entered, renewed, taken}
 use Rattle.table.proofs.Same.{put-below, next-same}
@@ -39,7 +39,7 @@ use Rattle.calls.specs.declared.SubmitAnswer.the-variants as answer
 use Rattle.calls.specs.Checks.{textOf, holder, newStands, cancelStands, replaceStands}
 use Rattle.calls.specs.Submit.{Submitted, rejecting, faulted, newRejected, changeRejected, newOrderOf, newTaken, replacementTaken, cancelTaken, entering, replacing, canceling, handled, submitted, submitLength, submitNumber}
 use Rattle.intake.specs.Intake.{Asking}
-use Rattle.intake.proofs.Standing.{replace-in, cancel-in}
+use Rattle.intake.proofs.Standing.{new-free, replace-in, cancel-in}
 use Rattle.intake.proofs.Doing.{accepted-long, replaced-long, withdrawn-long}
 use Rattle.intake.proofs.Legibles.{enter-legible, refused-legible, cancel-unmet, cancel-legible, replace-unmet, replace-legible, unmet-legible, fault-legible}
 use Rattle.intake.proofs.Keeping.{Comes, no-room, no-market, in-work, spent, heard, comes}
@@ -73,9 +73,10 @@ next-worked : (t u stamp : List ℕ) (w : ℕ) → length u ≡ tableBytes → n
 next-worked t u stamp w long e h =
     next-same (put-below (numbered u 1) 32 (w ∷ textBytes 21 stamp) 28 32 (lit≤ tt)) ∙ next-numbered t u long e h
 
-next-accepted : (t : List ℕ) (k : ℕ) (id account : List ℕ) (capacity class : ℕ) (x : Order) → 1 ≤ k → nextOf (accepted t k id account capacity class x) ≡ nextOf t
+next-accepted : (t : List ℕ) (k orderid : ℕ) (id account : List ℕ) (capacity class : ℕ) (x : Order) → 1 ≤ k
+    → nextOf (accepted t k orderid id account capacity class x) ≡ nextOf t
 unfolding accepted
-next-accepted t k id account capacity class x l = next-same (put-below t (128 * k) (recordOf id account capacity class x) 28 32 (omega arith))
+next-accepted t k orderid id account capacity class x l = next-same (put-below t (128 * k) (recordOf orderid id account capacity class x) 28 32 (omega arith))
 
 next-named : (t : List ℕ) (k : ℕ) (id : List ℕ) → 1 ≤ k → nextOf (putId t k id) ≡ nextOf t
 next-named t k id l = next-same (put-below t (128 * k) (textBytes 32 id) 28 32 (omega arith))
@@ -113,16 +114,16 @@ module _ (t message : List ℕ) where
   new-counted o (Fails reason) e a =
       rejected-counted _ (λ n. answer.OrderReject n) (λ n. refl) (λ n. refl) a (refused-short t message _ _ _ (refused-legible t message o a reason e))
   new-counted o Stands e a =
-      let k : ℕ = filled t + 1 in
+      let k : ℕ = recordFor t in
       let x : Order = newOrderOf t message o in
       let id : List ℕ = textOf message (o .id) in
       let account : List ℕ = textOf message (o .account) in
-      let u : List ℕ = accepted t k id account (o .terms .capacity) (o .terms .class) x in
+      let u : List ℕ = accepted t k (nextOf t) id account (o .terms .capacity) (o .terms .class) x in
       record {
         reports-are = refl;
         next-is =
-            next-worked t u (textOf message (o .time)) k (accepted-long t u id account k (o .terms .capacity) (o .terms .class) x (a .market .long) refl)
-            (next-accepted t k id account (o .terms .capacity) (o .terms .class) x (omega arith)) (a .numbers);
+            next-worked t u (textOf message (o .time)) k (accepted-long t u id account k (nextOf t) (o .terms .capacity) (o .terms .class) x (a .market .long) refl)
+            (next-accepted t k (nextOf t) id account (o .terms .capacity) (o .terms .class) x (new-free t message o a e)) (a .numbers);
         short = ticket-short u message _ _ _ (enter-legible t message o a e);
       }
 

@@ -25,7 +25,7 @@ use Rattle.matching.specs.Matching.{openOf, isImmediate, who, change}
 use Rattle.matching.specs.Held.{Covered, Sound}
 use Rattle.table.specs.Places.{tableBytes}
 use Rattle.table.specs.Heading.{nextOf}
-use Rattle.table.specs.Orders.{orderAt, filled, termBytes, amountBytes, recordOf, putId, accepted, replaced, withdrawn}
+use Rattle.table.specs.Orders.{orderAt, filled, recordFor, termBytes, amountBytes, recordOf, putId, accepted, replaced, withdrawn}
 use Rattle.table.specs.Market.{isCapacity, isClass}
 use Rattle.table.specs.Facts.{Market, Due}
 use Rattle.table.proofs.Lookups.{market-sound}
@@ -35,7 +35,7 @@ use Rattle.calls.specs.declared.Standing.the-variants.{Stands}
 use Rattle.calls.specs.Checks.{textOf, holder, newStands, cancelStands, replaceStands}
 use Rattle.calls.specs.Submit.{sentAt, noText, causeOf, newOrderOf}
 use Rattle.intake.specs.Intake.{Asking, orderWith}
-use Rattle.intake.proofs.Standing.{new-sound, new-capacity, new-class, new-free, cancel-holds}
+use Rattle.intake.proofs.Standing.{new-sound, new-capacity, new-class, cancel-holds}
 use Rattle.intake.proofs.Checking.{holder-below, below-256}
 use Rattle.intake.proofs.Legibles.{enter-legible, cancel-due, cancel-legible, replace-due, replace-legible}
 
@@ -90,20 +90,17 @@ module _ (t message : List ℕ) (o : NewOrder) (a : Asking t message (Enters o))
     pub tif-small : x .tif < 256
     tif-small = rw y (force-small (newOrderOf t message o) (new-sound t message o a))
 
-  module _ (s : newStands t message o ≡ Stands) (f : ℕ) (g : f ≡ filled t) where
-    pub record-small : f + 1 < 256
-    record-small = omega (arith, new-free t message o a s)
-
+  module _ (s : newStands t message o ≡ Stands) (k : ℕ) (g : k ≡ recordFor t) where
     pub enter-told : (n : ℕ) → n ≡ nextOf t → (x : Order) → x ≡ orderWith (o .terms) n → (c : Cause) → c ≡ causeOf (o .time) noText → (u : List ℕ)
-        → u ≡ accepted t (f + 1) (textOf message (o .id)) (textOf message (o .account)) (o .terms .capacity) (o .terms .class) x
-        → Legible u message n c (Accepted (f + 1) x)
+        → u ≡ accepted t k n (textOf message (o .id)) (textOf message (o .account)) (o .terms .capacity) (o .terms .class) x
+        → Legible u message n c (Accepted k x)
     enter-told n q x y c b u z = let w = order-new t message o n x q y in rw (z, q, b, g, w) (enter-legible t message o a s)
 
 -- the length after the record is written
-pub accepted-long : (t u id account : List ℕ) (k capacity class : ℕ) (x : Order) → length t ≡ tableBytes → u ≡ accepted t k id account capacity class x
-    → length u ≡ tableBytes
+pub accepted-long : (t u id account : List ℕ) (k orderid capacity class : ℕ) (x : Order) → length t ≡ tableBytes
+    → u ≡ accepted t k orderid id account capacity class x → length u ≡ tableBytes
 unfolding accepted
-accepted-long t u id account k capacity class x h e = ap length e ∙ length-put t (128 * k) (recordOf id account capacity class x) ∙ h
+accepted-long t u id account k orderid capacity class x h e = ap length e ∙ length-put t (128 * k) (recordOf orderid id account capacity class x) ∙ h
 
 pub replaced-long : (t u id : List ℕ) (e : Event) → length t ≡ tableBytes → u ≡ replaced t id e → length u ≡ tableBytes
 unfolding replaced

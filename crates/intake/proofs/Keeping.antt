@@ -17,7 +17,7 @@ use Rattle.request.specs.Asks.{askedOf}
 use Rattle.matching.specs.declared.Order.{Order}
 use Rattle.matching.specs.Matching.{openOf}
 use Rattle.table.specs.Heading.{venueOf, portOf, nextOf, workOf}
-use Rattle.table.specs.Orders.{orderAt}
+use Rattle.table.specs.Orders.{orderAt, recordFor}
 use Rattle.table.specs.Market.{isMarket}
 use Rattle.table.specs.Changes.{numbered}
 use Rattle.table.proofs.Facts.{market-facts}
@@ -44,8 +44,8 @@ module _ (t message : List ℕ) (m : isMarket t ≡ true) where
   unfolding newTaken newRejected rejecting
   new-kept o (Fails reason) e a = rejected-kept a
   new-kept o Stands e a =
-      a-new-order-keeps t m (a .idle) (textOf message (o .id)) (textOf message (o .account)) (o .terms .capacity) (o .terms .class) (newOrderOf t message o)
-      (textOf message (o .time)) (new-named t message o a e) (new-account-short t message o a) (new-account t message o a) (new-capacity t message o a)
+      a-new-order-keeps t m (a .idle) (recordFor t) (textOf message (o .id)) (textOf message (o .account)) (o .terms .capacity) (o .terms .class)
+      (newOrderOf t message o) (textOf message (o .time)) (new-named t message o a e) (new-account-short t message o a) (new-account t message o a) (new-capacity t message o a)
       (new-class t message o a) (new-enters t message o a e) (new-time t message o a)
 
   pub replace-kept : (o : Replacement) (s : Standing) → replaceStands t message o ≡ s → Asking t message (Replaces o) → isMarket (replacing t message o s .table) ≡ true

@@ -15,7 +15,7 @@ use Rattle.matching.specs.declared.Order.{Order}
 use Rattle.matching.specs.declared.Event.the-variants.{Accepted, Replaced, Withdrawn}
 use Rattle.matching.specs.Matching.{openOf}
 use Rattle.table.specs.Heading.{nextOf, putNext, putWork}
-use Rattle.table.specs.Orders.{orderAt, filled, accepted, replaced, withdrawn}
+use Rattle.table.specs.Orders.{orderAt, recordFor, accepted, replaced, withdrawn}
 use Rattle.table.specs.Changes.{numbered, entered, renewed, taken}
 use Rattle.report.specs.declared.Place.{Place}
 use Rattle.report.specs.declared.Field.{Field}
@@ -58,9 +58,10 @@ stamp-short message stamp time e h = rw e h
 
 -- ---- a new record
 
-pub written-new : (t u message id account : List ℕ) (k capacity class : ℕ) (o : NewOrder) (x : Order) → id ≡ textOf message (o .id) → account ≡ textOf message (o .account)
-    → u ≡ accepted t k id account capacity class x → u ≡ accepted t k (textOf message (o .id)) (textOf message (o .account)) capacity class x
-written-new t u message id account k capacity class o x i j e = rw (← i, ← j) e
+pub written-new : (t u message id account : List ℕ) (k orderid capacity class : ℕ) (o : NewOrder) (x : Order) → id ≡ textOf message (o .id)
+    → account ≡ textOf message (o .account) → u ≡ accepted t k orderid id account capacity class x
+    → u ≡ accepted t k orderid (textOf message (o .id)) (textOf message (o .account)) capacity class x
+written-new t u message id account k orderid capacity class o x i j e = rw (← i, ← j) e
 
 -- ---- the cause
 
@@ -109,16 +110,17 @@ module _ (t message area after : List ℕ) (len n : ℕ) (u : List ℕ) (q : n �
 
 module _ (t message area after : List ℕ) (len n : ℕ) (q : n ≡ nextOf t) (c : Cause) where
   -- a new order
-  module _ (o : NewOrder) (b : c ≡ causeOf (o .time) noText) (f : ℕ) (g : f ≡ filled t) (x : Order) (y : x ≡ orderWith (o .terms) n) (u : List ℕ)
-      (z : u ≡ accepted t (f + 1) (textOf message (o .id)) (textOf message (o .account)) (o .terms .capacity) (o .terms .class) x) where
+  module _ (o : NewOrder) (b : c ≡ causeOf (o .time) noText) (k : ℕ) (g : k ≡ recordFor t) (x : Order) (y : x ≡ orderWith (o .terms) n) (u : List ℕ)
+      (z : u ≡ accepted t k n (textOf message (o .id)) (textOf message (o .account)) (o .terms .capacity) (o .terms .class) x) where
     order-is : x ≡ newOrderOf t message o
     order-is = y ∙ rw q
 
-    after-is : u ≡ accepted t (filled t + 1) (textOf message (o .id)) (textOf message (o .account)) (o .terms .capacity) (o .terms .class) (newOrderOf t message o)
-    after-is = z ∙ rw (g, order-is)
+    after-is : u ≡ accepted t (recordFor t) (nextOf t) (textOf message (o .id)) (textOf message (o .account)) (o .terms .capacity) (o .terms .class)
+        (newOrderOf t message o)
+    after-is = z ∙ rw (g, q, order-is)
 
-    pub enter-left : Wrote area 0 (ticketOf u message n c (Accepted (f + 1) x)) len after → (v : List ℕ)
-        → v ≡ putWork (numbered u 1) (f + 1) (textOf message (o .time)) → Left (newTaken t message o) area (answer.Taken len) v after
+    pub enter-left : Wrote area 0 (ticketOf u message n c (Accepted k x)) len after → (v : List ℕ)
+        → v ≡ putWork (numbered u 1) k (textOf message (o .time)) → Left (newTaken t message o) area (answer.Taken len) v after
     unfolding newTaken entered
     enter-left w v h = reported-left _ _ area after len (λ r. answer.Taken r) v (rw (after-is, q, b, g, order-is) at w) (rw (after-is, g) at h)
 

@@ -5,7 +5,7 @@ use mathlib.Core.Bool.{true, not, _&&_, _||_}
 use mathlib.Core.List.{List, [], _∷_}
 use Prim.Native.Nat.{ℕ, _+_, _≤_}
 use native.Mathlib.Omega.{arith}
-use lib.Dec.{eqb, ltb, leb, lit≤}
+use lib.Dec.{eqb, ltb, lit≤}
 use lib.ListN.{length}
 use Rattle.octets.proofs.Bools.{split}
 use Rattle.decimal.specs.Reading.{isTime}
@@ -26,7 +26,7 @@ use Rattle.matching.specs.Matching.{at, openOf}
 use Rattle.matching.specs.Held.{Ready}
 use Rattle.table.specs.Places.{tableBytes}
 use Rattle.table.specs.Heading.{nextOf, isListed}
-use Rattle.table.specs.Orders.{orderAt, filled, bookOf, accepted, replaced, withdrawn}
+use Rattle.table.specs.Orders.{orderAt, bookOf, recordFor, accepted, replaced, withdrawn}
 use Rattle.table.specs.Market.{isPrintable}
 use Rattle.table.specs.Facts.{Due}
 use Rattle.table.proofs.Frames.{market-formed}
@@ -61,10 +61,11 @@ asking-headed t message x time a h =
 module _ (t message : List ℕ) (o : NewOrder) (a : Asking t message (Enters o)) where
   -- taken: on the table with its record
   pub enter-legible : newStands t message o ≡ Stands
-      → Legible (accepted t (filled t + 1) (textOf message (o .id)) (textOf message (o .account)) (o .terms .capacity) (o .terms .class) (newOrderOf t message o))
-      message (nextOf t) (causeOf (o .time) noText) (Accepted (filled t + 1) (newOrderOf t message o))
+      → Legible
+      (accepted t (recordFor t) (nextOf t) (textOf message (o .id)) (textOf message (o .account)) (o .terms .capacity) (o .terms .class) (newOrderOf t message o))
+      message (nextOf t) (causeOf (o .time) noText) (Accepted (recordFor t) (newOrderOf t message o))
   enter-legible s =
-      new-legible t message (textOf message (o .id)) (textOf message (o .account)) (o .terms .capacity) (o .terms .class) (newOrderOf t message o)
+      new-legible t message (recordFor t) (textOf message (o .id)) (textOf message (o .account)) (o .terms .capacity) (o .terms .class) (newOrderOf t message o)
       (causeOf (o .time) noText) (a .market) (a .idle) (new-named t message o a s) (new-account-short t message o a) (new-account t message o a)
       (new-capacity t message o a) (new-class t message o a) (new-enters t message o a s)
       (rw (sent-text message _ (o .time .start) (o .time .len)) (new-time t message o a))
@@ -76,7 +77,7 @@ module _ (t message : List ℕ) (o : NewOrder) (a : Asking t message (Enters o))
       split (not (isCode t (textOf message (o .code)))) (λ x. let q : Fails 1 ≡ Fails reason = rw x at e in given 1 q refl) (λ x.
       split (ltb 0 (o .terms .mpid) && not (isListed t (o .terms .mpid))) (λ y. let q : Fails 99 ≡ Fails reason = rw (x, y) at e in given 99 q refl) (λ y.
       split (inTable t (textOf message (o .id))) (λ z. let q : Fails 6 ≡ Fails reason = rw (x, y, z) at e in given 6 q refl) (λ z.
-      split (leb 255 (filled t)) (λ w. let q : Fails 0 ≡ Fails reason = rw (x, y, z, w) at e in given 0 q refl)
+      split (eqb (recordFor t) 0) (λ w. let q : Fails 0 ≡ Fails reason = rw (x, y, z, w) at e in given 0 q refl)
       (λ w. let q : Stands ≡ Fails reason = rw (x, y, z, w) at e in let n : _≡_ {A = ℕ} 0 1 = cc in absurd (omega arith)))))
     where
       given : (r : ℕ) → Fails r ≡ Fails reason → isAmong (0 ∷ 1 ∷ 6 ∷ 99 ∷ []) r ≡ true → isAmong (0 ∷ 1 ∷ 6 ∷ 99 ∷ []) reason ≡ true
@@ -212,7 +213,7 @@ module _ (t message : List ℕ) (time id original : Part) (k reason response : �
       unchanged-legible t message (nextOf t) (sentAt time) k (sentAt id) (sentAt original) reason response
       (formed-headed t (market-formed t (u .market)) message (nextOf t) (sentAt time) (u .market .next-low) (omega (arith, u .numbers))
       (rw (sent-text message t (time .start) (time .len)) (u .stamped)))
-      (unmet-holder .high) (u .clOrdId) (u .orig) (u .reason-in) (u .response-in)
+      unmet-holder (u .clOrdId) (u .orig) (u .reason-in) (u .response-in)
 
   pub unmet-told : (n : ℕ) → n ≡ nextOf t → (when new orig : Place) → when ≡ sentAt time → new ≡ sentAt id → orig ≡ sentAt original → (said : Unchanged)
       → said ≡ unchangedOn t k new orig reason response → LegibleUnchanged t message n when said

@@ -5,9 +5,9 @@ use mathlib.Core.Bool.{Bool, true, false, not, _&&_, _||_}
 use mathlib.Core.List.{List, [], _∷_}
 use Prim.Native.Nat.{ℕ, suc, _+_, _-_, _≤_, _<_}
 use native.Mathlib.Omega.{arith}
-use lib.Dec.{eqb, ltb, leb}
+use lib.Dec.{eqb, ltb}
 use lib.ListN.{length}
-use borrow.Author.Tests.{eqb-true, eqb-false, ltb-true, ltb-false, leb-false, le-leb, lt-ltb, not-false}
+use borrow.Author.Tests.{eqb-true, eqb-false, ltb-true, ltb-false, le-leb, lt-ltb, not-false}
 use Rattle.octets.specs.Octets.{sameBytes}
 use Rattle.octets.proofs.Bools.{split, both-i, or-l, or-r, neither-l, neither-r}
 use Rattle.decimal.specs.Reading.{isDigit, isTime}
@@ -22,12 +22,12 @@ use Rattle.request.proofs.Saying.{NewSpelt, enters-spelt, ReplacementSpelt, rep
 use Rattle.matching.specs.Matching.{at, openOf}
 use Rattle.matching.specs.Held.{mayMinimum, Sound, In, Enters as Entering, Renews}
 use Rattle.table.specs.Heading.{codeOf, nextOf, isListed}
-use Rattle.table.specs.Orders.{orderAt, filled, bookOf, recordWith}
+use Rattle.table.specs.Orders.{orderAt, filled, bookOf, recordWith, recordFor}
 use Rattle.table.specs.Market.{every, isPrintable, isCapacity, isClass}
 use Rattle.table.specs.Facts.{Named}
 use Rattle.table.proofs.Books.{length-book, at-book}
 use Rattle.table.proofs.Same.{filled-few}
-use Rattle.table.proofs.Lookups.{record-none, record-found}
+use Rattle.table.proofs.Lookups.{record-none, record-found, record-for-takes, record-for-small}
 use Rattle.calls.specs.declared.Standing.{Standing}
 use Rattle.calls.specs.declared.Standing.the-variants.{Stands, Fails}
 use Rattle.calls.specs.Checks.{textOf, holder, inTable, isCode, newStands, changeStands, cancelStands, andAbove, replaceStands}
@@ -87,7 +87,7 @@ pub record NewHolds (t message : List ℕ) (o : NewOrder) : Type 0 where
   pub code : isCode t (textOf message (o .code)) ≡ true
   pub owned : (eqb (o .terms .mpid) 0 || isListed t (o .terms .mpid)) ≡ true
   pub fresh : inTable t (textOf message (o .id)) ≡ false
-  pub free : filled t < 255
+  pub free : 0 < recordFor t
 
 stands-not : (r : ℕ) → Fails r ≡ Stands → ⊥
 stands-not r e = let z : _≡_ {A = ℕ} 0 1 = cc in omega arith
@@ -103,7 +103,7 @@ new-holds t message o e =
     let a : Bool = not (isCode t (textOf message (o .code))) in
     let b : Bool = ltb 0 (o .terms .mpid) && not (isListed t (o .terms .mpid)) in
     let c : Bool = inTable t (textOf message (o .id)) in
-    let d : Bool = leb 255 (filled t) in
+    let d : Bool = eqb (recordFor t) 0 in
     split a (λ x. absurd (stands-not 1 (rw x at e))) (λ x.
     split b (λ y. absurd (stands-not 99 (rw (x, y) at e))) (λ y.
     split c (λ z. absurd (stands-not 6 (rw (x, y, z) at e))) (λ z.
@@ -112,8 +112,20 @@ new-holds t message o e =
       code = not-false _ x;
       owned = listed-by (o .terms .mpid) (isListed t (o .terms .mpid)) y;
       fresh = z;
-      free = leb-false 255 (filled t) w;
+      free = omega (arith, eqb-false (recordFor t) 0 w);
     }))))
+
+fails-other : (r : ℕ) → 0 < r → Fails r ≡ Fails 0 → ⊥
+fails-other r l e = let z : r ≡ 0 = cc in omega arith
+
+-- one that is rejected with 103=0: there is no record for it
+pub new-refused : (t message : List ℕ) (o : NewOrder) → newStands t message o ≡ Fails 0 → recordFor t ≡ 0
+unfolding newStands
+new-refused t message o e =
+    split (not (isCode t (textOf message (o .code)))) (λ x. absurd (fails-other 1 (omega arith) (rw x at e))) (λ x.
+    split (ltb 0 (o .terms .mpid) && not (isListed t (o .terms .mpid))) (λ y. absurd (fails-other 99 (omega arith) (rw (x, y) at e))) (λ y.
+    split (inTable t (textOf message (o .id))) (λ z. absurd (fails-other 6 (omega arith) (rw (x, y, z) at e))) (λ z.
+    split (eqb (recordFor t) 0) (λ w. eqb-true (recordFor t) 0 w) (λ w. absurd (stands-not 0 (sym (rw (x, y, z, w) at e)))))))
 
 -- one of two numbers, one of three, and one of the classifications
 one-of-two : (x a b : ℕ) → oneOf x (a ∷ b ∷ []) ≡ true → (eqb x a || eqb x b) ≡ true
@@ -192,14 +204,14 @@ module _ (t message : List ℕ) (o : NewOrder) (a : Asking t message (Enters o))
     pub new-named : Named t (textOf message (o .id))
     new-named = named t (textOf message (o .id)) (new-holding .fresh) (new-said .id .some) (new-said .id .short) (between-printable _ (new-said .id .bytes))
 
-    pub new-free : filled t < 255
+    pub new-free : 0 < recordFor t
     new-free = new-holding .free
 
     -- it may enter the book
-    pub new-enters : Entering (isListed t) (nextOf t) (bookOf t) (filled t + 1) (newOrderOf t message o)
+    pub new-enters : Entering (isListed t) (nextOf t) (bookOf t) (recordFor t) (newOrderOf t message o)
     new-enters =
         record {
-          number = omega (arith, length-book t);
+          number = record-for-takes t (recordFor t) refl new-free;
           sound = new-sound;
           unexecuted = refl;
           undecremented = refl;
@@ -207,7 +219,8 @@ module _ (t message : List ℕ) (o : NewOrder) (a : Asking t message (Enters o))
           unsummed = refl;
           owned = new-holding .owned;
           newest = refl;
-          free = omega (arith, length-book t, new-free);
+          filled = omega (arith, length-book t, filled-few t);
+          free = record-for-small t (recordFor t) refl;
           numbered = a .numbers;
         }
 

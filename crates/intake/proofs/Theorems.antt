@@ -3,10 +3,18 @@ use mathlib.Core.Path.{_≡_}
 use mathlib.Core.Bool.{true}
 use mathlib.Core.List.{List}
 use Prim.Native.Nat.{ℕ, _+_, _≤_}
+use native.Mathlib.Omega.{arith}
 use lib.ListN.{length}
+use Rattle.request.specs.declared.NewOrder.{NewOrder}
+use Rattle.matching.specs.Matching.{isOpen, countOf}
 use Rattle.table.specs.Heading.{nextOf}
+use Rattle.table.specs.Orders.{bookOf}
 use Rattle.table.specs.Market.{isMarket}
+use Rattle.table.proofs.Theorems.{refused-means-open, open-means-refused}
+use Rattle.calls.specs.declared.Standing.the-variants.{Stands, Fails}
+use Rattle.calls.specs.Checks.{newStands}
 use Rattle.calls.specs.Submit.{submitted, submitNumber, submitLength}
+use Rattle.intake.proofs.Standing.{new-holds, new-refused}
 use Rattle.intake.proofs.Keeping.{submitted-kept}
 use Rattle.intake.proofs.Counting.{reportsOf, submitted-counted, submitted-named}
 
@@ -30,3 +38,11 @@ module _ (t message : List ℕ) (room : ℕ) where
   -- no report is longer than 512 bytes
   pub submit-short : submitLength (submitted t message room .answer) ≤ 512
   submit-short = submitted-counted t message room .short
+
+-- 103=0 is said of a new order only while 255 orders are open, and while they are none is taken
+module _ (t message : List ℕ) (o : NewOrder) where
+  pub no-record-when-open : newStands t message o ≡ Fails 0 → countOf isOpen (bookOf t) (length (bookOf t)) ≡ 255
+  no-record-when-open e = refused-means-open t (new-refused t message o e)
+
+  pub none-taken-when-open : countOf isOpen (bookOf t) (length (bookOf t)) ≡ 255 → newStands t message o ≡ Stands → ⊥
+  none-taken-when-open n e = omega (arith, new-holds t message o e .free, open-means-refused t n)

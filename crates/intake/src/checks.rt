@@ -6,7 +6,7 @@ ghost use lib.Dec.{ltb};
 ghost use lib.ListN.{length};
 ghost use Rattle.table.specs.Places.{tableBytes};
 ghost use Rattle.table.specs.Heading.{isListed};
-ghost use Rattle.table.specs.Orders.{filled};
+ghost use Rattle.table.specs.Orders.{filled, recordFor};
 ghost use Rattle.table.specs.Facts.{Market};
 ghost use Rattle.calls.specs.declared.Standing.the-variants.{Stands};
 ghost use Rattle.calls.specs.Checks.{textOf, holder, isCode, newStands, changeStands, cancelStands, andAbove, replaceStands};
@@ -44,6 +44,15 @@ pub fn holder_of(t: &[u8], message: &[u8], p: Part) -> usize
     holder(t, text_of(message, p))
 }
 
+// The record that a new order takes; 0 if every order is open.
+pub fn record_for(t: &[u8]) -> usize
+    requires { ⌜ length (now t) ≡ tableBytes ⌝ }
+    ensures { λ r. ⌜ (r ≡ recordFor (now (t .entry))) × (r ≤ 255) ⌝ }
+{
+    let n = filled(t);
+    table::book::record_for(t, n)
+}
+
 // Whether a code is the market's.
 pub fn is_code(t: &[u8], code: &[u8]) -> bool
     ensures { λ r. ⌜ r ≡ isCode (now (t .entry)) (now (code .entry)) ⌝ }
@@ -60,7 +69,7 @@ fn is_stranger(t: &[u8], mpid: u64) -> bool
     (0 < mpid) & !is_listed(t, n, mpid)
 }
 
-// A new order: another code, a strange MPID, a ClOrdID in the table, a full table.
+// A new order: another code, a strange MPID, a ClOrdID in the table, no record that it can take.
 pub fn new_stands(t: &[u8], message: &[u8], o: NewOrder) -> Standing
     requires { ⌜ length (now t) ≡ tableBytes ⌝ }
     ensures { λ r. ⌜ r ≡ newStands (now (t .entry)) (now (message .entry)) o ⌝ }
@@ -74,7 +83,7 @@ pub fn new_stands(t: &[u8], message: &[u8], o: NewOrder) -> Standing
     if holder_of(t, message, o.id) != 0 {
         return Standing::Fails(6);
     }
-    if table::places::MOST_ORDERS <= filled(t) {
+    if record_for(t) == 0 {
         return Standing::Fails(0);
     }
     Standing::Stands

@@ -14,6 +14,7 @@ ghost use Rattle.calls.specs.declared.Standing.the-variants.{Stands};
 ghost use Rattle.calls.specs.Checks.{textOf, holder, newStands, cancelStands, replaceStands};
 ghost use Rattle.calls.specs.Submit.{sentAt, noText, causeOf, newOrderOf, newTaken, replacementTaken, cancelTaken};
 ghost use Rattle.intake.specs.Intake.{orderWith, Asking, Left};
+use crate::checks::record_for;
 use crate::checks::text_of;
 use calls::SubmitAnswer;
 use fix::frame::Part;
@@ -24,7 +25,6 @@ use request::Cancellation;
 use request::NewOrder;
 use request::Replacement;
 use request::Terms;
-use table::book::filled;
 use table::heading::next;
 use table::heading::put_next;
 use table::heading::put_work;
@@ -103,10 +103,10 @@ fn new_order(terms: Terms, place: u64) -> Order
     }
 }
 
-// A new order is written as record k.
-fn write_new(t: &mut [u8], message: &[u8], k: usize, o: NewOrder, order: Order)
+// A new order is written as record k, with this OrderID.
+fn write_new(t: &mut [u8], message: &[u8], k: usize, orderid: u64, o: NewOrder, order: Order)
     requires { ⌜ Asking (now t) (now message) (Enters o) × (k < 256) × (order ≡ newOrderOf (now t) (now message) o) ⌝ }
-    ensures { λ _. ⌜ now (t .exit) ≡ accepted (now (t .entry)) k (textOf (now (message .entry)) (o .id)) (textOf (now (message .entry)) (o .account))
+    ensures { λ _. ⌜ now (t .exit) ≡ accepted (now (t .entry)) k orderid (textOf (now (message .entry)) (o .id)) (textOf (now (message .entry)) (o .account))
         (o .terms .capacity) (o .terms .class) order ⌝ }
 {
     let capacity = o.terms.capacity as u8;
@@ -114,6 +114,7 @@ fn write_new(t: &mut [u8], message: &[u8], k: usize, o: NewOrder, order: Order)
     accept(
         t,
         k,
+        orderid,
         text_of(message, o.id),
         text_of(message, o.account),
         capacity,
@@ -122,15 +123,15 @@ fn write_new(t: &mut [u8], message: &[u8], k: usize, o: NewOrder, order: Order)
     );
 }
 
-// A new order becomes the next record and is in work.
+// A new order takes a record, with the number of its report as its OrderID, and is in work.
 pub fn enter(table: &mut [u8], message: &[u8], area: &mut [u8], o: NewOrder) -> SubmitAnswer
     requires { ⌜ Asking (now table) (now message) (Enters o) × (newStands (now table) (now message) o ≡ Stands) × (1024 ≤ length (now area)) ⌝ }
     ensures { λ r. ⌜ Left (newTaken (now (table .entry)) (now (message .entry)) o) (now (area .entry)) r (now (table .exit)) (now (area .exit)) ⌝ }
 {
     let n = next(table);
-    let k = filled(table) + 1;
+    let k = record_for(table);
     let order = new_order(o.terms, n);
-    write_new(table, message, k, o, order);
+    write_new(table, message, k, n, o, order);
     let e = Event::Accepted {
         order: k as u64,
         entered: order,

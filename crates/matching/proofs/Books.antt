@@ -139,3 +139,21 @@ module _ (f g : Order → Bool) (b c : Book) (n : ℕ) (sub : (k : ℕ) → f (a
 pub count-most : (f : Order → Bool) (b : Book) (n : ℕ) → countOf f b n ≤ n
 unfolding countOf
 count-most f b n = omega (arith, sum-most (λ o. cond (f o) 1 0) b n 1 (λ k l m. split (f (at b k)) (λ t. rw t (omega arith)) (λ t. rw t (omega arith))))
+
+-- all of them exactly if the test holds of each
+pub count-all : (f : Order → Bool) (b : Book) (n : ℕ) → ((k : ℕ) → 0 < k → k ≤ n → f (at b k) ≡ true) → countOf f b n ≡ n
+unfolding countOf sumOver
+count-all f b zero h = refl
+count-all f b (suc n) h = rw (h (suc n) (omega arith) (omega arith)) (omega (arith, count-all f b n (λ k l m. h k l (omega arith))))
+
+pub count-each : (f : Order → Bool) (b : Book) (n : ℕ) → countOf f b n ≡ n → (k : ℕ) → 0 < k → k ≤ n → f (at b k) ≡ true
+unfolding countOf sumOver
+count-each f b zero e k l h = absurd (omega arith)
+count-each f b (suc n) e k l h =
+    split (f (at b (suc n)))
+    (λ t.
+    let x : sumOver (λ o. cond (f o) 1 0) b n + 1 ≡ suc n = rw t at e in
+    split (eqb k (suc n))
+    (λ z. rw (eqb-true k (suc n) z) t)
+    (λ z. count-each f b n (omega arith) k l (omega (arith, eqb-false k (suc n) z))))
+    (λ t. absurd (let x : sumOver (λ o. cond (f o) 1 0) b n + 0 ≡ suc n = rw t at e in omega (arith, count-most f b n)))

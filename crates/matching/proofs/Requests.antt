@@ -12,11 +12,12 @@ use borrow.Author.Tests.{ltb-true, ltb-false, eqb-true, eqb-false}
 use Rattle.octets.proofs.Bools.{split}
 use Rattle.matching.specs.declared.Order.{Order}
 use Rattle.matching.specs.declared.Event.the-variants.{Accepted, Replaced, Withdrawn}
-use Rattle.matching.specs.Matching.{Book, at, openOf, isImmediate, opposedTo, placeAfter, change, after, play}
-use Rattle.matching.specs.Held.{mayMinimum, Sound, In, Uncrossed, Held, Enters, Renews}
+use Rattle.matching.specs.Matching.{Book, at, put, openOf, isImmediate, opposedTo, placeAfter, change, after, play}
+use Rattle.matching.specs.Held.{mayMinimum, Sound, In, Uncrossed, Held, Takes, anew, over, Enters, Renews}
 use Rattle.matching.specs.Happens.{Fit, Fits, Fresh, Renewed}
 use Rattle.matching.proofs.Books.{length-put, length-put-new, count-most, open-low, at-nothing}
 use Rattle.matching.proofs.Events.{after-here, after-there, play-open}
+use Rattle.matching.proofs.Conserved.{takes-low, takes-high}
 use Rattle.matching.proofs.Placing.{place-either}
 use Rattle.matching.proofs.Crossing.{play-uncrossed}
 use Rattle.matching.proofs.Ends.{none-most}
@@ -119,25 +120,44 @@ module _ (listed : ℕ → Bool) (next : ℕ) (b c : Book) (n : ℕ) (o : Order)
       }
 
 -- ---- an acceptance
-module _ (listed : ℕ → Bool) (next : ℕ) (b : Book) (n : ℕ) (o : Order) (h : Held listed next b 0) (a : Enters listed next b n o) where
-  length-new : length (after b (Accepted n o)) ≡ suc (length b)
-  unfolding after
-  length-new = rw (a .number) (length-put-new b _)
 
+-- the book with an order of a number that it may take: it is no shorter; the number is in it, every other number was, and it is
+-- not too long
+pub takes-more : (b : Book) (n : ℕ) (o : Order) → Takes b n → length b ≤ length (put b n o)
+takes-more b n o (anew e) = rw e (omega (arith, length-put-new b o))
+takes-more b n o (over i z) = omega (arith, length-put b n o (i .high))
+
+pub takes-in : (b : Book) (n : ℕ) (o : Order) → Takes b n → In (put b n o) n
+takes-in b n o (anew e) = record { low = omega arith; high = rw e (omega (arith, length-put-new b o)) }
+takes-in b n o (over i z) = record { low = i .low; high = omega (arith, i .high, length-put b n o (i .high)) }
+
+pub takes-back : (b : Book) (n : ℕ) (o : Order) → Takes b n → (k : ℕ) → k ≢ n → In (put b n o) k → In b k
+takes-back b n o (anew e) k d j = record { low = j .low; high = less (rw e at (j .high)) }
+  where
+    less : k ≤ length (put b (suc (length b)) o) → k ≤ length b
+    less h = omega (arith, length-put-new b o)
+takes-back b n o (over i z) k d j = record { low = j .low; high = omega (arith, j .high, length-put b n o (i .high)) }
+
+pub takes-most : (b : Book) (n : ℕ) (o : Order) → Takes b n → n ≤ 255 → length b ≤ 255 → length (put b n o) ≤ 255
+takes-most b n o (anew e) h m = rw e (omega (arith, length-put-new b o))
+takes-most b n o (over i z) h m = omega (arith, length-put b n o (i .high))
+
+module _ (listed : ℕ → Bool) (next : ℕ) (b : Book) (n : ℕ) (o : Order) (h : Held listed next b 0) (a : Enters listed next b n o) where
   pub accepted-held : Held listed (next + 1) (after b (Accepted n o)) n
-  unfolding change
+  unfolding change after
   accepted-held =
       renewed-held listed next b (after b (Accepted n o)) n o h
-      (after-here b (Accepted n o) (omega (arith, a .number)) (omega (arith, a .number)))
-      (after-there b (Accepted n o) (omega (arith, a .number)) (omega (arith, a .number)))
-      (record { low = omega (arith, a .number); high = omega (arith, a .number, length-new) })
-      (λ k d j. record { low = j .low; high = less k d (j .high) })
+      (after-here b (Accepted n o) low high) (after-there b (Accepted n o) low high)
+      (takes-in b n o (a .number)) (takes-back b n o (a .number))
       (a .sound) (a .owned)
       (omega (arith, a .newest)) (λ k d j e. omega (arith, h .places-below k j, a .newest))
-      (omega (arith, length-new, a .free)) (a .numbered)
+      (takes-most b n o (a .number) (a .free) (a .filled)) (a .numbered)
     where
-      less : (k : ℕ) → k ≢ n → k ≤ length (after b (Accepted n o)) → k ≤ length b
-      less k d l = omega (arith, length-new, a .number)
+      low : 0 < n
+      low = takes-low b n (a .number)
+
+      high : n ≤ suc (length b)
+      high = takes-high b n (a .number)
 
   -- it is one that can happen
   pub enters-fresh : Fresh b n o

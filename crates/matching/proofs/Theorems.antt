@@ -12,14 +12,14 @@ use Rattle.matching.specs.declared.Order.{Order}
 use Rattle.matching.specs.declared.Event.{Event}
 use Rattle.matching.specs.declared.Event.the-variants.{Accepted, Replaced, Withdrawn}
 use Rattle.matching.specs.Matching.{Book, at, openOf, isBuy, buys, ahead, better, faces, partner, metBy, opposedTo, happens, bookAfter, workAfter, placeAfter, change, after, play, run, minimumOf, misses}
-use Rattle.matching.specs.Accounts.{tally, trades, decrements, cancels, accepted, bought, sold, SelfTradeFree}
+use Rattle.matching.specs.Accounts.{tally, tallied, trades, decrements, cancels, accepted, bought, sold, SelfTradeFree}
 use Rattle.matching.specs.Runs.{Ended, GoesOn, KilledWhole}
 use Rattle.matching.specs.Held.{Covered, Sound, In, Uncrossed, Held, Enters, Renews}
 use Rattle.matching.specs.Happens.{Follow}
 use Rattle.matching.specs.Depth.{stands, levelAt, totalOf, ordersOf, overLevels, openOn, ordersOn}
 use Rattle.matching.proofs.Books.{open-low}
 use Rattle.matching.proofs.Steps.{step-is, run-plays, run-fits, run-keeps, happens-fits}
-use Rattle.matching.proofs.Conserved.{accounts, conserved-from, fits-follow, fits-accepted}
+use Rattle.matching.proofs.Conserved.{accounts, conserved-from, fits-follow, fits-accepted, fits-tallied}
 use Rattle.matching.proofs.Fair.{run-fair, fair-balanced, fair-owners}
 use Rattle.matching.proofs.Crossing.{step-uncrossed}
 use Rattle.matching.proofs.Ends.{left-most, run-ends, step-two, run-reports, most-reports, rule-kept}
@@ -45,7 +45,9 @@ module _ (modes : ℕ → ℕ) (missed : Bool) (n : ℕ) (b : Book) (w : ℕ) (i
       let es = run modes missed n b w .events in
       let f = run-fits modes missed n b w in-book in
       let g = accounts k es b (fits-follow es b f) s in
-      sym (fits-accepted k (at b k .qty) es b f) ∙ rw (← run-plays modes missed n b w) at g
+      let s : (h : Event → ℕ) (x : ℕ) → tallied h k x es ≡ x + tally h k es = λ h x. fits-tallied h k x es b f in
+      sym (fits-accepted k (at b k .qty) es b f)
+      ∙ rw (← run-plays modes missed n b w, s trades (at b k .executed), s decrements (at b k .decremented), s cancels (at b k .canceled)) at g
 
   -- balanced: what is bought is what is sold
   pub balanced : bought b (run modes missed n b w .events) ≡ sold b (run modes missed n b w .events)
@@ -162,10 +164,10 @@ taken-behind listed next b n l q p h a e k i s =
     by-place (at b k) _ s (rw e (omega (arith, h .places-below k i, a .newest)))
 
 -- ---- every list of events that can happen from an empty book on: acceptances, replacements, withdrawals and steps
--- conserved: the quantity of the last acceptance or replacement of an order is what the events execute, decrement and cancel of
--- it, and what is open
+-- conserved: the quantity of the last acceptance or replacement of an order is what the events since its acceptance execute,
+-- decrement and cancel of it, and what is open
 pub conserved-always : (k : ℕ) (es : List Event) → Follow [] es
-    → accepted k 0 es ≡ tally trades k es + tally decrements k es + tally cancels k es + openOf (at (play [] es) k)
+    → accepted k 0 es ≡ tallied trades k 0 es + tallied decrements k 0 es + tallied cancels k 0 es + openOf (at (play [] es) k)
 conserved-always = conserved-from
 
 -- ---- the levels of a side of any book whose orders are in their ranges

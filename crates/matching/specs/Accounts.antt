@@ -1,4 +1,4 @@
--- What a list of events says of each order: the quantity accepted, what was executed, decremented and canceled; and what was
+-- What a list of events says of each order: the quantity accepted, what was executed, decremented and canceled since; and what was
 -- bought and sold in all. The amounts are the events' own, so nothing here looks at a book but for the sides.
 -- Assumes nothing.
 use mathlib.Core.Path.{_≡_}
@@ -58,6 +58,22 @@ inForce q (Decremented n x) = q
 inForce q (Traded n m x l) = q
 inForce q (Killed n x) = q
 inForce q (Expired n x) = q
+
+-- a sum of f after an event, having been x: an acceptance begins it anew
+abbrev pub sumWith : (Event → ℕ) → ℕ → Event → ℕ
+sumWith f x (Accepted n o) = 0
+sumWith f x (Replaced n l q p) = x + f (Replaced n l q p)
+sumWith f x (Withdrawn n q) = x + f (Withdrawn n q)
+sumWith f x (Canceled n q) = x + f (Canceled n q)
+sumWith f x (Decremented n q) = x + f (Decremented n q)
+sumWith f x (Traded n m q l) = x + f (Traded n m q l)
+sumWith f x (Killed n q) = x + f (Killed n q)
+sumWith f x (Expired n q) = x + f (Expired n q)
+
+-- the sum of f over the events of order k since the last acceptance of that number, having been x before them all
+unfoldable pub tallied : (Event → ℕ) → ℕ → ℕ → List Event → ℕ
+tallied f k x [] = x
+tallied f k x (e ∷ es) = tallied f k (cond (eqb k (who e)) (sumWith f x e) x) es
 
 -- the accepted quantity of order k after events, having been q: that of the last acceptance or requested replacement
 unfoldable pub accepted : ℕ → ℕ → List Event → ℕ

@@ -11,7 +11,7 @@ use Rattle.matching.specs.declared.Event.{Event}
 use Rattle.matching.specs.declared.Event.the-variants.{Accepted, Replaced, Withdrawn, Canceled, Decremented, Traded, Killed, Expired}
 use Rattle.matching.specs.Matching.{Book, at, openOf, who, after}
 use Rattle.matching.specs.Accounts.{cancels}
-use Rattle.matching.specs.Held.{In, amount}
+use Rattle.matching.specs.Held.{In, Takes, amount}
 
 -- an event that moves an amount of an order that is there: all but an acceptance and a replacement do
 abbrev pub moves : Event → Bool
@@ -36,9 +36,9 @@ abbrev pub Fits : Book → List Event → Type 0
 Fits b [] = Unit {0}
 Fits b (e ∷ es) = Fit b e × Fits (after b e) es
 
--- a new order: the next number, and nothing executed, decremented or canceled
+-- a new order: a number that it may take, and nothing executed, decremented or canceled
 pub record Fresh (b : Book) (n : ℕ) (o : Order) : Type 0 where
-  pub number : n ≡ suc (length b)
+  pub number : Takes b n
   pub unexecuted : o .executed ≡ 0
   pub undecremented : o .decremented ≡ 0
   pub uncanceled : o .canceled ≡ 0

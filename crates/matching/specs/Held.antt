@@ -95,10 +95,16 @@ abbrev pub Readies : Book → List Event → Type 0
 Readies b [] = Unit {0}
 Readies b (e ∷ es) = Ready b e × Readies (after b e) es
 
--- what Submit asks of a new order: the next number of the book and the next report number for its place, all fields in range,
--- nothing executed, decremented or canceled, room in the table and numbers left
+-- the number that a new order takes: the next one of the book, or that of an order with nothing open, which is gone then (document
+-- 02, T-09)
+pub data Takes (b : Book) (n : ℕ) : Type 0 where
+  anew : n ≡ suc (length b) → Takes b n
+  over : In b n → openOf (at b n) ≡ 0 → Takes b n
+
+-- what Submit asks of a new order: a number that it may take, the next report number for its place, all fields in range, nothing
+-- executed, decremented or canceled, room in the table and numbers left
 pub record Enters (listed : ℕ → Bool) (next : ℕ) (b : Book) (n : ℕ) (o : Order) : Type 0 where
-  pub number : n ≡ suc (length b)
+  pub number : Takes b n
   pub sound : Sound o
   pub unexecuted : o .executed ≡ 0
   pub undecremented : o .decremented ≡ 0
@@ -106,7 +112,8 @@ pub record Enters (listed : ℕ → Bool) (next : ℕ) (b : Book) (n : ℕ) (o :
   pub unsummed : o .sum ≡ 0
   pub owned : (eqb (o .mpid) 0 || listed (o .mpid)) ≡ true
   pub newest : o .place ≡ next
-  pub free : length b ≤ 254
+  pub filled : length b ≤ 255
+  pub free : n ≤ 255
   pub numbered : next ≤ 999_998_976
 
 -- what it asks of a replacement: an order with something open, a quantity above what is executed and decremented, and the next

@@ -74,7 +74,7 @@ sameOwner o r = ltb 0 (o .mpid) && eqb (o .mpid) (r .mpid)
 
 -- ---- the book
 
--- the orders in the order of their acceptance, number 1 first
+-- the orders by number, number 1 first
 abbrev pub Book : Type 0
 Book = List Order
 

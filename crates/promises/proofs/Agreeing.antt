@@ -11,14 +11,15 @@ use lib.ListN.{length}
 use borrow.Author.Tests.{eqb-true, eqb-false, eq-eqb, le-ltb}
 use Rattle.octets.proofs.Bools.{split}
 use Rattle.matching.specs.declared.Event.{Event}
-use Rattle.matching.specs.Matching.{Book, metBy, happens, bookAfter, workAfter, Ran, run}
+use Rattle.matching.specs.Matching.{Book, metBy, who, happens, bookAfter, workAfter, Ran, run}
 use Rattle.table.specs.Heading.{nextOf, workOf, modeOf}
-use Rattle.table.specs.Orders.{bookOf, applied}
+use Rattle.table.specs.Orders.{orderIdAt, bookOf, applied}
 use Rattle.table.specs.Market.{isMarket}
 use Rattle.table.specs.Facts.{Market}
 use Rattle.table.specs.Changes.{missesNow, stepEvents, stepWork, stepped}
 use Rattle.table.proofs.Facts.{market-facts}
 use Rattle.table.proofs.Kept.{stepped-kept}
+use Rattle.table.proofs.OrderIds.{applied-order-id, stepped-order-id}
 use Rattle.ticket.specs.Tickets.{keptCause}
 use Rattle.ticket.proofs.Running.{Legibles, step-legibles}
 use Rattle.readback.proofs.Events.{event-says}
@@ -31,16 +32,30 @@ use Rattle.turns.proofs.Theorems.{run-ends}
 use Rattle.promises.specs.Shown.{ReportsOf}
 
 -- ---- the reports of a step
-reports-of : (es : List Event) (t : List ℕ) (n : ℕ) → Legibles t n es → ReportsOf (eventReports t n es) es
+reports-of : (ids : ℕ → ℕ) (es : List Event) (t : List ℕ) (n : ℕ) → ((i : ℕ) → orderIdAt t i ≡ ids i) → Legibles t n es
+    → ReportsOf ids (eventReports t n es) es
 unfolding eventReports eventReport
-reports-of [] t n h = tt
-reports-of (e ∷ es) t n h =
-    let s = event-says (applied t e) [] n (keptCause (applied t e)) e (h .0) in
-    (record { kind = s .is-kind; order = s .says-37; quantity = s .says-32; reason = s .says-378 }, reports-of es (applied t e) (n + 1) (h .1))
+reports-of ids [] t n s h = tt
+reports-of ids (e ∷ es) t n s h =
+    let w : (i : ℕ) → orderIdAt (applied t e) i ≡ ids i = λ i. applied-order-id t e i ∙ s i in
+    let g = event-says (applied t e) [] n (keptCause (applied t e)) e (h .0) in (
+      record { kind = g .is-kind; order = g .says-37 ∙ w (who e); quantity = g .says-32; reason = g .says-378 },
+      reports-of ids es (applied t e) (n + 1) w (h .1),
+    )
 
-pub step-reports : (t : List ℕ) → Market t → 1 ≤ workOf t → ReportsOf (stepReports t) (stepEvents t)
+pub step-reports : (t : List ℕ) → Market t → 1 ≤ workOf t → ReportsOf (orderIdAt t) (stepReports t) (stepEvents t)
 unfolding stepReports
-step-reports t m l = reports-of (stepEvents t) t (nextOf t) (step-legibles t m l)
+step-reports t m l = reports-of (orderIdAt t) (stepEvents t) t (nextOf t) (λ i. refl) (step-legibles t m l)
+
+-- by the same OrderIDs
+pub reports-same : (ids jds : ℕ → ℕ) → ((i : ℕ) → ids i ≡ jds i) → (rs : List (List ℕ)) (es : List Event) → ReportsOf ids rs es → ReportsOf jds rs es
+reports-same ids jds s [] [] x = tt
+reports-same ids jds s [] (e ∷ es) x = absurd x
+reports-same ids jds s (r ∷ rs) [] x = absurd x
+reports-same ids jds s (r ∷ rs) (e ∷ es) x = (
+  record { kind = x .0 .kind; order = x .0 .order ∙ s (who e); quantity = x .0 .quantity; reason = x .0 .reason },
+  reports-same ids jds s rs es (x .1),
+)
 
 -- ---- steps
 run-busy : (modes : ℕ → ℕ) (missed : Bool) (n : ℕ) (b : Book) (w : ℕ) → 1 ≤ w
@@ -51,15 +66,16 @@ unfolding run
 run-busy modes missed n b zero l = absurd (omega arith)
 run-busy modes missed n b (suc k) l = refl
 
-pub reports-append : (rs qs : List (List ℕ)) (es fs : List Event) → ReportsOf rs es → ReportsOf qs fs → ReportsOf (rs ++ qs) (es ++ fs)
-reports-append [] qs [] fs x y = y
-reports-append [] qs (e ∷ es) fs x y = absurd x
-reports-append (r ∷ rs) qs [] fs x y = absurd x
-reports-append (r ∷ rs) qs (e ∷ es) fs x y = (x .0, reports-append rs qs es fs (x .1) y)
+pub reports-append : (ids : ℕ → ℕ) (rs qs : List (List ℕ)) (es fs : List Event) → ReportsOf ids rs es → ReportsOf ids qs fs
+    → ReportsOf ids (rs ++ qs) (es ++ fs)
+reports-append ids [] qs [] fs x y = y
+reports-append ids [] qs (e ∷ es) fs x y = absurd x
+reports-append ids (r ∷ rs) qs [] fs x y = absurd x
+reports-append ids (r ∷ rs) qs (e ∷ es) fs x y = (x .0, reports-append ids rs qs es fs (x .1) y)
 
 -- their reports, in turn
 worked-events : (n : ℕ) (t : List ℕ) (room : ℕ) → Market t → 1024 * n ≤ room
-    → ReportsOf (worked n t room .reports) (run (modeOf t) (missesNow t) n (bookOf t) (workOf t) .events)
+    → ReportsOf (orderIdAt t) (worked n t room .reports) (run (modeOf t) (missesNow t) n (bookOf t) (workOf t) .events)
 unfolding worked run stepEvents stepWork
 worked-events zero t room m h = tt
 worked-events (suc n) t room m h =
@@ -73,25 +89,30 @@ worked-events (suc n) t room m h =
     let s : stops t room ≡ false = rw (z, le-ltb room 1024 (omega arith)) in
     let rs = stepReports t in
     let short = step-short t (record { market = m; work = l }) in
-    let g = worked-events n (stepped t) (room - length (joined rs)) (stepped-kept t m l) (omega arith) in
+    let after : List ℕ = stepped t in
+    let left : ℕ = room - length (joined rs) in
+    let g =
+    reports-same (orderIdAt after) (orderIdAt t) (stepped-order-id t) (worked n after left .reports)
+    (run (modeOf after) (missesNow after) n (bookOf after) (workOf after) .events)
+    (worked-events n after left (stepped-kept t m l) (omega arith)) in
     let k = rw (step-decided t m l, step-modes t m l, step-book t m l, step-work t m l) at g in
-    rw (s, run-busy (modeOf t) (missesNow t) n (bookOf t) (workOf t) l) (reports-append rs _ _ _ (step-reports t m l) k))
+    rw (s, run-busy (modeOf t) (missesNow t) n (bookOf t) (workOf t) l) (reports-append (orderIdAt t) rs _ _ _ (step-reports t m l) k))
 
--- what was worked on a table is what was run on a book
-pub record Matches (w : Worked) (r : Ran) : Type 0 where
+-- what was worked on a table is what was run on a book, by the OrderIDs of its records
+pub record Matches (ids : ℕ → ℕ) (w : Worked) (r : Ran) : Type 0 where
   pub book : bookOf (w .table) ≡ r .book
   pub work : workOf (w .table) ≡ r .work
   pub steps : w .steps ≡ r .steps
-  pub events : ReportsOf (w .reports) (r .events)
+  pub events : ReportsOf ids (w .reports) (r .events)
 
-pub worked-matches : (n : ℕ) (t : List ℕ) (room : ℕ) → Market t → 1024 * n ≤ room → Matches (worked n t room) (run (modeOf t) (missesNow t) n (bookOf t) (workOf t))
+pub worked-matches : (n : ℕ) (t : List ℕ) (room : ℕ) → Market t → 1024 * n ≤ room → Matches (orderIdAt t) (worked n t room) (run (modeOf t) (missesNow t) n (bookOf t) (workOf t))
 worked-matches n t room m h =
     let g = agrees n t room m h in
     record { book = g .book; work = g .work; steps = g .steps; events = worked-events n t room m h }
 
 -- ---- a budget beyond the end of the work
 module _ (n k : ℕ) (t : List ℕ) (room : ℕ) (m : Market t) (h : 1024 * n ≤ room) (z : run (modeOf t) (missesNow t) n (bookOf t) (workOf t) .work ≡ 0) where
-  first : Matches (worked n t room) (run (modeOf t) (missesNow t) n (bookOf t) (workOf t))
+  first : Matches (orderIdAt t) (worked n t room) (run (modeOf t) (missesNow t) n (bookOf t) (workOf t))
   first = worked-matches n t room m h
 
   rest : worked k (worked n t room .table) (room - length (joined (worked n t room .reports))) ≡ still (worked n t room .table)
@@ -99,7 +120,7 @@ module _ (n k : ℕ) (t : List ℕ) (room : ℕ) (m : Market t) (h : 1024 * n �
       let e : workOf (worked n t room .table) ≡ 0 = first .work ∙ z in
       stops-still (worked n t room .table) (room - length (joined (worked n t room .reports))) k (rw (eq-eqb (workOf (worked n t room .table)) 0 e))
 
-  pub worked-beyond : Matches (worked (n + k) t room) (run (modeOf t) (missesNow t) n (bookOf t) (workOf t))
+  pub worked-beyond : Matches (orderIdAt t) (worked (n + k) t room) (run (modeOf t) (missesNow t) n (bookOf t) (workOf t))
   worked-beyond =
       let g = worked-on n k t room in
       let e : worked (n + k) t room .table ≡ worked n t room .table = g .table ∙ ap (λ (x : Worked). x .table) rest in
@@ -114,14 +135,14 @@ module _ (n k : ℕ) (t : List ℕ) (room : ℕ) (m : Market t) (h : 1024 * n �
       }
 
 -- ---- Run, where n steps end the work
-pub record RunsAs (r : RanBy) (q : Ran) : Type 0 where
+pub record RunsAs (ids : ℕ → ℕ) (r : RanBy) (q : Ran) : Type 0 where
   pub book : bookOf (r .table) ≡ q .book
   pub work : workOf (r .table) ≡ q .work
   pub steps : runSteps (r .answer) ≡ q .steps
-  pub events : ReportsOf (r .reports) (q .events)
+  pub events : ReportsOf ids (r .reports) (q .events)
 
 pub ran-matches : (n : ℕ) (t : List ℕ) (room budget : ℕ) → isMarket t ≡ true → 1 ≤ n → 1024 * n ≤ room → n ≤ budget
-    → run (modeOf t) (missesNow t) n (bookOf t) (workOf t) .work ≡ 0 → RunsAs (ran t room budget) (run (modeOf t) (missesNow t) n (bookOf t) (workOf t))
+    → run (modeOf t) (missesNow t) n (bookOf t) (workOf t) .work ≡ 0 → RunsAs (orderIdAt t) (ran t room budget) (run (modeOf t) (missesNow t) n (bookOf t) (workOf t))
 unfolding ran
 ran-matches n t room budget m low h l z =
     let e : budget ≡ n + (budget - n) = omega arith in

@@ -1,5 +1,5 @@
 -- Every history: each table on the way is a market, and all reports lead from the first table to the last.
-use mathlib.Core.Path.{_≡_, refl}
+use mathlib.Core.Path.{_≡_}
 use mathlib.Core.Bool.{true}
 use mathlib.Core.List.{List, [], _∷_}
 use Prim.Native.Nat.{ℕ, _≤_}
@@ -29,11 +29,11 @@ module _ (told : Told) (tell : (t : List ℕ) → Market t → 1 ≤ workOf t �
   pub call-leads : (t : List ℕ) (c : Call) → isMarket t ≡ true → Leads t (tableOf t c) (reportsOf t c)
   call-leads t (Submit message room) m = submitted-leads told t message room
   call-leads t (Run room budget) m = ran-leads tell t room budget m
-  call-leads t (Depth side k) m = leads-still t t refl
-  call-leads t (Read report) m = leads-still t t refl
+  call-leads t (Depth side k) m = leads-still t
+  call-leads t (Read report) m = leads-still t
 
   pub history-leads : (cs : List Call) (t : List ℕ) → isMarket t ≡ true → Leads t (tableAfter t cs) (reportsAfter t cs)
   unfolding tableAfter reportsAfter
-  history-leads [] t m = leads-still t t refl
+  history-leads [] t m = leads-still t
   history-leads (c ∷ cs) t m =
       leads-then t (tableOf t c) _ (reportsOf t c) _ (call-leads t c m) (history-leads cs (tableOf t c) (call-keeps t c m))

@@ -2,13 +2,13 @@
 use mathlib.Core.Path.{_≡_, refl, sym, ap, _∙_}
 use mathlib.Core.Bool.{Bool, true, false}
 use mathlib.Core.List.{List, []}
-use mathlib.Core.Logic.{_≢_, ⊎-elim}
-use Prim.Native.Nat.{ℕ, zero, suc, _+_, _≤_, _<_}
+use mathlib.Core.Logic.{_≢_}
+use Prim.Native.Nat.{ℕ, _+_, _≤_, _<_}
 use native.Mathlib.Omega.{arith}
 use lib.Dec.{eqb, ltb}
-use lib.ListN.{length, getD, List·getD-eq-default}
+use lib.ListN.{length}
+use borrow.Author.Tests.{eqb-true, eqb-false}
 use Rattle.octets.proofs.Bools.{split, not-both}
-use Rattle.octets.proofs.Places.{below-or}
 use Rattle.request.specs.declared.NewOrder.{NewOrder}
 use Rattle.request.specs.declared.Replacement.{Replacement}
 use Rattle.request.specs.declared.Cancellation.{Cancellation}
@@ -17,14 +17,14 @@ use Rattle.request.specs.declared.Asked.the-variants.{Garbled, Refused, Enters,
 use Rattle.request.specs.Asks.{askedOf}
 use Rattle.matching.specs.declared.Order.{Order}
 use Rattle.matching.specs.Depth.{depth}
-use Rattle.matching.specs.Matching.{Book, none, at, openOf}
+use Rattle.matching.specs.Matching.{at, openOf}
 use Rattle.matching.specs.Held.{Covered, In}
-use Rattle.table.specs.Heading.{venueOf, portOf, workOf}
-use Rattle.table.specs.Orders.{orderAt, filled, bookOf}
+use Rattle.table.specs.Heading.{venueOf, portOf, nextOf, workOf}
+use Rattle.table.specs.Orders.{orderIdAt, orderAt, filled, bookOf}
 use Rattle.table.specs.Market.{isMarket}
 use Rattle.table.specs.Opened.{isOpening, opened}
 use Rattle.table.proofs.Facts.{market-facts}
-use Rattle.table.proofs.Books.{length-book, at-book}
+use Rattle.table.proofs.Books.{at-book}
 use Rattle.table.proofs.Theorems.{opening-makes-a-market}
 use Rattle.calls.specs.declared.SubmitAnswer.the-variants as submit-answer
 use Rattle.calls.specs.declared.RunAnswer.the-variants as run-answer
@@ -39,24 +39,35 @@ use Rattle.intake.proofs.Keeping.{Comes, no-room, no-market, in-work, spent, he
 use Rattle.market.specs.declared.DepthAnswer.the-variants as depth-answer
 use Rattle.market.specs.Depth.{isSide, depthAnswer}
 use Rattle.promises.specs.History.{Call, tableAfter, reportsAfter}
-use Rattle.promises.specs.Tallies.{Account, blank, accountFrom, accountOf, bought, sold, selfTrades, unread}
+use Rattle.promises.specs.Tallies.{Account, blank, accountOf, bought, sold, selfTrades, unread}
+use Rattle.promises.specs.Whole.{recordBy, openBy}
 use Rattle.promises.proofs.Tells.{accountIn}
+use Rattle.promises.proofs.OrderIds.{in-filled, filled-in, by-none, by-some, by-in, open-is, open-none, open-there}
+use Rattle.promises.proofs.Leads.{Settled, Accounts}
 use Rattle.promises.proofs.Opening.{opened-book}
 use Rattle.promises.proofs.Histories.{history-keeps, history-leads}
 use Rattle.promises.proofs.Telling.{step-tells, all-told}
 
 -- what reports tell of a table
 pub record Told (t : List ℕ) (rs : List (List ℕ)) : Type 0 where
-  pub accounts : (k : ℕ) → accountOf k rs ≡ accountIn (at (bookOf t) k)
+  pub accounts : Accounts t (λ n. accountOf n rs)
   pub balanced : bought rs ≡ sold rs
   pub fair : selfTrades rs ≡ 0
   pub read : unread rs ≡ 0
 
 -- ---- every history
-empty-account : (k : ℕ) → accountIn (at [] k) ≡ blank
-unfolding openOf
-empty-account zero = refl
-empty-account (suc k) = refl
+
+-- a table with no order, and no report yet
+no-accounts : (t : List ℕ) → bookOf t ≡ [] → Accounts t (λ n. blank)
+no-accounts t e =
+    record {
+      there = λ i h. absurd (omega (arith, h .low, none i h));
+      gone = λ n g. record { sum = refl; left = refl };
+      unnamed = λ n h. refl;
+    }
+  where
+    none : (i : ℕ) → In (bookOf t) i → i ≤ 0
+    none i h = rw e at (h .high)
 
 module _ (before venue port code : List ℕ) (first : ℕ) (mpids modes : List ℕ) (taken : isOpening before venue port code first mpids modes ≡ true)
     (calls : List Call) where
@@ -69,41 +80,58 @@ module _ (before venue port code : List ℕ) (first : ℕ) (mpids modes : List �
   pub after-told : Told (tableAfter start calls) (reportsAfter start calls)
   after-told =
       let g = history-leads all-told step-tells calls start (opening-makes-a-market before venue port code first mpids modes taken) in
-      let e = opened-book before venue port code first mpids modes taken in
       record {
-        accounts = λ k.
-            ap (λ (a : Account). accountFrom k a (reportsAfter start calls)) (sym (empty-account k) ∙ ap (λ (b : Book). accountIn (at b k)) (sym e))
-            ∙ g .accounts k;
+        accounts = g .accounts (λ n. blank) (no-accounts start (opened-book before venue port code first mpids modes taken));
         balanced = g .balanced;
         fair = g .fair;
         read = g .read;
       }
 
--- ---- what that comes to
-module _ (t : List ℕ) (rs : List (List ℕ)) where
-  adds : (o : Order) → Covered o
-      → accountIn o .accepted ≡ accountIn o .executions + accountIn o .decrements + accountIn o .cancels + openOf o
+-- ---- what that comes to, for every number
+module _ (t : List ℕ) (rs : List (List ℕ)) (m : isMarket t ≡ true) (g : Told t rs) where
+  -- of an order in the table
+  adds : (o : Order) → Covered o → accountIn o .accepted ≡ accountIn o .executions + accountIn o .decrements + accountIn o .cancels + openOf o
   unfolding openOf
   adds o c = omega arith
 
-  pub account-adds : isMarket t ≡ true → Told t rs → (k : ℕ) → 1 ≤ k → k ≤ filled t
-      → let a = accountOf k rs in
-      a .accepted ≡ a .executions + a .decrements + a .cancels + openOf (orderAt t k)
-  account-adds m g k l h =
-      let i : In (bookOf t) k = record { low = l; high = omega (arith, length-book t) } in
-      let c = market-facts t m .held .sound k i .covered in
-      rw (g .accounts k, ← at-book t k l h) (adds (at (bookOf t) k) c)
+  covered : (i : ℕ) → In (bookOf t) i → Covered (at (bookOf t) i)
+  covered i h = market-facts t m .held .sound i h .covered
 
-  pub account-left : Told t rs → (k : ℕ) → 1 ≤ k → k ≤ filled t → accountOf k rs .left ≡ openOf (orderAt t k)
-  account-left g k l h = rw (g .accounts k, ← at-book t k l h)
+  account-is : (n i : ℕ) → orderIdAt t i ≡ n → In (bookOf t) i → accountOf n rs ≡ accountIn (at (bookOf t) i)
+  account-is n i e h = ap (λ (k : ℕ). accountOf k rs) (sym e) ∙ g .accounts .there i h
 
-  pub account-none : Told t rs → (k : ℕ) → (1 ≤ k → k ≤ filled t → ⊥) → accountOf k rs ≡ blank
-  account-none g zero h = g .accounts zero ∙ empty-account zero
-  account-none g (suc k) h =
-      let past : length (bookOf t) ≤ k =
-      ⊎-elim (λ (l : k < filled t). absurd (h (omega arith) (omega arith))) (λ (l : filled t ≤ k). omega (arith, length-book t)) (below-or k (filled t)) in
-      let z : getD (bookOf t) k none ≡ none = List·getD-eq-default (bookOf t) none past in
-      g .accounts (suc k) ∙ ap accountIn z ∙ empty-account (suc k)
+  -- by the record that has the OrderID, or where none has
+  by-record : (P : Account → ℕ → Type 0) (n : ℕ) → ((a : Account) → Settled a → P a 0)
+      → ((i : ℕ) → In (bookOf t) i → P (accountIn (at (bookOf t) i)) (openOf (at (bookOf t) i))) → P (accountOf n rs) (openBy t n)
+  by-record P n out here =
+      split (eqb (recordBy t n) 0)
+      (λ z.
+      let h = by-none t n (eqb-true (recordBy t n) 0 z) in
+      rw (open-none t n h) (out (accountOf n rs) (g .accounts .gone n h)))
+      (λ z.
+      let i : ℕ = recordBy t n in
+      let l : 1 ≤ i = omega (arith, eqb-false (recordBy t n) 0 z) in
+      let h = by-in t n i refl l in
+      rw (open-is t n i refl, account-is n i (by-some t n i refl l) h) (here i h))
+
+  pub account-adds : (n : ℕ) → let a = accountOf n rs in a .accepted ≡ a .executions + a .decrements + a .cancels + openBy t n
+  account-adds n =
+      by-record (λ (a : Account) (q : ℕ). a .accepted ≡ a .executions + a .decrements + a .cancels + q) n
+      (λ a s. omega (arith, s .sum)) (λ i h. adds (at (bookOf t) i) (covered i h))
+
+  pub account-left : (n : ℕ) → accountOf n rs .left ≡ openBy t n
+  account-left n = by-record (λ (a : Account) (q : ℕ). a .left ≡ q) n (λ a s. s .left) (λ i h. refl)
+
+  pub account-none : (n : ℕ) → nextOf t ≤ n → accountOf n rs ≡ blank
+  account-none n h = g .accounts .unnamed n h
+
+-- ---- what is open, by OrderID
+module _ (t : List ℕ) where
+  pub open-record : isMarket t ≡ true → (i : ℕ) → 1 ≤ i → i ≤ filled t → openBy t (orderIdAt t i) ≡ openOf (orderAt t i)
+  open-record m i l h = open-there t (market-facts t m) i (filled-in t i l h) ∙ ap openOf (at-book t i l h)
+
+  pub open-gone : (n : ℕ) → ((i : ℕ) → 1 ≤ i → i ≤ filled t → orderIdAt t i ≢ n) → openBy t n ≡ 0
+  open-gone n g = open-none t n (λ i h. g i (h .low) (in-filled t i h))
 
 -- ---- no call finds no market
 abbrev isNoMarket : SubmitAnswer → Bool

@@ -1,27 +1,87 @@
--- Reports lead from one table to another: each order's account by its amounts before becomes that by its amounts after; they buy what
+-- Reports lead from one table to another: the accounts of the table before, taken on by them, are those of the table after; they buy what
 -- they sell, none is a self-trade, and each can be read. Reports one after the other do if their parts do.
-use mathlib.Core.Path.{_≡_, refl, sym, ap, _∙_}
+use mathlib.Core.Path.{_≡_, refl, sym, ap, subst, _∙_}
 use mathlib.Core.Bool.{Bool, true, false}
 use mathlib.Core.List.{List, [], _∷_, _++_}
-use Prim.Native.Nat.{ℕ, _+_}
+use Prim.Native.Nat.{ℕ, _+_, _≤_}
 use native.Mathlib.Omega.{arith}
 use lib.Dec.{eqb}
+use lib.ListN.{length}
 use Rattle.octets.proofs.Bools.{split, not-both}
-use Rattle.matching.specs.Matching.{Book, at}
-use Rattle.table.specs.Orders.{bookOf}
+use Rattle.matching.specs.declared.Order.{Order}
+use Rattle.matching.specs.Matching.{Book, at, openOf}
+use Rattle.matching.specs.Held.{Covered, In}
+use Rattle.table.specs.Heading.{nextOf}
+use Rattle.table.specs.Orders.{orderIdAt, bookOf}
+use Rattle.table.specs.Facts.{Market}
 use Rattle.report.specs.declared.Kind.{Kind}
 use Rattle.report.specs.declared.Kind.the-variants.{Accepted, Replaced, Canceled, Trade, Rejected, CancelReject, SessionReject, Refused}
 use Rattle.report.specs.declared.Reading.{Reading}
 use Rattle.report.specs.Reports.{readOf}
 use Rattle.readback.specs.Says.{says}
-use Rattle.promises.specs.Tallies.{Account, afterReport, noted, accountFrom, isTrade, tradedFor, traded, bought, sold, isSelfTrade, selfTrades, isRefused, unread}
+use Rattle.promises.specs.Tallies.{Account, blank, afterReport, noted, accountFrom, isTrade, tradedFor, traded, bought, sold, isSelfTrade, selfTrades, isRefused, unread}
 use Rattle.promises.proofs.Tells.{accountIn}
+use Rattle.promises.proofs.OrderIds.{Nobody, nobody-yet}
+
+-- ---- the accounts of a table, one for each number that 37 may name
+
+-- nothing is open: all that was accepted was executed, decremented or canceled
+pub record Settled (a : Account) : Type 0 where
+  pub sum : a .accepted ≡ a .executions + a .decrements + a .cancels
+  pub left : a .left ≡ 0
+
+pub shut-settled : (o : Order) → Covered o → openOf o ≡ 0 → Settled (accountIn o)
+unfolding openOf
+shut-settled o c z = record { sum = omega arith; left = z }
+
+-- that of each order's OrderID is by the order's amounts, that of a number which no order has is settled, and of one that is not
+-- given yet nothing was told
+pub record Accounts (t : List ℕ) (acc : ℕ → Account) : Type 0 where
+  pub there : (i : ℕ) → In (bookOf t) i → acc (orderIdAt t i) ≡ accountIn (at (bookOf t) i)
+  pub gone : (n : ℕ) → Nobody t n → Settled (acc n)
+  pub unnamed : (n : ℕ) → nextOf t ≤ n → acc n ≡ blank
+
+accounts-same : (t : List ℕ) (f g : ℕ → Account) → ((n : ℕ) → g n ≡ f n) → Accounts t f → Accounts t g
+accounts-same t f g s a =
+    record {
+      there = λ i h. s (orderIdAt t i) ∙ a .there i h;
+      gone = λ n h. subst (λ (x : Account). Settled x) (sym (s n)) (a .gone n h);
+      unnamed = λ n h. s n ∙ a .unnamed n h;
+    }
+
+-- the accounts after reports
+abbrev pub accountsAfter : (ℕ → Account) → List (List ℕ) → ℕ → Account
+accountsAfter acc rs n = accountFrom n (acc n) rs
 
 pub record Leads (t u : List ℕ) (rs : List (List ℕ)) : Type 0 where
-  pub accounts : (k : ℕ) → accountFrom k (accountIn (at (bookOf t) k)) rs ≡ accountIn (at (bookOf u) k)
+  pub accounts : (acc : ℕ → Account) → Accounts t acc → Accounts u (accountsAfter acc rs)
   pub balanced : bought rs ≡ sold rs
   pub fair : selfTrades rs ≡ 0
   pub read : unread rs ≡ 0
+
+-- ---- the same orders before and after reports that follow each of them and name nobody else
+pub record Kept (t u : List ℕ) (rs : List (List ℕ)) : Type 0 where
+  pub size : length (bookOf u) ≡ length (bookOf t)
+  pub ids : (i : ℕ) → orderIdAt u i ≡ orderIdAt t i
+  pub next : nextOf t ≤ nextOf u
+  pub follows : (i : ℕ) → In (bookOf t) i → accountFrom (orderIdAt t i) (accountIn (at (bookOf t) i)) rs ≡ accountIn (at (bookOf u) i)
+  pub others : (n : ℕ) → Nobody t n → (a : Account) → accountFrom n a rs ≡ a
+
+pub kept-accounts : (t u : List ℕ) (rs : List (List ℕ)) → Market t → Kept t u rs → (acc : ℕ → Account) → Accounts t acc → Accounts u (accountsAfter acc rs)
+kept-accounts t u rs m k acc a =
+    record {
+      there = λ i h.
+          let l : In (bookOf t) i = record { low = h .low; high = omega (arith, h .high, k .size) } in
+          ap (λ (n : ℕ). accountFrom n (acc n) rs) (k .ids i)
+          ∙ ap (λ (x : Account). accountFrom (orderIdAt t i) x rs) (a .there i l)
+          ∙ k .follows i l;
+      gone = λ n h.
+          let g : Nobody t n = λ i l e. h i (record { low = l .low; high = omega (arith, l .high, k .size) }) (k .ids i ∙ e) in
+          subst (λ (x : Account). Settled x) (sym (k .others n g (acc n))) (a .gone n g);
+      unnamed = λ n h.
+          let l : nextOf t ≤ n = omega (arith, k .next) in
+          k .others n (nobody-yet t m n l) (acc n) ∙ a .unnamed n l;
+    }
 
 -- ---- one after the other
 account-append : (k : ℕ) (a : Account) (rs qs : List (List ℕ)) → accountFrom k a (rs ++ qs) ≡ accountFrom k (accountFrom k a rs) qs
@@ -47,17 +107,18 @@ unread-append (r ∷ rs) qs = omega (arith, unread-append rs qs)
 pub leads-then : (t u v : List ℕ) (rs qs : List (List ℕ)) → Leads t u rs → Leads u v qs → Leads t v (rs ++ qs)
 leads-then t u v rs qs x y =
     record {
-      accounts = λ k. account-append k _ rs qs ∙ ap (λ (a : Account). accountFrom k a qs) (x .accounts k) ∙ y .accounts k;
+      accounts = λ acc a.
+          accounts-same v (accountsAfter (accountsAfter acc rs) qs) (accountsAfter acc (rs ++ qs)) (λ n. account-append n (acc n) rs qs)
+          (y .accounts (accountsAfter acc rs) (x .accounts acc a));
       balanced = omega (arith, traded-append 1 rs qs, traded-append 2 rs qs, x .balanced, y .balanced);
       fair = omega (arith, self-append rs qs, x .fair, y .fair);
       read = omega (arith, unread-append rs qs, x .read, y .read);
     }
 
--- ---- no report, and the book as it was
-pub leads-still : (t u : List ℕ) → bookOf u ≡ bookOf t → Leads t u []
+-- ---- no report, and the table as it was
+pub leads-still : (t : List ℕ) → Leads t t []
 unfolding accountFrom traded selfTrades unread
-leads-still t u e =
-    record { accounts = λ k. ap (λ (b : Book). accountIn (at b k)) (sym e); balanced = refl; fair = refl; read = refl }
+leads-still t = record { accounts = λ acc a. accounts-same t acc (accountsAfter acc []) (λ n. refl) a; balanced = refl; fair = refl; read = refl }
 
 -- ---- a report about no order's amounts
 abbrev pub isSilent : Kind → Bool
@@ -113,11 +174,20 @@ module _ (r : Reading) (h : isSilent (r .kind) ≡ true) where
   unfolding isSelfTrade
   silent-fair = rw (no-trade (r .kind) h)
 
-pub leads-silent : (t u r : List ℕ) → bookOf u ≡ bookOf t → isSilent (readOf r .kind) ≡ true → Leads t u (r ∷ [])
+pub leads-silent : (t u r : List ℕ) → Market t → bookOf u ≡ bookOf t → ((i : ℕ) → orderIdAt u i ≡ orderIdAt t i) → nextOf t ≤ nextOf u
+    → isSilent (readOf r .kind) ≡ true → Leads t u (r ∷ [])
 unfolding accountFrom traded selfTrades unread
-leads-silent t u r e h =
+leads-silent t u r m e s l h =
     record {
-      accounts = λ k. silent-noted (readOf r) h k _ ∙ ap (λ (b : Book). accountIn (at b k)) (sym e);
+      accounts =
+          kept-accounts t u (r ∷ []) m
+          (record {
+            size = ap length e;
+            ids = s;
+            next = l;
+            follows = λ i k. silent-noted (readOf r) h (orderIdAt t i) _ ∙ ap (λ (b : Book). accountIn (at b i)) (sym e);
+            others = λ n g a. silent-noted (readOf r) h n a;
+          });
       balanced = ap (λ (n : ℕ). n + 0) (silent-traded (readOf r) h 1 ∙ sym (silent-traded (readOf r) h 2));
       fair = rw (silent-fair (readOf r) h);
       read = rw (silent-read (readOf r .kind) h);

@@ -20,16 +20,16 @@ use Rattle.matching.specs.Matching.{openOf, meets, better, faces, sameOwner, su
 use Rattle.matching.specs.Held.{mayMinimum}
 use Rattle.table.specs.Changes.{played, missesNow, stepEvents, stepWork, numbered, stepped, entered}
 use Rattle.table.specs.Heading.{entries, entryOf, isListed, modeOf, mpidBytes}
-use Rattle.table.specs.Market.{every, isPadded, isText, hasLength, hasNames, isEntry, hasList, hasSettings, hasNext, hasWork, hasSpare, restZero, isCapacity, isClass, isRecord, isRanged, isKnown, isWithin, isShut, isPriced, isOrder, hasOrders, isFreshId, hasIds, isFreshPlace, hasPlaces, isDone, noIoc, isClear, noCross, hasNumbers, isBook, hasDecision, isMarket}
+use Rattle.table.specs.Market.{every, isPadded, isText, hasLength, hasNames, isEntry, hasList, hasSettings, hasNext, hasWork, hasSpare, restZero, isCapacity, isClass, isRecord, isRanged, isKnown, isWithin, isShut, isPriced, isOrder, hasOrders, isFreshId, hasIds, isFresh, areFresh, hasOrderIds, hasPlaces, isDone, noIoc, isClear, noCross, hasNumbers, isBook, hasDecision, isMarket}
 use Rattle.table.specs.Opened.{isName, isNew, isGiven, areGiven, areNames, areSettings, namedTable, freshTable, isOpening, opened}
-use Rattle.table.specs.Orders.{orderAt, filled, ordersFrom, bookOf, idIndex, recordWith, termBytes, amountBytes, tailBytes, fieldBytes, recordOf, applied, accepted}
+use Rattle.table.specs.Orders.{orderAt, filled, ordersFrom, bookOf, firstRecord, recordWith, recordFor, termBytes, amountBytes, tailBytes, fieldBytes, recordOf, applied, accepted}
 use Rattle.calls.specs.Checks.{holder, newStands}
 use Rattle.calls.specs.Submit.{newTaken, submitted}
 use Rattle.report.specs.Fields.{label, written, fieldBytes as writtenField}
 use Rattle.report.specs.Frame.{version, front, trailer, reportBytes}
 use Rattle.report.specs.Parse.{valueAt, fieldAt, hop, placeOf}
 use Rattle.report.specs.Reports.{bodyAt, trailerAt, readFramed, executionFor, kindFor, firstOf, kindOf as kindOfReport, oneReason, readOf}
-use Rattle.report.specs.Shapes.{oneIn, wordIn, recordIn, textIn, timeIn}
+use Rattle.report.specs.Shapes.{oneIn, wordIn, orderIdIn, textIn, timeIn}
 use Rattle.report.specs.Slots.{acceptedSlots, replacedSlots, canceledSlots, tradeSlots}
 use Rattle.rows.specs.Rows.{text, orNumber, digit, avgPx, replacedStatus, tradeStatus, figuresOf, header, acceptedFields, replacedFields, canceledFields, tradeFields}
 use Rattle.ticket.specs.Tickets.{orStoredAt, stampOn, shownOn, rowOf, ticketOf}
@@ -37,18 +37,19 @@ use Rattle.readback.specs.Says.{says}
 use Rattle.calls.specs.Told.{joined}
 use Rattle.calls.specs.Run.{eventReport, eventReports, stepReports, worked, ran}
 use Rattle.promises.specs.History.{Call, Submit, Run, tableAfter, reportsAfter}
+use Rattle.promises.specs.Whole.{recordBy, openBy}
 use Rattle.promises.specs.Tallies.{Account, noted, accountFrom, accountOf, tradedFor, traded, bought, sold, isSelfTrade, selfTrades}
 
 -- open all definitions: those that the calls compute with, and those of reports and of what is told from them
 computes : ℕ
-unfolding leAt bytesOf put partAt textAt textBytes sameBytes allZero allUpTo firstFrom decimal places plain fixed shareOf meanOf bare bareOf exactlyOf amountOf fixedOf isDigit digitOf runOf numberAfter isNumber numOf digitAt isFraction fractionOf sizeOf levelOf isTimeLength twoAt timeShaped timeRanged isTime isFieldText startsTag leading tagOf valueFrom valueLen fieldOf fieldsAfter fieldsFrom stepOf findTag valueOf hasTag repeats cleanFields lastTagOr headedBy ordered headerRight partOf endOf tenAt lengthTrue sumOf checkSum sumTrue garbledMessage bodyPart headOf frameOf bodyOf saidIn lengthIn hasIn refusalOf termsIn requestIn completed agreed bodyAsked headAsked askedOf kindOf oneOf belongs listed shapeOf charSays lookAs judge firstFailing firstMissing minimumClashes firstClashing openOf meets better faces sameOwner sumOver countOf choose best partner prevention meeting ending outcome preventing causes change happens workAfter after play run minimumOf wouldTrade misses decidedAfter mayMinimum opposed opposedTo played missesNow stepEvents stepWork numbered stepped entered entries entryOf isListed modeOf mpidBytes every isPadded isText hasLength hasNames isEntry hasList hasSettings hasNext hasWork hasSpare restZero isCapacity isClass isRecord isRanged isKnown isWithin isShut isPriced isOrder hasOrders isFreshId hasIds isFreshPlace hasPlaces isDone noIoc isClear noCross hasNumbers isBook hasDecision isMarket isName isNew isGiven areGiven areNames areSettings namedTable freshTable isOpening opened orderAt filled ordersFrom bookOf idIndex recordWith termBytes amountBytes tailBytes fieldBytes recordOf applied accepted holder newStands newTaken submitted joined eventReport eventReports stepReports worked ran tableAfter reportsAfter
+unfolding leAt bytesOf put partAt textAt textBytes sameBytes allZero allUpTo firstFrom decimal places plain fixed shareOf meanOf bare bareOf exactlyOf amountOf fixedOf isDigit digitOf runOf numberAfter isNumber numOf digitAt isFraction fractionOf sizeOf levelOf isTimeLength twoAt timeShaped timeRanged isTime isFieldText startsTag leading tagOf valueFrom valueLen fieldOf fieldsAfter fieldsFrom stepOf findTag valueOf hasTag repeats cleanFields lastTagOr headedBy ordered headerRight partOf endOf tenAt lengthTrue sumOf checkSum sumTrue garbledMessage bodyPart headOf frameOf bodyOf saidIn lengthIn hasIn refusalOf termsIn requestIn completed agreed bodyAsked headAsked askedOf kindOf oneOf belongs listed shapeOf charSays lookAs judge firstFailing firstMissing minimumClashes firstClashing openOf meets better faces sameOwner sumOver countOf choose best partner prevention meeting ending outcome preventing causes change happens workAfter after play run minimumOf wouldTrade misses decidedAfter mayMinimum opposed opposedTo played missesNow stepEvents stepWork numbered stepped entered entries entryOf isListed modeOf mpidBytes every isPadded isText hasLength hasNames isEntry hasList hasSettings hasNext hasWork hasSpare restZero isCapacity isClass isRecord isRanged isKnown isWithin isShut isPriced isOrder hasOrders isFreshId hasIds isFresh areFresh hasOrderIds hasPlaces isDone noIoc isClear noCross hasNumbers isBook hasDecision isMarket isName isNew isGiven areGiven areNames areSettings namedTable freshTable isOpening opened orderAt filled ordersFrom bookOf firstRecord recordWith recordFor termBytes amountBytes tailBytes fieldBytes recordOf applied accepted holder newStands newTaken submitted joined eventReport eventReports stepReports worked ran tableAfter reportsAfter recordBy openBy
 computes = 0
 
 tells : ℕ
-unfolding label written writtenField version front trailer reportBytes valueAt fieldAt hop placeOf bodyAt trailerAt readFramed executionFor kindFor firstOf kindOfReport oneReason readOf oneIn wordIn recordIn textIn timeIn acceptedSlots replacedSlots canceledSlots tradeSlots text orNumber digit avgPx replacedStatus tradeStatus figuresOf header acceptedFields replacedFields canceledFields tradeFields orStoredAt stampOn shownOn rowOf ticketOf says noted accountFrom tradedFor traded isSelfTrade selfTrades
+unfolding label written writtenField version front trailer reportBytes valueAt fieldAt hop placeOf bodyAt trailerAt readFramed executionFor kindFor firstOf kindOfReport oneReason readOf oneIn wordIn orderIdIn textIn timeIn acceptedSlots replacedSlots canceledSlots tradeSlots text orNumber digit avgPx replacedStatus tradeStatus figuresOf header acceptedFields replacedFields canceledFields tradeFields orStoredAt stampOn shownOn rowOf ticketOf says noted accountFrom tradedFor traded isSelfTrade selfTrades
 tells = 0
 
--- A is MPID 10 and has mode 3
+-- the first report is number 101; A is MPID 10 and has mode 3
 abbrev before : List ℕ
 before = replicate 32768 0
 
@@ -59,9 +60,9 @@ abbrev modes : List ℕ
 modes = 3 ∷ 1 ∷ 1 ∷ 1 ∷ 1 ∷ []
 
 abbrev pub opens : List ℕ
-opens = opened before (bytes "V") (bytes "P") (bytes "350") 1 mpids modes
+opens = opened before (bytes "V") (bytes "P") (bytes "350") 101 mpids modes
 
-pub opens-right : isOpening before (bytes "V") (bytes "P") (bytes "350") 1 mpids modes ≡ true
+pub opens-right : isOpening before (bytes "V") (bytes "P") (bytes "350") 101 mpids modes ≡ true
 unfolding computes
 opens-right = refl
 
@@ -87,9 +88,10 @@ lived =
     Submit sell1 1024 ∷ Run 1024 1 ∷ Submit sell2 1024 ∷ Run 1024 1 ∷ Submit sell3 1024 ∷ Run 1024 1 ∷ Submit sell4 1024 ∷ Run 1024 1
     ∷ Submit buy5 1024 ∷ Run 1024 1 ∷ Run 1024 1 ∷ Run 1024 1 ∷ Run 1024 1 ∷ Run 1024 1 ∷ []
 
--- what reports tell of A's sell, of A's buy and of all trades
+-- what reports tell of A's sell and of A's buy, which are the third and the fifth order and were accepted by the third and the fifth
+-- report; and of all trades
 abbrev accounts : List (List ℕ) → List Account
-accounts rs = accountOf 3 rs ∷ accountOf 5 rs ∷ []
+accounts rs = accountOf 103 rs ∷ accountOf 105 rs ∷ []
 
 abbrev totals : List (List ℕ) → List ℕ
 totals rs = bought rs ∷ sold rs ∷ selfTrades rs ∷ []
@@ -108,6 +110,6 @@ unfolding computes tells
 totals-lived = refl
 
 -- 200 of the buy are open in the table
-pub open-lived : openOf (orderAt (tableAfter opens lived) 5) ≡ 200
+pub open-lived : openBy (tableAfter opens lived) 105 ≡ 200
 unfolding computes
 open-lived = refl

@@ -3,15 +3,13 @@
 use mathlib.Core.Path.{_≡_, refl, sym, ap, _∙_}
 use mathlib.Core.Bool.{Bool, true, false, _&&_}
 use mathlib.Core.List.{List, [], _∷_, _++_, append-nil}
-use mathlib.Core.Logic.{_≢_, _⊎_, inl, inr, ⊎-elim}
+use mathlib.Core.Logic.{_⊎_, inl, inr, ⊎-elim}
 use Prim.Native.Nat.{ℕ, zero, suc, _+_, _-_, _≤_, _<_}
 use native.Mathlib.Omega.{arith}
 use lib.Dec.{eqb, ltb}
 use lib.ListN.{length}
 use borrow.Author.Tests.{ne-eqb}
 use Rattle.octets.proofs.Bools.{split, not-both}
-use Rattle.matching.specs.declared.Order.{Order}
-use Rattle.matching.specs.declared.Event.{Event}
 use Rattle.matching.specs.Matching.{Book, at, openOf, bookAfter, workAfter, happens, Ran, run, minimumOf, misses}
 use Rattle.matching.specs.Held.{In}
 use Rattle.matching.specs.Runs.{KilledWhole}
@@ -19,12 +17,13 @@ use Rattle.matching.proofs.Events.{length-play}
 use Rattle.matching.proofs.Steps.{run-plays, run-fits}
 use Rattle.matching.proofs.Theorems as matching
 use Rattle.table.specs.Heading.{workOf, decidedOf, modeOf}
-use Rattle.table.specs.Orders.{orderAt, filled, bookOf}
+use Rattle.table.specs.Orders.{orderIdAt, orderAt, filled, bookOf}
 use Rattle.table.specs.Market.{isMarket}
 use Rattle.table.specs.Facts.{Market}
 use Rattle.table.specs.Changes.{missesNow, stepEvents, stepWork, stepped}
 use Rattle.table.proofs.Facts.{market-facts}
 use Rattle.table.proofs.Kept.{stepped-kept}
+use Rattle.table.proofs.OrderIds.{stepped-order-id}
 use Rattle.table.proofs.Books.{length-book, at-book}
 use Rattle.calls.specs.Told.{joined, roomAsked}
 use Rattle.calls.specs.Run.{stepReports, stops, worked, ran}
@@ -33,7 +32,7 @@ use Rattle.turns.proofs.Taking.{goes-busy}
 use Rattle.promises.specs.History.{Call, Submit, Run, Depth, Read, tableAfter, reportsAfter, noSubmit}
 use Rattle.promises.specs.Shown.{ReportsOf}
 use Rattle.promises.specs.Minimums.{CanceledWhole, Reached}
-use Rattle.promises.proofs.Agreeing.{step-reports, reports-append}
+use Rattle.promises.proofs.Agreeing.{step-reports, reports-same, reports-append}
 use Rattle.promises.proofs.Histories.{call-keeps}
 use Rattle.promises.proofs.Putting.{Put, nothing, undecided}
 
@@ -43,7 +42,8 @@ pub record Stepping (t u : List ℕ) (rs : List (List ℕ)) (n : ℕ) : Type 0 w
   pub work : workOf u ≡ run (modeOf t) (missesNow t) n (bookOf t) (workOf t) .work
   pub modes : modeOf u ≡ modeOf t
   pub missed : missesNow u ≡ (eqb n 0 && missesNow t)
-  pub events : ReportsOf rs (run (modeOf t) (missesNow t) n (bookOf t) (workOf t) .events)
+  pub ids : (i : ℕ) → orderIdAt u i ≡ orderIdAt t i
+  pub events : ReportsOf (orderIdAt t) rs (run (modeOf t) (missesNow t) n (bookOf t) (workOf t) .events)
 
 pub record Steps (t u : List ℕ) (rs : List (List ℕ)) : Type 0 where
   pub number : ℕ
@@ -52,7 +52,7 @@ pub record Steps (t u : List ℕ) (rs : List (List ℕ)) : Type 0 where
 -- no step
 none-steps : (t : List ℕ) → Steps t t []
 unfolding run
-none-steps t = record { number = 0; by = record { book = refl; work = refl; modes = refl; missed = refl; events = tt } }
+none-steps t = record { number = 0; by = record { book = refl; work = refl; modes = refl; missed = refl; ids = λ i. refl; events = tt } }
 
 -- one
 one-run : (modes : ℕ → ℕ) (missed : Bool) (b : Book) (w : ℕ) → 1 ≤ w
@@ -74,6 +74,7 @@ one-step t m l =
         work = step-work t m l ∙ ap (λ (r : Ran). r .work) (sym e);
         modes = step-modes t m l;
         missed = step-decided t m l;
+        ids = stepped-order-id t;
         events = rw e (step-reports t m l);
       };
     }
@@ -95,13 +96,14 @@ stepping-then t u v rs qs m n a b =
     let first = run (modeOf t) (missesNow t) m (bookOf t) (workOf t) in
     let e : run (modeOf u) (missesNow u) n (bookOf u) (workOf u) ≡ run (modeOf t) (eqb m 0 && missesNow t) n (first .book) (first .work) =
     rw (a .modes, a .missed, a .book, a .work) in
-    let f = rw e at (b .events) in
+    let f = rw e at (reports-same (orderIdAt u) (orderIdAt t) (a .ids) qs (run (modeOf u) (missesNow u) n (bookOf u) (workOf u) .events) (b .events)) in
     record {
       book = b .book ∙ ap (λ (r : Ran). r .book) e ∙ sym (g .book);
       work = b .work ∙ ap (λ (r : Ran). r .work) e ∙ sym (g .work);
       modes = b .modes ∙ a .modes;
       missed = b .missed ∙ ap (λ (x : Bool). eqb n 0 && x) (a .missed) ∙ missed-then m n (missesNow t);
-      events = rw (g .events) (reports-append rs qs _ _ (a .events) f);
+      ids = λ i. b .ids i ∙ a .ids i;
+      events = rw (g .events) (reports-append (orderIdAt t) rs qs _ _ (a .events) f);
     }
 
 steps-then : (t u v : List ℕ) (rs qs : List (List ℕ)) → Steps t u rs → Steps u v qs → Steps t v (rs ++ qs)

@@ -1,8 +1,9 @@
--- Events that happen one after the other to a table, and their reports: every account follows, trades balance, and no MPID trades with
--- itself, if each report tells its event and each event is exact.
+-- Events that happen one after the other to a table, and their reports: every account follows, by OrderID, trades balance, and no MPID
+-- trades with itself, if each report tells its event and each event is exact.
 use mathlib.Core.Path.{_≡_, refl, sym, ap, subst, _∙_}
 use mathlib.Core.Bool.{Bool, true, false, cond}
 use mathlib.Core.List.{List, [], _∷_}
+use mathlib.Core.Logic.{_≢_}
 use Prim.Native.Nat.{ℕ, _+_, _≤_}
 use native.Mathlib.Omega.{arith}
 use lib.Dec.{eqb}
@@ -18,21 +19,22 @@ use Rattle.matching.specs.Accounts.{trades, bought as boughtBy, sold as soldBy}
 use Rattle.matching.specs.Happens.{moves}
 use Rattle.matching.proofs.Events.{Terms, termsOf, change-terms, after-here, after-there}
 use Rattle.table.specs.Places.{tableBytes}
-use Rattle.table.specs.Orders.{orderAt, bookOf, applied}
+use Rattle.table.specs.Orders.{orderIdAt, orderAt, bookOf, applied}
 use Rattle.table.proofs.Books.{length-book, at-book}
 use Rattle.table.proofs.Frames.{Framed, framed-long, framed-filled}
+use Rattle.table.proofs.OrderIds.{applied-order-id}
 use Rattle.table.proofs.Applied.{AllMove, framed-applied, book-applied}
 use Rattle.report.specs.declared.Reading.{Reading}
 use Rattle.report.specs.Reports.{readOf}
 use Rattle.calls.specs.Run.{eventReport, eventReports}
 use Rattle.readback.specs.Told.{otherTold}
 use Rattle.promises.specs.Tallies.{Account, noted, accountFrom, tradedFor, traded, isSelfTrade, selfTrades, unread}
-use Rattle.promises.proofs.Tells.{Exact, Tells, tells-read, accountIn, noted-here, noted-there}
+use Rattle.promises.proofs.Tells.{Exact, Tells, tells-read, accountIn, accountBefore, before-moves, noted-here, noted-there}
 use Rattle.promises.proofs.Exacts.{Exacts}
 
 -- a report r tells event e on the table t after it
 abbrev pub TellsOn : List ℕ → Event → List ℕ → Type 0
-TellsOn t e r = Tells (readOf r) e (orderAt t (who e)) (otherTold t e)
+TellsOn t e r = Tells (readOf r) (orderIdAt t (who e)) e (orderAt t (who e)) (otherTold t e)
 
 -- the reports of events, numbered from n on, tell them in turn
 abbrev pub TellsAll : List ℕ → ℕ → List Event → Type 0
@@ -48,37 +50,55 @@ module _ (t u : List ℕ) (e : Event) (low : 1 ≤ who e) (high : who e ≤ leng
       ∙ ap (λ (b : Book). at b (who e)) same
       ∙ after-here (bookOf t) e low (omega arith)
 
-  pub account-then : (k : ℕ) → noted k (accountIn (at (bookOf t) k)) (readOf r) ≡ accountIn (at (bookOf u) k)
-  account-then k =
-      split (eqb k (who e))
-      (λ z.
-      let q = eqb-true k (who e) z in
-      let y : Tells (readOf r) e (change e (at (bookOf t) (who e))) (otherTold u e) = rw order-now at tells in
-      rw (q, same, after-here (bookOf t) e low (omega arith)) (noted-here (bookOf t) (readOf r) (otherTold u e) e x y))
-      (λ z.
-      let d = eqb-false k (who e) z in
-      rw (same, after-there (bookOf t) e low (omega arith) k d)
-      (noted-there (bookOf t) (readOf r) (otherTold u e) e (orderAt u (who e)) tells k d _))
+  -- the account of its OrderID, and of any other number
+  pub account-here : noted (orderIdAt u (who e)) (accountBefore (bookOf t) e) (readOf r) ≡ accountIn (at (bookOf u) (who e))
+  account-here =
+      let y : Tells (readOf r) (orderIdAt u (who e)) e (change e (at (bookOf t) (who e))) (otherTold u e) = rw order-now at tells in
+      noted-here (bookOf t) (readOf r) (orderIdAt u (who e)) (otherTold u e) e x y
+      ∙ ap (λ (o : Order). accountIn o) (sym (after-here (bookOf t) e low (omega arith)) ∙ ap (λ (b : Book). at b (who e)) (sym same))
+
+  pub account-there : (n : ℕ) → n ≢ orderIdAt u (who e) → (a : Account) → noted n a (readOf r) ≡ a
+  account-there n d a = noted-there (bookOf t) (readOf r) (orderIdAt u (who e)) (otherTold u e) e (orderAt u (who e)) tells n d a
+
+  -- the other orders are as they were
+  pub order-there : (k : ℕ) → k ≢ who e → at (bookOf u) k ≡ at (bookOf t) k
+  order-there k d = ap (λ (b : Book). at b k) same ∙ after-there (bookOf t) e low (omega arith) k d
+
+  -- an event of an order that was there: ids gives the OrderIDs
+  module _ (ids : ℕ → ℕ) (named : orderIdAt u (who e) ≡ ids (who e)) (old : accountBefore (bookOf t) e ≡ accountIn (at (bookOf t) (who e))) where
+    pub account-then : (k : ℕ) → (ids k ≡ ids (who e) → k ≡ who e) → noted (ids k) (accountIn (at (bookOf t) k)) (readOf r) ≡ accountIn (at (bookOf u) k)
+    account-then k one =
+        split (eqb k (who e))
+        (λ z. rw (eqb-true k (who e) z) here)
+        (λ z.
+        let d = eqb-false k (who e) z in
+        account-there (ids k) (λ h. d (one (h ∙ named))) _ ∙ ap (λ (o : Order). accountIn o) (sym (order-there k d)))
+      where
+        here : noted (ids (who e)) (accountIn (at (bookOf t) (who e))) (readOf r) ≡ accountIn (at (bookOf u) (who e))
+        here =
+            ap (λ (n : ℕ). noted n (accountIn (at (bookOf t) (who e))) (readOf r)) (sym named)
+            ∙ ap (λ (a : Account). noted (orderIdAt u (who e)) a (readOf r)) (sym old)
+            ∙ account-here
 
 -- ---- what a report trades for a side, and that it is no self-trade
 pub nought : (c : Bool) → _≡_ {A = ℕ} (cond c 0 0) 0
 nought true = refl
 nought false = refl
 
-pub traded-one : (r : Reading) (e : Event) (o : Order) (m s : ℕ) → Tells r e o m → tradedFor s r ≡ cond (eqb (o .side) s) (trades e) 0
+pub traded-one : (r : Reading) (i : ℕ) (e : Event) (o : Order) (m s : ℕ) → Tells r i e o m → tradedFor s r ≡ cond (eqb (o .side) s) (trades e) 0
 unfolding tradedFor
-traded-one r (Accepted n x) o m s t = rw (t .kind) (sym (nought (eqb (o .side) s)))
-traded-one r (Replaced n l q p) o m s t = rw (t .kind) (sym (nought (eqb (o .side) s)))
-traded-one r (Withdrawn n q) o m s t = rw (t .kind) (sym (nought (eqb (o .side) s)))
-traded-one r (Canceled n q) o m s t = rw (t .kind) (sym (nought (eqb (o .side) s)))
-traded-one r (Decremented n q) o m s t = rw (t .kind) (sym (nought (eqb (o .side) s)))
-traded-one r (Traded n k q l) o m s t = rw (t .side, t .executed, t .kind)
-traded-one r (Killed n q) o m s t = rw (t .kind) (sym (nought (eqb (o .side) s)))
-traded-one r (Expired n q) o m s t = rw (t .kind) (sym (nought (eqb (o .side) s)))
+traded-one r i (Accepted n x) o m s t = rw (t .kind) (sym (nought (eqb (o .side) s)))
+traded-one r i (Replaced n l q p) o m s t = rw (t .kind) (sym (nought (eqb (o .side) s)))
+traded-one r i (Withdrawn n q) o m s t = rw (t .kind) (sym (nought (eqb (o .side) s)))
+traded-one r i (Canceled n q) o m s t = rw (t .kind) (sym (nought (eqb (o .side) s)))
+traded-one r i (Decremented n q) o m s t = rw (t .kind) (sym (nought (eqb (o .side) s)))
+traded-one r i (Traded n k q l) o m s t = rw (t .side, t .executed, t .kind)
+traded-one r i (Killed n q) o m s t = rw (t .kind) (sym (nought (eqb (o .side) s)))
+traded-one r i (Expired n q) o m s t = rw (t .kind) (sym (nought (eqb (o .side) s)))
 
-not-self : (r : Reading) (n k q l : ℕ) (o : Order) (m : ℕ) → Tells r (Traded n k q l) o m → (o .mpid ≡ m → o .mpid ≡ 0) → isSelfTrade r ≡ false
+not-self : (r : Reading) (i n k q l : ℕ) (o : Order) (m : ℕ) → Tells r i (Traded n k q l) o m → (o .mpid ≡ m → o .mpid ≡ 0) → isSelfTrade r ≡ false
 unfolding isSelfTrade
-not-self r n k q l o m t h =
+not-self r i n k q l o m t h =
     rw (t .mpid, t .other, t .kind)
     (split (eqb (o .mpid) m)
     (λ z. rw (z, eq-eqb (o .mpid) 0 (h (eqb-true (o .mpid) m z))))
@@ -128,21 +148,30 @@ module _ (c : Book) (t : List ℕ) (e : Event) (long : length t ≡ tableBytes) 
   owner-then : (k : ℕ) → In (bookOf t) k → orderAt (applied t e) k .mpid ≡ at (bookOf t) k .mpid
   owner-then k i = ap (λ (o : Order). o .mpid) (here k i) ∙ ap (λ (q : Terms). q .mpid) (terms-then k)
 
-  pub accounts-then : (k : ℕ) → noted k (accountIn (at (bookOf t) k)) (readOf rep) ≡ accountIn (at (bookOf (applied t e)) k)
-  accounts-then = account-then t (applied t e) e (r .inside .low) high short x book rep tells
+  -- where ids gives the OrderIDs
+  module _ (ids : ℕ → ℕ) (named : (i : ℕ) → orderIdAt t i ≡ ids i) where
+    pub accounts-then : (k : ℕ) → (ids k ≡ ids (who e) → k ≡ who e)
+        → noted (ids k) (accountIn (at (bookOf t) k)) (readOf rep) ≡ accountIn (at (bookOf (applied t e)) k)
+    accounts-then =
+        account-then t (applied t e) e (r .inside .low) high short x book rep tells ids (applied-order-id t e (who e) ∙ named (who e))
+        (before-moves (bookOf t) e m)
+
+    pub others-then : (n : ℕ) → ids (who e) ≢ n → (a : Account) → noted n a (readOf rep) ≡ a
+    others-then n d a =
+        account-there t (applied t e) e (r .inside .low) high short x book rep tells n (λ h. d (sym (applied-order-id t e (who e) ∙ named (who e)) ∙ sym h)) a
 
   pub bought-then : tradedFor 1 (readOf rep) ≡ cond (isBuy (at c (who e))) (trades e) 0
-  bought-then = traded-one (readOf rep) e _ _ 1 tells ∙ ap (λ (y : ℕ). cond (eqb y 1) (trades e) 0) side-then
+  bought-then = traded-one (readOf rep) _ e _ _ 1 tells ∙ ap (λ (y : ℕ). cond (eqb y 1) (trades e) 0) side-then
 
   pub sold-then : tradedFor 2 (readOf rep) ≡ cond (isBuy (at c (who e))) 0 (trades e)
   sold-then =
-      traded-one (readOf rep) e _ _ 2 tells
+      traded-one (readOf rep) _ e _ _ 2 tells
       ∙ ap (λ (y : ℕ). cond (eqb y 2) (trades e) 0) (side-then ∙ sym (s (who e)))
       ∙ other-side (at (bookOf t) (who e)) (trades e) (r .sound)
       ∙ ap (λ (y : ℕ). cond (eqb y 1) 0 (trades e)) (s (who e))
 
   -- by cases of the event
-  fair-by : (f : Event) → f ≡ e → Tells (readOf rep) f (orderAt (applied t e) (who f)) (otherTold (applied t e) f) → Exact (bookOf t) f → isSelfTrade (readOf rep) ≡ false
+  fair-by : (f : Event) → f ≡ e → Tells (readOf rep) (orderIdAt (applied t e) (who f)) f (orderAt (applied t e) (who f)) (otherTold (applied t e) f) → Exact (bookOf t) f → isSelfTrade (readOf rep) ≡ false
   unfolding isSelfTrade
   fair-by (Accepted n o) q y z = rw (y .kind)
   fair-by (Replaced n l a p) q y z = rw (y .kind)
@@ -153,17 +182,19 @@ module _ (c : Book) (t : List ℕ) (e : Event) (long : length t ≡ tableBytes) 
       let i : In (bookOf t) n = subst (λ (f : Event). In (bookOf t) (who f)) (sym q) (r .inside) in
       let p = owner-then n i in
       let v = owner-then k (z .inside) in
-      not-self (readOf rep) n k a l _ _ y (λ h. p ∙ z .owners (sym p ∙ h ∙ v))
+      not-self (readOf rep) _ n k a l _ _ y (λ h. p ∙ z .owners (sym p ∙ h ∙ v))
   fair-by (Killed n a) q y z = rw (y .kind)
   fair-by (Expired n a) q y z = rw (y .kind)
 
   pub fair-then : isSelfTrade (readOf rep) ≡ false
   fair-then = fair-by e refl tells x
 
--- ---- all events in turn, by the sides of a book whose orders they are
-module _ (c : Book) where
+-- ---- all events in turn, by the sides and OrderIDs of a book whose orders they are
+module _ (c : Book) (ids : ℕ → ℕ) (apart : (i j : ℕ) → In c i → In c j → ids i ≡ ids j → i ≡ j) where
   pub record Follows (t : List ℕ) (n : ℕ) (es : List Event) : Type 0 where
-    pub accounts : (k : ℕ) → accountFrom k (accountIn (at (bookOf t) k)) (eventReports t n es) ≡ accountIn (at (play (bookOf t) es) k)
+    pub accounts : (k : ℕ) → In c k
+        → accountFrom (ids k) (accountIn (at (bookOf t) k)) (eventReports t n es) ≡ accountIn (at (play (bookOf t) es) k)
+    pub others : (k : ℕ) → ((i : ℕ) → In c i → ids i ≢ k) → (a : Account) → accountFrom k a (eventReports t n es) ≡ a
     pub bought : traded 1 (eventReports t n es) ≡ boughtBy c es
     pub sold : traded 2 (eventReports t n es) ≡ soldBy c es
     pub fair : selfTrades (eventReports t n es) ≡ 0
@@ -171,23 +202,31 @@ module _ (c : Book) where
 
   -- one report before others
   pub all-follow : (es : List Event) (t : List ℕ) (n : ℕ) → length t ≡ tableBytes → AllMove es → Readies (bookOf t) es → Exacts (bookOf t) es → TellsAll t n es
-      → ((k : ℕ) → at (bookOf t) k .side ≡ at c k .side) → Follows t n es
+      → ((k : ℕ) → at (bookOf t) k .side ≡ at c k .side) → length (bookOf t) ≡ length c → ((i : ℕ) → orderIdAt t i ≡ ids i) → Follows t n es
   unfolding eventReports accountFrom traded selfTrades unread boughtBy soldBy play
-  all-follow [] t n long m r x tells s = record { accounts = λ k. refl; bought = refl; sold = refl; fair = refl; read = refl }
-  all-follow (e ∷ es) t n long m r x tells s =
+  all-follow [] t n long m r x tells s z w =
+      record { accounts = λ k h. refl; others = λ k g a. refl; bought = refl; sold = refl; fair = refl; read = refl }
+  all-follow (e ∷ es) t n long m r x tells s z w =
       let u : List ℕ = applied t e in
       let rep : List ℕ = eventReport u n e in
       let book : bookOf u ≡ after (bookOf t) e = book-applied t e long (m .0) (r .0) in
+      let inside : In c (who e) = record { low = r .0 .inside .low; high = omega (arith, r .0 .inside .high) } in
       let g : Follows u (n + 1) es =
       all-follow es u (n + 1) (framed-long t u long (framed-applied t e long (m .0) (r .0))) (m .1) (rw book (r .1)) (rw book (x .1)) (tells .1)
-      (sides-then c t e long (m .0) (r .0) (x .0) rep (tells .0) s) in
+      (sides-then c t e long (m .0) (r .0) (x .0) rep (tells .0) s) (size c t e long (m .0) (r .0) (x .0) rep (tells .0) s ∙ z)
+      (λ i. applied-order-id t e i ∙ w i) in
       record {
-        accounts = λ k.
-            ap (λ (a : Account). accountFrom k a (eventReports u (n + 1) es)) (accounts-then c t e long (m .0) (r .0) (x .0) rep (tells .0) s k)
-            ∙ g .accounts k
+        accounts = λ k h.
+            ap (λ (a : Account). accountFrom (ids k) a (eventReports u (n + 1) es))
+            (accounts-then c t e long (m .0) (r .0) (x .0) rep (tells .0) s ids w k (apart k (who e) h inside))
+            ∙ g .accounts k h
             ∙ ap (λ (b : Book). accountIn (at (play b es) k)) book;
+        others = λ k h a.
+            ap (λ (y : Account). accountFrom k y (eventReports u (n + 1) es))
+            (others-then c t e long (m .0) (r .0) (x .0) rep (tells .0) s ids w k (h (who e) inside) a)
+            ∙ g .others k h a;
         bought = omega (arith, bought-then c t e long (m .0) (r .0) (x .0) rep (tells .0) s, g .bought);
         sold = omega (arith, sold-then c t e long (m .0) (r .0) (x .0) rep (tells .0) s, g .sold);
         fair = rw (fair-then c t e long (m .0) (r .0) (x .0) rep (tells .0) s) (omega (arith, g .fair));
-        read = rw (tells-read (readOf rep) e _ _ (tells .0)) (omega (arith, g .read));
+        read = rw (tells-read (readOf rep) _ e _ _ (tells .0)) (omega (arith, g .read));
       }

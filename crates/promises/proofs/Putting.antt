@@ -1,17 +1,14 @@
 -- What Submit puts in work, where nothing was in work before: an order with something open, not decided yet.
-use mathlib.Core.Path.{_≡_, refl, ap, _∙_}
-use mathlib.Core.Bool.{true}
-use mathlib.Core.List.{List, [], _∷_}
+use mathlib.Core.Path.{_≡_, refl, _∙_}
+use mathlib.Core.List.{List, _∷_}
 use Prim.Native.Nat.{ℕ, _+_, _*_, _≤_, _<_}
 use native.Mathlib.Omega.{arith}
 use lib.Dec.{lit≤}
 use lib.ListN.{length}
 use Rattle.octets.specs.Octets.{bytesOf, textBytes}
-use Rattle.octets.proofs.Bools.{not-both}
 use Rattle.octets.proofs.Places.{length-bytesOf}
 use Rattle.octets.proofs.Parts.{length-textBytes}
 use Rattle.decimal.proofs.Times.{time-short}
-use Rattle.request.specs.declared.Refusal.{Refusal}
 use Rattle.request.specs.declared.NewOrder.{NewOrder}
 use Rattle.request.specs.declared.Replacement.{Replacement}
 use Rattle.request.specs.declared.Cancellation.{Cancellation}
@@ -19,24 +16,21 @@ use Rattle.request.specs.declared.Asked.{Asked}
 use Rattle.request.specs.declared.Asked.the-variants.{Garbled, Refused, Enters, Replaces, Cancels}
 use Rattle.matching.specs.declared.Order.{Order}
 use Rattle.matching.specs.declared.Event.the-variants.{Accepted, Replaced}
-use Rattle.matching.specs.Matching.{Book, at, openOf, change, after}
+use Rattle.matching.specs.Matching.{at, openOf, change, after}
 use Rattle.matching.proofs.Events.{after-here}
+use Rattle.matching.proofs.Conserved.{takes-low, takes-high}
 use Rattle.matching.proofs.Requests.{renews-renewed}
 use Rattle.table.specs.Places.{tableBytes}
 use Rattle.table.specs.Heading.{nextOf, workOf, decidedOf, isListed, putWork}
-use Rattle.table.specs.Orders.{orderAt, filled, bookOf, putId, putTerms, termBytes, withdrawn, replaced, accepted}
-use Rattle.table.specs.Market.{isMarket}
-use Rattle.table.specs.Facts.{Market}
+use Rattle.table.specs.Orders.{orderAt, bookOf, recordFor, putId, putTerms, termBytes, withdrawn, replaced}
 use Rattle.table.specs.Changes.{numbered, entered, renewed, taken}
-use Rattle.table.proofs.Facts.{market-facts}
 use Rattle.table.proofs.Same.{Same, same-in, put-below, put-above, work-same, decided-same}
-use Rattle.table.proofs.Stores.{work-got, accepted-before}
-use Rattle.table.proofs.Books.{length-book}
-use Rattle.table.proofs.Kept.{idle-decided}
+use Rattle.table.proofs.Stores.{work-got}
+use Rattle.table.proofs.Kept.{idle-decided, new-heading}
 use Rattle.calls.specs.declared.Standing.{Standing}
 use Rattle.calls.specs.declared.Standing.the-variants.{Stands, Fails}
 use Rattle.calls.specs.Checks.{textOf, holder, newStands, cancelStands, replaceStands}
-use Rattle.calls.specs.Submit.{Submitted, rejecting, faulted, newOrderOf, newRejected, changeRejected, newTaken, replacementTaken, cancelTaken, entering, replacing, canceling, handled, submitted}
+use Rattle.calls.specs.Submit.{rejecting, faulted, newOrderOf, newRejected, changeRejected, newTaken, replacementTaken, cancelTaken, entering, replacing, canceling, handled, submitted}
 use Rattle.intake.specs.Intake.{Asking}
 use Rattle.intake.proofs.Standing.{new-named, new-account, new-account-short, new-capacity, new-class, new-enters, new-time, cancel-in, replace-in, replace-named, replace-renews, replace-time}
 use Rattle.intake.proofs.Keeping.{Comes, no-room, no-market, in-work, spent, heard, comes}
@@ -86,15 +80,14 @@ module _ (t message : List ℕ) where
       let cls = new-class t message o a in
       let g = new-named t message o a e in
       let n = new-enters t message o a e in
-      let k : ℕ = filled t + 1 in
-      let long = long-accepted t _ _ _ _ _ (a .market) g few printable cap cls n in
-      let b = book-accepted t _ _ _ _ _ (a .market) g few printable cap cls n in
+      let k : ℕ = recordFor t in
+      let long = long-accepted t k _ _ _ _ _ (a .market) g few printable cap cls n in
+      let b = book-accepted t k _ _ _ _ _ (a .market) g few printable cap cls n in
       let x : Order = newOrderOf t message o in
-      let high : k ≤ length (bookOf t) + 1 = omega (arith, length-book t) in
-      let h : at (after (bookOf t) (Accepted k x)) k ≡ x = after-here (bookOf t) (Accepted k x) (omega arith) (omega arith) in
-      let s : Same (accepted t k (textOf message (o .id)) (textOf message (o .account)) (o .terms .capacity) (o .terms .class) x) t 0 (128 * k) =
-      accepted-before t k _ _ _ _ x (g .short) few (omega (arith, a .market .long, n .free, length-book t)) in
-      put-working t _ k (textOf message (o .time)) x (idle-decided t (a .market) (a .idle)) (same-in 0 128 s (lit≤ tt) (omega arith)) long
+      let low = takes-low (bookOf t) k (n .number) in
+      let high = takes-high (bookOf t) k (n .number) in
+      let h : at (after (bookOf t) (Accepted k x)) k ≡ x = after-here (bookOf t) (Accepted k x) low high in
+      put-working t _ k (textOf message (o .time)) x (idle-decided t (a .market) (a .idle)) (new-heading t k _ _ _ _ _ (a .market) g few printable cap cls n) long
       (time-short (textOf message (o .time)) (new-time t message o a)) (rw b h) (omega (arith, n .sound .qty-low))
 
   replace-put : (o : Replacement) (s : Standing) → replaceStands t message o ≡ s → Asking t message (Replaces o) → Put (replacing t message o s .table)

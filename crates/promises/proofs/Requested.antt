@@ -1,32 +1,31 @@
--- The book after a request that is taken, before the next number and what is in work change, is the book after its event.
+-- The book after a request that is taken, before the next number and what is in work change, is the book after its event; a new order has
+-- the next number as its OrderID, and no other OrderID changes.
 use mathlib.Core.Path.{_≡_, refl, ap, _∙_}
 use mathlib.Core.Bool.{true}
 use mathlib.Core.List.{List}
-use Prim.Native.Nat.{ℕ, suc, _+_, _≤_, _<_}
+use mathlib.Core.Logic.{_≢_}
+use Prim.Native.Nat.{ℕ, _+_, _≤_}
 use native.Mathlib.Omega.{arith}
-use lib.Dec.{eqb, lit≤}
+use lib.Dec.{lit≤}
 use lib.ListN.{length}
-use borrow.Author.Tests.{eqb-true}
-use Rattle.octets.proofs.Bools.{split, or-r}
 use Rattle.octets.proofs.Places.{length-put}
 use Rattle.matching.specs.declared.Order.{Order}
 use Rattle.matching.specs.declared.Event.the-variants.{Accepted, Replaced, Withdrawn}
-use Rattle.matching.specs.Matching.{Book, at, put as putOrder, openOf, change, after}
+use Rattle.matching.specs.Matching.{Book, at, openOf, change, after}
 use Rattle.matching.specs.Held.{In, Ready, Enters, Renews}
-use Rattle.matching.proofs.Sounds.{minimum-most}
-use Rattle.table.specs.Places.{tableBytes}
+use Rattle.table.specs.Places.{tableBytes, recordAt}
 use Rattle.table.specs.Heading.{nextOf, isListed, putWork}
-use Rattle.table.specs.Orders.{orderAt, filled, bookOf, putId, putTerms, applied, withdrawn, replaced, accepted}
+use Rattle.table.specs.Orders.{orderIdAt, orderAt, filled, bookOf, putId, putTerms, applied, withdrawn, replaced, accepted}
 use Rattle.table.specs.Market.{every, isPrintable, isCapacity, isClass}
 use Rattle.table.specs.Facts.{Market, Named}
 use Rattle.table.specs.Changes.{numbered}
-use Rattle.table.proofs.Stores.{Terms, Sized}
+use Rattle.table.proofs.Stores.{Terms, accepted-order-id}
 use Rattle.table.proofs.Books.{length-book, at-book}
 use Rattle.table.proofs.Frames.{Formed, market-formed, framed-long}
-use Rattle.table.proofs.Applied.{sound-amounts, book-applied, framed-applied, book-terms, framed-terms, book-next, book-work}
+use Rattle.table.proofs.Applied.{book-applied, framed-applied, book-terms, framed-terms, book-next, book-work}
 use Rattle.table.proofs.Naming.{named-formed, named-book, named-order, named-filled}
-use Rattle.table.proofs.Entering.{entered-formed, entered-book}
-use Rattle.table.proofs.Kept.{listed-small, renewed-terms}
+use Rattle.table.proofs.Kept.{renewed-terms, new-formed, new-book}
+use Rattle.table.proofs.OrderIds.{numbered-order-id, worked-order-id, accepted-others}
 
 -- ---- the heading changes, the book does not
 pub long-numbered : (t : List ℕ) (n : ℕ) → length t ≡ tableBytes → length (numbered t n) ≡ tableBytes
@@ -41,36 +40,28 @@ pub book-working : (t : List ℕ) (n w : ℕ) (stamp : List ℕ) → length t �
     → bookOf (putWork (numbered t n) w stamp) ≡ bookOf t
 book-working t n w stamp h short = book-work (numbered t n) w stamp (long-numbered t n h) short ∙ book-numbered t n h
 
--- ---- a new order
-enters-sized : (t : List ℕ) (n : ℕ) (o : Order) → Market t → Enters (isListed t) (nextOf t) (bookOf t) n o → Sized o
-enters-sized t n o m a =
-    let s = a .sound in
-    record {
-      terms = record { level = omega (arith, s .level-high); qty = omega (arith, s .qty-high); place = omega (arith, a .newest, a .numbered) };
-      amounts = sound-amounts o s;
-      mpid =
-          split (eqb (o .mpid) 0)
-          (λ z. omega (arith, eqb-true (o .mpid) 0 z))
-          (λ z. omega (arith, listed-small t (o .mpid) (m .settings) (or-r (eqb (o .mpid) 0) (isListed t (o .mpid)) (a .owned) z)));
-      minqty = omega (arith, minimum-most o s, s .qty-high);
-    }
+-- nor does any OrderID
+pub ids-working : (t : List ℕ) (n w : ℕ) (stamp : List ℕ) → length stamp ≤ 21 → (i : ℕ) → orderIdAt (putWork (numbered t n) w stamp) i ≡ orderIdAt t i
+ids-working t n w stamp short i = worked-order-id (numbered t n) i w stamp short ∙ numbered-order-id t i n
 
-module _ (t clOrdId account : List ℕ) (capacity class : ℕ) (o : Order) (m : Market t) (g : Named t clOrdId) (few : length account ≤ 10)
+-- ---- a new order, with the next number as its OrderID
+module _ (t : List ℕ) (k : ℕ) (clOrdId account : List ℕ) (capacity class : ℕ) (o : Order) (m : Market t) (g : Named t clOrdId) (few : length account ≤ 10)
     (printable : every isPrintable account ≡ true) (cap : isCapacity capacity ≡ true) (cls : isClass class ≡ true)
-    (a : Enters (isListed t) (nextOf t) (bookOf t) (filled t + 1) o) where
-  free : filled t < 255
-  free = omega (arith, a .free, length-book t)
+    (a : Enters (isListed t) (nextOf t) (bookOf t) k o) where
+  pub long-accepted : length (accepted t k (nextOf t) clOrdId account capacity class o) ≡ tableBytes
+  long-accepted = new-formed t k clOrdId account capacity class o m g few printable cap cls a .long
 
-  pub long-accepted : length (accepted t (filled t + 1) clOrdId account capacity class o) ≡ tableBytes
-  long-accepted = entered-formed t clOrdId account capacity class o (market-formed t m) free g few printable cap cls .long
+  pub book-accepted : bookOf (accepted t k (nextOf t) clOrdId account capacity class o) ≡ after (bookOf t) (Accepted k o)
+  book-accepted = new-book t k clOrdId account capacity class o m g few printable cap cls a
 
-  pub book-accepted : bookOf (accepted t (filled t + 1) clOrdId account capacity class o) ≡ after (bookOf t) (Accepted (filled t + 1) o)
-  unfolding after change
-  book-accepted =
-      let size = length-book t in
-      let q : suc (length (bookOf t)) ≡ filled t + 1 = omega arith in
-      entered-book t clOrdId account capacity class o (market-formed t m) free g few printable cap cls (enters-sized t (filled t + 1) o m a)
-      ∙ ap (λ (j : ℕ). putOrder (bookOf t) j o) q
+  room : recordAt k + 128 ≤ length t
+  room = omega (arith, m .long, a .free)
+
+  pub id-accepted : orderIdAt (accepted t k (nextOf t) clOrdId account capacity class o) k ≡ nextOf t
+  id-accepted = accepted-order-id t k (nextOf t) clOrdId account capacity class o (g .short) few room (omega (arith, a .numbered))
+
+  pub ids-others : (i : ℕ) → i ≢ k → orderIdAt (accepted t k (nextOf t) clOrdId account capacity class o) i ≡ orderIdAt t i
+  ids-others = accepted-others t k (nextOf t) clOrdId account capacity class o (g .short) few room
 
 -- ---- a change of order k
 module _ (t : List ℕ) (k : ℕ) (clOrdId : List ℕ) (m : Market t) (i : In (bookOf t) k) (g : Named t clOrdId) where

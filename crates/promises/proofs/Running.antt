@@ -3,27 +3,31 @@ use mathlib.Core.Path.{_≡_, refl, sym, ap, _∙_}
 use mathlib.Core.Bool.{true}
 use mathlib.Core.List.{List}
 use Prim.Native.Nat.{ℕ, zero, suc, _-_, _≤_}
+use native.Mathlib.Omega.{arith}
 use lib.Dec.{ltb}
 use lib.ListN.{length}
 use Rattle.octets.proofs.Bools.{split}
 use Rattle.matching.specs.Matching.{Book, at, play}
+use Rattle.matching.proofs.Events.{length-play}
 use Rattle.matching.proofs.Steps.{Stepped, step-is}
 use Rattle.matching.proofs.Fair.{step-fair, fair-balanced}
 use Rattle.table.specs.Heading.{nextOf, workOf, modeOf}
-use Rattle.table.specs.Orders.{bookOf}
+use Rattle.table.specs.Orders.{orderIdAt, bookOf}
 use Rattle.table.specs.Market.{isMarket}
 use Rattle.table.specs.Facts.{Market}
 use Rattle.table.specs.Changes.{missesNow, stepEvents, stepWork, stepped}
 use Rattle.table.proofs.Facts.{market-facts}
 use Rattle.table.proofs.Kept.{stepped-kept}
 use Rattle.table.proofs.Applied.{fits-move}
+use Rattle.table.proofs.OrderIds.{stepped-order-id}
 use Rattle.calls.specs.Told.{joined, roomAsked}
 use Rattle.calls.specs.Run.{stepReports, stops, worked, ran}
-use Rattle.turns.proofs.Stepping.{in-work, events-ready, events-fit, step-book}
+use Rattle.turns.proofs.Stepping.{in-work, events-ready, events-fit, step-book, step-next}
 use Rattle.turns.proofs.Taking.{goes-busy}
 use Rattle.promises.proofs.Tells.{accountIn}
 use Rattle.promises.proofs.Exacts.{step-exact}
-use Rattle.promises.proofs.Leads.{Leads, leads-then, leads-still}
+use Rattle.promises.proofs.OrderIds.{ids-apart}
+use Rattle.promises.proofs.Leads.{Leads, Kept, kept-accounts, leads-then, leads-still}
 use Rattle.promises.proofs.Playing.{TellsAll, Follows, all-follow}
 
 -- the reports of a step tell its events
@@ -35,20 +39,31 @@ module _ (t : List ℕ) (m : Market t) (l : 1 ≤ workOf t) (tells : StepTells t
   unfolding stepEvents stepWork
   shape = step-is (modeOf t) (missesNow t) (bookOf t) (workOf t)
 
-  follows : Follows (bookOf t) t (nextOf t) (stepEvents t)
+  follows : Follows (bookOf t) (orderIdAt t) (ids-apart t m) t (nextOf t) (stepEvents t)
   follows =
-      all-follow (bookOf t) (stepEvents t) t (nextOf t) (m .long) (fits-move (stepEvents t) (bookOf t) (events-fit t m l)) (events-ready t m l)
-      (step-exact (bookOf t) (workOf t) _ (in-work t m l) shape) tells (λ k. refl)
+      all-follow (bookOf t) (orderIdAt t) (ids-apart t m) (stepEvents t) t (nextOf t) (m .long) (fits-move (stepEvents t) (bookOf t) (events-fit t m l))
+      (events-ready t m l) (step-exact (bookOf t) (workOf t) _ (in-work t m l) shape) tells (λ k. refl) refl (λ i. refl)
 
   after : bookOf (stepped t) ≡ play (bookOf t) (stepEvents t)
   unfolding stepEvents
   after = step-book t m l
 
+  kept : Kept t (stepped t) (stepReports t)
+  unfolding stepReports
+  kept =
+      record {
+        size = ap length after ∙ length-play (stepEvents t) (bookOf t) (events-fit t m l);
+        ids = stepped-order-id t;
+        next = omega (arith, step-next t m l);
+        follows = λ i h. follows .accounts i h ∙ ap (λ (b : Book). accountIn (at b i)) (sym after);
+        others = follows .others;
+      }
+
   pub step-leads : Leads t (stepped t) (stepReports t)
   unfolding stepReports
   step-leads =
       record {
-        accounts = λ k. follows .accounts k ∙ ap (λ (b : Book). accountIn (at b k)) (sym after);
+        accounts = kept-accounts t (stepped t) (stepReports t) m kept;
         balanced = follows .bought ∙ fair-balanced (bookOf t) (step-fair (bookOf t) (workOf t) _ shape) ∙ sym (follows .sold);
         fair = follows .fair;
         read = follows .read;
@@ -58,10 +73,10 @@ module _ (t : List ℕ) (m : Market t) (l : 1 ≤ workOf t) (tells : StepTells t
 module _ (tell : (t : List ℕ) → Market t → 1 ≤ workOf t → StepTells t) where
   pub worked-leads : (n : ℕ) (t : List ℕ) (room : ℕ) → Market t → Leads t (worked n t room .table) (worked n t room .reports)
   unfolding worked
-  worked-leads zero t room m = leads-still t t refl
+  worked-leads zero t room m = leads-still t
   worked-leads (suc n) t room m =
       split (stops t room)
-      (λ e. rw e (leads-still t t refl))
+      (λ e. rw e (leads-still t))
       (λ e.
       let l = goes-busy t room e in
       rw e
@@ -72,5 +87,5 @@ module _ (tell : (t : List ℕ) → Market t → 1 ≤ workOf t → StepTells t)
   unfolding ran
   ran-leads t room budget m =
       split (ltb room roomAsked)
-      (λ e. rw e (leads-still t t refl))
+      (λ e. rw e (leads-still t))
       (λ e. rw (e, m) (worked-leads budget t room (market-facts t m)))

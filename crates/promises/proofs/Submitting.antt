@@ -1,14 +1,10 @@
 -- The report of a Submit leads from the table before it to the table after it, whatever the message, if the reports of what is taken
 -- tell their events and those of what is rejected are of their kinds.
-use mathlib.Core.Path.{_≡_, refl, sym, ap, _∙_}
-use mathlib.Core.Bool.{Bool, true, false}
+use mathlib.Core.Path.{_≡_, refl, sym, ap}
+use mathlib.Core.Bool.{true}
 use mathlib.Core.List.{List, [], _∷_}
-use Prim.Native.Nat.{ℕ, suc, _+_, _≤_}
+use Prim.Native.Nat.{ℕ, _≤_}
 use native.Mathlib.Omega.{arith}
-use lib.Dec.{eqb}
-use lib.ListN.{length}
-use borrow.Author.Tests.{eqb-true, eqb-false}
-use Rattle.octets.proofs.Bools.{split, not-both}
 use Rattle.request.specs.declared.Refusal.{Refusal}
 use Rattle.request.specs.declared.NewOrder.{NewOrder}
 use Rattle.request.specs.declared.Replacement.{Replacement}
@@ -17,16 +13,13 @@ use Rattle.request.specs.declared.Asked.{Asked}
 use Rattle.request.specs.declared.Asked.the-variants.{Garbled, Refused, Enters, Replaces, Cancels}
 use Rattle.decimal.proofs.Times.{time-short}
 use Rattle.matching.specs.declared.Order.{Order}
-use Rattle.matching.specs.declared.Event.{Event}
-use Rattle.matching.specs.declared.Event.the-variants.{Accepted, Replaced, Withdrawn, Canceled, Decremented, Traded, Killed, Expired}
-use Rattle.matching.specs.Matching.{Book, at, openOf, who, change, after}
-use Rattle.matching.proofs.Books.{length-put, length-put-new}
+use Rattle.matching.specs.declared.Event.the-variants.{Accepted, Replaced, Withdrawn}
+use Rattle.matching.specs.Matching.{at, openOf}
 use Rattle.table.specs.Heading.{nextOf}
-use Rattle.table.specs.Orders.{orderAt, filled, bookOf, accepted, replaced, withdrawn}
+use Rattle.table.specs.Orders.{orderAt, bookOf, recordFor, accepted, replaced, withdrawn}
 use Rattle.table.specs.Facts.{Market}
 use Rattle.table.specs.Changes.{numbered, entered, renewed, taken}
-use Rattle.table.proofs.Books.{length-book}
-use Rattle.report.specs.declared.Reading.{Reading}
+use Rattle.table.proofs.OrderIds.{numbered-order-id, withdrawn-order-id, replaced-order-id}
 use Rattle.report.specs.Reports.{readOf}
 use Rattle.ticket.specs.Tickets.{ticketOf}
 use Rattle.calls.specs.declared.Standing.{Standing}
@@ -36,65 +29,11 @@ use Rattle.calls.specs.Submit.{Submitted, causeOf, sentAt, noText, rejecting, f
 use Rattle.intake.specs.Intake.{Asking}
 use Rattle.intake.proofs.Standing.{new-named, new-account, new-account-short, new-capacity, new-class, new-enters, new-time, cancel-in, cancel-at, cancel-named, replace-in, replace-named, replace-renews, replace-time}
 use Rattle.intake.proofs.Keeping.{Comes, no-room, no-market, in-work, spent, heard, comes}
-use Rattle.promises.specs.Tallies.{accountFrom, tradedFor, traded, isSelfTrade, selfTrades, unread}
-use Rattle.promises.proofs.Tells.{Exact, Tells, tells-read, accountIn}
+use Rattle.intake.proofs.Counting.{Counted, handled-counted}
 use Rattle.promises.proofs.Leads.{Leads, leads-still, isSilent, leads-silent}
-use Rattle.promises.proofs.Playing.{TellsOn, account-then, traded-one, nought}
-use Rattle.promises.proofs.Requested.{book-numbered, book-working, long-accepted, book-accepted, long-withdrawn, book-withdrawn, long-replaced, book-replaced}
-
--- ---- one report of an event that a message asks for
-
-abbrev pub isAsked : Event → Bool
-isAsked (Accepted n o) = true
-isAsked (Replaced n l q p) = true
-isAsked (Withdrawn n q) = true
-isAsked (Canceled n q) = false
-isAsked (Decremented n q) = false
-isAsked (Traded n m q l) = false
-isAsked (Killed n q) = false
-isAsked (Expired n q) = false
-
-asked-traded : (e : Event) (r : Reading) (o : Order) (m s : ℕ) → isAsked e ≡ true → Tells r e o m → tradedFor s r ≡ 0
-asked-traded (Accepted n x) r o m s a t = traded-one r _ o m s t ∙ nought (eqb (o .side) s)
-asked-traded (Replaced n l q p) r o m s a t = traded-one r _ o m s t ∙ nought (eqb (o .side) s)
-asked-traded (Withdrawn n q) r o m s a t = traded-one r _ o m s t ∙ nought (eqb (o .side) s)
-asked-traded (Canceled n q) r o m s a t = absurd (not-both a refl)
-asked-traded (Decremented n q) r o m s a t = absurd (not-both a refl)
-asked-traded (Traded n k q l) r o m s a t = absurd (not-both a refl)
-asked-traded (Killed n q) r o m s a t = absurd (not-both a refl)
-asked-traded (Expired n q) r o m s a t = absurd (not-both a refl)
-
-asked-fair : (e : Event) (r : Reading) (o : Order) (m : ℕ) → isAsked e ≡ true → Tells r e o m → isSelfTrade r ≡ false
-unfolding isSelfTrade
-asked-fair (Accepted n x) r o m a t = rw (t .kind)
-asked-fair (Replaced n l q p) r o m a t = rw (t .kind)
-asked-fair (Withdrawn n q) r o m a t = rw (t .kind)
-asked-fair (Canceled n q) r o m a t = absurd (not-both a refl)
-asked-fair (Decremented n q) r o m a t = absurd (not-both a refl)
-asked-fair (Traded n k q l) r o m a t = absurd (not-both a refl)
-asked-fair (Killed n q) r o m a t = absurd (not-both a refl)
-asked-fair (Expired n q) r o m a t = absurd (not-both a refl)
-
--- the event's order is in the book after it
-pub after-size : (b : Book) (e : Event) → 1 ≤ who e → who e ≤ length b + 1 → who e ≤ length (after b e)
-unfolding after
-after-size b e low high =
-    split (eqb (who e) (suc (length b)))
-    (λ z. let q = eqb-true (who e) (suc (length b)) z in rw q (omega (arith, length-put-new b (change e (at b (suc (length b)))))))
-    (λ z. omega (arith, eqb-false (who e) (suc (length b)) z, length-put b (who e) (change e (at b (who e))) (omega (arith, eqb-false (who e) (suc (length b)) z))))
-
--- u is the table after the event, v the one that is left
-pub asked-leads : (t u v : List ℕ) (e : Event) (r : List ℕ) → isAsked e ≡ true → 1 ≤ who e → who e ≤ length (bookOf t) + 1
-    → Exact (bookOf t) e → bookOf u ≡ after (bookOf t) e → bookOf v ≡ bookOf u → TellsOn u e r → Leads t v (r ∷ [])
-unfolding accountFrom traded selfTrades unread
-asked-leads t u v e r a low short x same left tells =
-    let high : who e ≤ length (bookOf u) = rw same (after-size (bookOf t) e low short) in
-    record {
-      accounts = λ k. account-then t u e low high short x same r tells k ∙ ap (λ (b : Book). accountIn (at b k)) (sym left);
-      balanced = ap (λ (n : ℕ). n + 0) (asked-traded e (readOf r) _ _ 1 a tells ∙ sym (asked-traded e (readOf r) _ _ 2 a tells));
-      fair = rw (asked-fair e (readOf r) _ _ a tells);
-      read = rw (tells-read (readOf r) e _ _ tells);
-    }
+use Rattle.promises.proofs.Playing.{TellsOn}
+use Rattle.promises.proofs.Requested.{book-numbered, book-working, ids-working, long-accepted, book-accepted, id-accepted, ids-others, long-withdrawn, book-withdrawn, long-replaced, book-replaced}
+use Rattle.promises.proofs.Asked.{changed-leads, new-order-leads}
 
 -- ---- what is asked of the reports of Submit
 
@@ -107,8 +46,8 @@ module _ (t message : List ℕ) where
   -- of what is taken: they tell their events on the table after them
   abbrev pub NewTells : NewOrder → Type 0
   NewTells o =
-      let k = filled t + 1 in
-      let u = accepted t k (textOf message (o .id)) (textOf message (o .account)) (o .terms .capacity) (o .terms .class) (newOrderOf t message o) in
+      let k = recordFor t in
+      let u = accepted t k (nextOf t) (textOf message (o .id)) (textOf message (o .account)) (o .terms .capacity) (o .terms .class) (newOrderOf t message o) in
       let e = Accepted k (newOrderOf t message o) in
       TellsOn u e (ticketOf u message (nextOf t) (causeOf (o .time) noText) e)
 
@@ -143,70 +82,78 @@ pub record Told : Type 0 where
 abbrev pub LeadsTo : List ℕ → Submitted → Type 0
 LeadsTo t s = Leads t (s .table) (s .reports)
 
--- ---- each request
+-- ---- each request: counted says that the next number has grown
 module _ (told : Told) (t message : List ℕ) where
-  rejected-leads : (r : List ℕ) → Market t → isSilent (readOf r .kind) ≡ true → Leads t (numbered t 1) (r ∷ [])
-  rejected-leads r m h = leads-silent t (numbered t 1) r (book-numbered t 1 (m .long)) h
+  rejected-leads : (r : List ℕ) → Market t → nextOf t ≤ nextOf (numbered t 1) → isSilent (readOf r .kind) ≡ true → Leads t (numbered t 1) (r ∷ [])
+  rejected-leads r m l h = leads-silent t (numbered t 1) r m (book-numbered t 1 (m .long)) (λ i. numbered-order-id t i 1) l h
 
-  fault-leads : (r : Refusal) → Asking t message (Refused r) → LeadsTo t (faulted t message r)
+  fault-leads : (r : Refusal) → Asking t message (Refused r) → Counted t (faulted t message r) → LeadsTo t (faulted t message r)
   unfolding faulted rejecting
-  fault-leads r a = rejected-leads _ (a .market) (told .fault t message r a)
+  fault-leads r a c = rejected-leads _ (a .market) (omega (arith, c .next-is)) (told .fault t message r a)
 
-  new-leads : (o : NewOrder) (s : Standing) → newStands t message o ≡ s → Asking t message (Enters o) → LeadsTo t (entering t message o s)
+  new-leads : (o : NewOrder) (s : Standing) → newStands t message o ≡ s → Asking t message (Enters o) → Counted t (entering t message o s)
+      → LeadsTo t (entering t message o s)
   unfolding newTaken newRejected rejecting entered
-  new-leads o (Fails n) e a = rejected-leads _ (a .market) (told .new-fails t message o n a e)
-  new-leads o Stands e a =
+  new-leads o (Fails n) e a c = rejected-leads _ (a .market) (omega (arith, c .next-is)) (told .new-fails t message o n a e)
+  new-leads o Stands e a c =
       let few = new-account-short t message o a in
       let printable = new-account t message o a in
       let cap = new-capacity t message o a in
       let cls = new-class t message o a in
       let g = new-named t message o a e in
       let n = new-enters t message o a e in
-      let long = long-accepted t _ _ _ _ _ (a .market) g few printable cap cls n in
-      asked-leads t _ _ _ _ refl (omega arith) (omega (arith, length-book t))
+      let short = time-short (textOf message (o .time)) (new-time t message o a) in
+      let long = long-accepted t (recordFor t) _ _ _ _ _ (a .market) g few printable cap cls n in
+      new-order-leads t _ _ (recordFor t) (newOrderOf t message o) _ (a .market)
       (record { number = n .number; unexecuted = refl; undecremented = refl; uncanceled = refl; unsummed = refl })
-      (book-accepted t _ _ _ _ _ (a .market) g few printable cap cls n)
-      (book-working _ 1 (filled t + 1) _ long (time-short (textOf message (o .time)) (new-time t message o a))) (told .new t message o a e)
+      (book-accepted t (recordFor t) _ _ _ _ _ (a .market) g few printable cap cls n)
+      (book-working _ 1 (recordFor t) _ long short)
+      (id-accepted t (recordFor t) _ _ _ _ _ (a .market) g few printable cap cls n)
+      (ids-others t (recordFor t) _ _ _ _ _ (a .market) g few printable cap cls n)
+      (ids-working _ 1 (recordFor t) _ short) (c .next-is) (told .new t message o a e)
 
-  replace-leads : (o : Replacement) (s : Standing) → replaceStands t message o ≡ s → Asking t message (Replaces o) → LeadsTo t (replacing t message o s)
+  replace-leads : (o : Replacement) (s : Standing) → replaceStands t message o ≡ s → Asking t message (Replaces o) → Counted t (replacing t message o s)
+      → LeadsTo t (replacing t message o s)
   unfolding replacementTaken changeRejected rejecting renewed
-  replace-leads o (Fails n) e a = rejected-leads _ (a .market) (told .replace-fails t message o n a e)
-  replace-leads o Stands e a =
+  replace-leads o (Fails n) e a c = rejected-leads _ (a .market) (omega (arith, c .next-is)) (told .replace-fails t message o n a e)
+  replace-leads o Stands e a c =
       let k : ℕ = holder t (textOf message (o .original)) in
       let i = replace-in t message o a k refl e in
       let g = replace-named t message o a k refl e in
       let n = replace-renews t message o a k refl e in
-      asked-leads t _ _ _ _ refl (i .low) (omega (arith, i .high)) tt
+      let short = time-short (textOf message (o .time)) (replace-time t message o a k refl e) in
+      changed-leads t _ _ (Replaced k (o .level) (o .quantity) (nextOf t)) _ (a .market) i tt refl
       (book-replaced t k _ (a .market) i g _ _ _ n)
-      (book-working _ 1 k _ (long-replaced t k _ (a .market) i g _ _ _ n) (time-short (textOf message (o .time)) (replace-time t message o a k refl e)))
-      (told .replace t message o a e)
+      (book-working _ 1 k _ (long-replaced t k _ (a .market) i g _ _ _ n) short)
+      (λ i. replaced-order-id t i _ _ (g .short)) (ids-working _ 1 k _ short) (omega (arith, c .next-is)) (told .replace t message o a e) refl
 
-  cancel-leads : (o : Cancellation) (s : Standing) → cancelStands t message o ≡ s → Asking t message (Cancels o) → LeadsTo t (canceling t message o s)
+  cancel-leads : (o : Cancellation) (s : Standing) → cancelStands t message o ≡ s → Asking t message (Cancels o) → Counted t (canceling t message o s)
+      → LeadsTo t (canceling t message o s)
   unfolding cancelTaken changeRejected rejecting taken
-  cancel-leads o (Fails n) e a = rejected-leads _ (a .market) (told .cancel-fails t message o n a e)
-  cancel-leads o Stands e a =
+  cancel-leads o (Fails n) e a c = rejected-leads _ (a .market) (omega (arith, c .next-is)) (told .cancel-fails t message o n a e)
+  cancel-leads o Stands e a c =
       let k : ℕ = holder t (textOf message (o .original)) in
       let i = cancel-in t message o a k refl e in
       let g = cancel-named t message o a k refl e in
       let z : openOf (orderAt t k) ≡ openOf (at (bookOf t) k) = ap (λ (x : Order). openOf x) (sym (cancel-at t message o a k refl e)) in
-      asked-leads t _ _ _ _ refl (i .low) (omega (arith, i .high)) z
+      changed-leads t _ _ (Withdrawn k (openOf (orderAt t k))) _ (a .market) i z refl
       (book-withdrawn t k _ (a .market) i g _ z)
       (book-numbered _ 1 (long-withdrawn t k _ (a .market) i g _ z))
-      (told .cancel t message o a e)
+      (λ i. withdrawn-order-id t i _ _ (g .short)) (λ i. numbered-order-id _ i 1) (omega (arith, c .next-is)) (told .cancel t message o a e) refl
 
-  handled-leads : (x : Asked) → Asking t message x → LeadsTo t (handled t message x)
-  handled-leads Garbled a = leads-still t t refl
-  handled-leads (Refused r) a = fault-leads r a
-  handled-leads (Enters o) a = new-leads o (newStands t message o) refl a
-  handled-leads (Replaces o) a = replace-leads o (replaceStands t message o) refl a
-  handled-leads (Cancels o) a = cancel-leads o (cancelStands t message o) refl a
+  handled-leads : (x : Asked) → Asking t message x → Counted t (handled t message x) → LeadsTo t (handled t message x)
+  handled-leads Garbled a c = leads-still t
+  handled-leads (Refused r) a c = fault-leads r a c
+  handled-leads (Enters o) a c = new-leads o (newStands t message o) refl a c
+  handled-leads (Replaces o) a c = replace-leads o (replaceStands t message o) refl a c
+  handled-leads (Cancels o) a c = cancel-leads o (cancelStands t message o) refl a c
 
   pub submitted-leads : (room : ℕ) → LeadsTo t (submitted t message room)
   submitted-leads room = by (comes t message room)
     where
       by : Comes t message room → LeadsTo t (submitted t message room)
-      by (no-room a e) = rw e (leads-still t t refl)
-      by (no-market a n e) = rw e (leads-still t t refl)
-      by (in-work a n w e) = rw e (leads-still t t refl)
-      by (spent a n w h e) = rw e (leads-still t t refl)
-      by (heard a n q e) = rw e (handled-leads _ q)
+      by (no-room a e) = rw e (leads-still t)
+      by (no-market a n e) = rw e (leads-still t)
+      by (in-work a n w e) = rw e (leads-still t)
+      by (spent a n w h e) = rw e (leads-still t)
+      by (heard a n q e) = rw e (handled-leads _ q (handled-counted t message _ q))

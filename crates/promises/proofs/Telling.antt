@@ -4,7 +4,7 @@ use mathlib.Core.Bool.{Bool, true, not, _&&_, _||_}
 use mathlib.Core.List.{List, [], _∷_}
 use Prim.Native.Nat.{ℕ, _+_, _≤_}
 use native.Mathlib.Omega.{arith}
-use lib.Dec.{eqb, ltb, leb}
+use lib.Dec.{eqb, ltb}
 use Rattle.octets.proofs.Bools.{split}
 use Rattle.decimal.specs.Reading.{isDigit, isTime}
 use Rattle.fix.specs.declared.frame.Part.{Part}
@@ -24,11 +24,10 @@ use Rattle.matching.specs.declared.Event.the-variants.{Accepted, Replaced, With
 use Rattle.matching.specs.Matching.{openOf}
 use Rattle.matching.specs.Accounts.{trades}
 use Rattle.table.specs.Heading.{nextOf, workOf, isListed}
-use Rattle.table.specs.Orders.{orderAt, filled, applied}
+use Rattle.table.specs.Orders.{orderAt, recordFor, applied}
 use Rattle.table.specs.Market.{isPrintable}
 use Rattle.table.specs.Facts.{Market}
 use Rattle.table.specs.Changes.{stepEvents}
-use Rattle.table.proofs.Same.{filled-few}
 use Rattle.table.proofs.Frames.{market-formed}
 use Rattle.report.specs.declared.Reading.{Reading}
 use Rattle.ticket.specs.declared.Cause.{Cause}
@@ -36,7 +35,7 @@ use Rattle.ticket.specs.Tickets.{ticketOf, keptCause}
 use Rattle.ticket.specs.Legible.{textBy, isAmong, Placed, Headed, Legible}
 use Rattle.ticket.proofs.Formed.{formed-headed}
 use Rattle.ticket.proofs.Running.{Legibles, step-legibles}
-use Rattle.ticket.proofs.Taking.{sent-text, sent-placed, new-legible, replaced-legible, withdrawn-legible, unchanged-legible}
+use Rattle.ticket.proofs.Taking.{sent-text, sent-placed, new-legible, replaced-legible, withdrawn-legible, market-holder, unchanged-legible}
 use Rattle.readback.specs.Told.{quantityTold}
 use Rattle.readback.proofs.Events.{event-says, refused-is-read, unchanged-is-read, faulty-is-read}
 use Rattle.calls.specs.declared.Standing.{Standing}
@@ -108,7 +107,7 @@ module _ (t message : List ℕ) where
   new-tells : (o : NewOrder) → Asking t message (Enters o) → newStands t message o ≡ Stands → NewTells t message o
   new-tells o a e =
       legible-tells _ message (nextOf t) (causeOf (o .time) noText) _
-      (new-legible t message _ _ _ _ _ (causeOf (o .time) noText) (a .market) (a .idle) (new-named t message o a e) (new-account-short t message o a)
+      (new-legible t message (recordFor t) _ _ _ _ _ (causeOf (o .time) noText) (a .market) (a .idle) (new-named t message o a e) (new-account-short t message o a)
       (new-account t message o a) (new-capacity t message o a) (new-class t message o a) (new-enters t message o a e)
       (sent-time message _ (o .time) (enters-spelt _ _ message o (a .asks) .time)))
 
@@ -154,7 +153,7 @@ new-reason t message o n e =
     split (not (isCode t (textOf message (o .code)))) (λ x. rw (← fails-is 1 n (rw x at e))) (λ x.
     split (ltb 0 (o .terms .mpid) && not (isListed t (o .terms .mpid))) (λ y. rw (← fails-is 99 n (rw (x, y) at e))) (λ y.
     split (inTable t (textOf message (o .id))) (λ z. rw (← fails-is 6 n (rw (x, y, z) at e))) (λ z.
-    split (leb 255 (filled t)) (λ w. rw (← fails-is 0 n (rw (x, y, z, w) at e)))
+    split (eqb (recordFor t) 0) (λ w. rw (← fails-is 0 n (rw (x, y, z, w) at e)))
     (λ w. absurd (not-fails n (rw (x, y, z, w) at e))))))
 
 -- why a change is: 102
@@ -232,7 +231,7 @@ module _ (t message : List ℕ) where
       ap silent
       (unchanged-is-read t message (nextOf t) (sentAt time) _
       (unchanged-legible t message (nextOf t) (sentAt time) k (sentAt id) (sentAt original) n response (headed t message time a s)
-      (omega (arith, holder-few t (textOf message original), filled-few t)) (placed-text message t id 32 b) (placed-text message t original 32 c) d r))
+      (market-holder t k (a .market) (holder-few t (textOf message original))) (placed-text message t id 32 b) (placed-text message t original 32 c) d r))
 
   replace-silent : (o : Replacement) (n : ℕ) → Asking t message (Replaces o) → replaceStands t message o ≡ Fails n
       → Silent (changeRejected t message (o .time) (o .id) (o .original) (holder t (textOf message (o .original))) n 2 .reports)

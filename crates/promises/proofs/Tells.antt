@@ -1,31 +1,31 @@
 -- What the report of an event says of its order, and what that makes of the order's account: exactly what the event makes of the
--- order's own amounts.
+-- order's own amounts. The account of an accepted order begins with its report.
 use mathlib.Core.Path.{_≡_, refl, sym, ap, _∙_}
-use mathlib.Core.Bool.{false}
+use mathlib.Core.Bool.{true, false}
 use mathlib.Core.Logic.{_≢_}
 use Prim.Native.Nat.{ℕ, _+_, _-_, _≤_}
 use native.Mathlib.Omega.{arith}
 use borrow.Author.Tests.{eq-eqb, ne-eqb}
+use Rattle.octets.proofs.Bools.{not-both}
 use Rattle.matching.specs.declared.Order.{Order}
 use Rattle.matching.specs.declared.Event.{Event}
 use Rattle.matching.specs.declared.Event.the-variants as event
-use Rattle.matching.specs.Matching.{Book, none, at, openOf, who, change}
+use Rattle.matching.specs.Matching.{Book, at, openOf, who, change}
 use Rattle.matching.specs.Held.{In}
 use Rattle.matching.specs.Accounts.{trades}
-use Rattle.matching.specs.Happens.{Fresh}
-use Rattle.matching.proofs.Books.{at-new}
+use Rattle.matching.specs.Happens.{moves, Fresh}
 use Rattle.report.specs.declared.Kind.{Kind}
 use Rattle.report.specs.declared.Reading.{Reading}
 use Rattle.readback.specs.Says.{says}
 use Rattle.readback.specs.Told.{kindTold, reasonTold}
-use Rattle.promises.specs.Tallies.{Account, afterReport, noted, isRefused}
+use Rattle.promises.specs.Tallies.{Account, blank, afterReport, noted, isRefused}
 
 -- ---- what a report says
 
--- the report r of event e, after which its order is o and the other order has the MPID m
-pub record Tells (r : Reading) (e : Event) (o : Order) (m : ℕ) : Type 0 where
+-- the report r of event e, whose order has OrderID i and is o after it, and the other order has the MPID m
+pub record Tells (r : Reading) (i : ℕ) (e : Event) (o : Order) (m : ℕ) : Type 0 where
   pub kind : r .kind ≡ kindTold e
-  pub order : says 37 r ≡ who e
+  pub order : says 37 r ≡ i
   pub quantity : says 38 r ≡ o .qty
   pub left : says 151 r ≡ openOf o
   pub executed : says 32 r ≡ trades e
@@ -45,8 +45,8 @@ told-read (event.Traded n m q l) = refl
 told-read (event.Killed n q) = refl
 told-read (event.Expired n q) = refl
 
-pub tells-read : (r : Reading) (e : Event) (o : Order) (m : ℕ) → Tells r e o m → isRefused (r .kind) ≡ false
-tells-read r e o m t = ap isRefused (t .kind) ∙ told-read e
+pub tells-read : (r : Reading) (i : ℕ) (e : Event) (o : Order) (m : ℕ) → Tells r i e o m → isRefused (r .kind) ≡ false
+tells-read r i e o m t = ap isRefused (t .kind) ∙ told-read e
 
 -- ---- what an event does to an order
 
@@ -70,6 +70,27 @@ Exact b (event.Expired n q) = q ≡ openOf (at b n)
 abbrev pub accountIn : Order → Account
 accountIn o = record { accepted = o .qty; executions = o .executed; decrements = o .decremented; cancels = o .canceled; left = openOf o }
 
+-- before an event: that of an accepted order begins with it
+abbrev pub accountBefore : Book → Event → Account
+accountBefore b (event.Accepted n o) = blank
+accountBefore b (event.Replaced n l q p) = accountIn (at b n)
+accountBefore b (event.Withdrawn n q) = accountIn (at b n)
+accountBefore b (event.Canceled n q) = accountIn (at b n)
+accountBefore b (event.Decremented n q) = accountIn (at b n)
+accountBefore b (event.Traded n m q l) = accountIn (at b n)
+accountBefore b (event.Killed n q) = accountIn (at b n)
+accountBefore b (event.Expired n q) = accountIn (at b n)
+
+pub before-moves : (b : Book) (e : Event) → moves e ≡ true → accountBefore b e ≡ accountIn (at b (who e))
+before-moves b (event.Accepted n o) h = absurd (not-both h refl)
+before-moves b (event.Replaced n l q p) h = refl
+before-moves b (event.Withdrawn n q) h = refl
+before-moves b (event.Canceled n q) h = refl
+before-moves b (event.Decremented n q) h = refl
+before-moves b (event.Traded n m q l) h = refl
+before-moves b (event.Killed n q) h = refl
+before-moves b (event.Expired n q) h = refl
+
 -- two accounts with the same five numbers
 same-account : (a c : Account) → a .accepted ≡ c .accepted → a .executions ≡ c .executions → a .decrements ≡ c .decrements → a .cancels ≡ c .cancels
     → a .left ≡ c .left → a ≡ c
@@ -81,13 +102,12 @@ unfolding openOf change
 fall o n q x h e = omega arith
 
 -- after the report of an exact event
-module _ (b : Book) (r : Reading) (m : ℕ) where
-  pub account-after : (e : Event) → Exact b e → Tells r e (change e (at b (who e))) m
-      → afterReport (kindTold e) r (accountIn (at b (who e))) ≡ accountIn (change e (at b (who e)))
+module _ (b : Book) (r : Reading) (i m : ℕ) where
+  pub account-after : (e : Event) → Exact b e → Tells r i e (change e (at b (who e))) m
+      → afterReport (kindTold e) r (accountBefore b e) ≡ accountIn (change e (at b (who e)))
   unfolding change
   account-after (event.Accepted n o) x t =
-      let z : at b n ≡ none = rw (x .number) (at-new b) in
-      rw z (same-account _ _ (t .quantity) (sym (x .unexecuted)) (sym (x .undecremented)) (sym (x .uncanceled)) (t .left))
+      same-account _ _ (t .quantity) (sym (x .unexecuted)) (sym (x .undecremented)) (sym (x .uncanceled)) (t .left)
   account-after (event.Replaced n l q p) x t =
       rw (t .reason) (same-account _ _ (t .quantity) refl refl refl (t .left))
   account-after (event.Withdrawn n q) x t =
@@ -104,14 +124,13 @@ module _ (b : Book) (r : Reading) (m : ℕ) where
   account-after (event.Expired n q) x t =
       same-account _ _ refl refl refl (ap (λ (y : ℕ). at b n .canceled + y) (sym x)) (t .left)
 
-  -- the account of each order after the report of an event
-  pub noted-here : (e : Event) → Exact b e → Tells r e (change e (at b (who e))) m
-      → noted (who e) (accountIn (at b (who e))) r ≡ accountIn (change e (at b (who e)))
+  -- the account of each OrderID after the report of an event
+  pub noted-here : (e : Event) → Exact b e → Tells r i e (change e (at b (who e))) m → noted i (accountBefore b e) r ≡ accountIn (change e (at b (who e)))
   unfolding noted
   noted-here e x t =
-      rw (eq-eqb (says 37 r) (who e) (t .order))
-      (ap (λ (k : Kind). afterReport k r (accountIn (at b (who e)))) (t .kind) ∙ account-after e x t)
+      rw (eq-eqb (says 37 r) i (t .order))
+      (ap (λ (k : Kind). afterReport k r (accountBefore b e)) (t .kind) ∙ account-after e x t)
 
-  pub noted-there : (e : Event) (o : Order) → Tells r e o m → (k : ℕ) → k ≢ who e → (a : Account) → noted k a r ≡ a
+  pub noted-there : (e : Event) (o : Order) → Tells r i e o m → (n : ℕ) → n ≢ i → (a : Account) → noted n a r ≡ a
   unfolding noted
-  noted-there e o t k n a = rw (ne-eqb (says 37 r) k (λ z. n (sym z ∙ t .order)))
+  noted-there e o t n d a = rw (ne-eqb (says 37 r) n (λ z. d (sym z ∙ t .order)))

@@ -10,8 +10,8 @@ use native.Mathlib.Nat.{le-trans}
 use Rattle.matching.specs.Matching.{openOf, metBy}
 use Rattle.matching.specs.Depth.{totalOf, ordersOf}
 use Rattle.table.specs.Places.{mostOrders}
-use Rattle.table.specs.Heading.{workOf}
-use Rattle.table.specs.Orders.{orderAt, filled, bookOf}
+use Rattle.table.specs.Heading.{nextOf, workOf}
+use Rattle.table.specs.Orders.{orderIdAt, orderAt, filled, bookOf}
 use Rattle.table.specs.Market.{isMarket}
 use Rattle.table.specs.Opened.{isOpening, opened}
 use Rattle.table.proofs.Same.{filled-few}
@@ -25,8 +25,8 @@ use Rattle.intake.proofs.Theorems.{submit-keeps}
 use Rattle.promises.specs.History.{Call, tableAfter, reportsAfter, stepsAfter, noSubmit}
 use Rattle.promises.specs.Tallies.{blank, accountOf, bought, sold, selfTrades, unread}
 use Rattle.promises.specs.Minimums.{CanceledWhole, Reached}
-use Rattle.promises.specs.Whole.{openIn, ordersIn, overDepth}
-use Rattle.promises.proofs.Kept.{Told, after-market, after-told, account-adds, account-left, account-none, submit-found, run-found, depth-found, buys-above}
+use Rattle.promises.specs.Whole.{openBy, openIn, ordersIn, overDepth}
+use Rattle.promises.proofs.Kept.{Told, after-market, after-told, account-adds, account-left, account-none, open-record, open-gone, submit-found, run-found, depth-found, buys-above}
 use Rattle.promises.proofs.Depths.{totals-open, orders-open}
 use Rattle.promises.proofs.Agreeing.{ran-ends}
 use Rattle.promises.proofs.Spending.{steps-most}
@@ -55,24 +55,29 @@ module _ (before venue port code : List ℕ) (first : ℕ) (mpids modes : List �
   pub depth-finds-a-market : (side k : ℕ) → depthAnswer table side k ≢ depth-answer.NoMarket
   depth-finds-a-market = depth-found table a-market
 
-  -- ---- each order of the table, by the reports that name it in 37
+  -- ---- each order, by the reports that name its OrderID in 37: any number at all, so those of orders that are gone too
 
   told : Told table reports
   told = after-told before venue port code first mpids modes taken calls
 
   -- the quantity accepted is what was executed, decremented and canceled, and what is open in the table
-  pub adds-up : (k : ℕ) → 1 ≤ k → k ≤ filled table
-      → let a = accountOf k reports in
-      a .accepted ≡ a .executions + a .decrements + a .cancels + openOf (orderAt table k)
+  pub adds-up : (n : ℕ) → let a = accountOf n reports in a .accepted ≡ a .executions + a .decrements + a .cancels + openBy table n
   adds-up = account-adds table reports a-market told
 
   -- the 151 last reported is what is open
-  pub last-reported : (k : ℕ) → 1 ≤ k → k ≤ filled table → accountOf k reports .left ≡ openOf (orderAt table k)
-  last-reported = account-left table reports told
+  pub last-reported : (n : ℕ) → accountOf n reports .left ≡ openBy table n
+  last-reported = account-left table reports a-market told
 
-  -- of any other number the reports tell nothing
-  pub no-others : (k : ℕ) → (1 ≤ k → k ≤ filled table → ⊥) → accountOf k reports ≡ blank
-  no-others = account-none table reports told
+  -- of a number that is not given yet the reports tell nothing
+  pub no-others : (n : ℕ) → nextOf table ≤ n → accountOf n reports ≡ blank
+  no-others = account-none table reports a-market told
+
+  -- what is open by OrderID is what is open in the record that has it, and nothing if none has
+  pub open-in-record : (i : ℕ) → 1 ≤ i → i ≤ filled table → openBy table (orderIdAt table i) ≡ openOf (orderAt table i)
+  open-in-record = open-record table a-market
+
+  pub nothing-if-gone : (n : ℕ) → ((i : ℕ) → 1 ≤ i → i ≤ filled table → orderIdAt table i ≢ n) → openBy table n ≡ 0
+  nothing-if-gone = open-gone table
 
   -- ---- all reports
 

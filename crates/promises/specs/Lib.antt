@@ -1,6 +1,6 @@
 -- What the promises are about. A reader believes History: calls one after the other, the table and the reports after them; Tallies: what
--- a member tells from reports; Whole: all that is open, and what Depth's levels come to; Shown: what Run shows on a table;
--- Minimums: what becomes of an order with a minimum.
+-- a member tells from reports, by OrderID; Whole: what is open, of one OrderID and in all, and what Depth's levels come to; Shown:
+-- what Run shows on a table; Minimums: what becomes of an order with a minimum.
 pub mod History
 pub mod Tallies
 pub mod Whole

@@ -1,5 +1,5 @@
 -- What Run shows on a table (document 01, "Rehearsed books"): the events that its reports tell, what is left open of each order, and the
--- steps it takes. Assumes nothing.
+-- steps it takes. An event names its order by its record, a report by its OrderID; ids gives the OrderID of each record. Assumes nothing.
 use mathlib.Core.Path.{_≡_}
 use mathlib.Core.List.{List, [], _∷_, map}
 use Prim.Native.Nat.{ℕ, _*_, _≤_}
@@ -7,7 +7,7 @@ use Rattle.decimal.specs.Writing.{fixed, meanOf}
 use Rattle.matching.specs.declared.Event.{Event}
 use Rattle.matching.specs.Matching.{at, openOf, who}
 use Rattle.table.specs.Heading.{workOf}
-use Rattle.table.specs.Orders.{bookOf}
+use Rattle.table.specs.Orders.{orderIdAt, bookOf}
 use Rattle.report.specs.declared.Reading.{Reading}
 use Rattle.report.specs.Reports.{readOf}
 use Rattle.readback.specs.Says.{says}
@@ -15,22 +15,22 @@ use Rattle.readback.specs.Told.{kindTold, reasonTold, quantityTold}
 use Rattle.calls.specs.Run.{ran, runSteps}
 
 -- a report that was read is of event e: its kind, its order (37), what was traded (32) and why (378)
-pub record ReportOf (r : Reading) (e : Event) : Type 0 where
+pub record ReportOf (ids : ℕ → ℕ) (r : Reading) (e : Event) : Type 0 where
   pub kind : r .kind ≡ kindTold e
-  pub order : says 37 r ≡ who e
+  pub order : says 37 r ≡ ids (who e)
   pub quantity : says 32 r ≡ quantityTold e
   pub reason : says 378 r ≡ reasonTold e
 
 -- reports are of events, one of each in turn
-abbrev pub ReportsOf : List (List ℕ) → List Event → Type 0
-ReportsOf [] [] = Unit {0}
-ReportsOf [] (e ∷ es) = ⊥
-ReportsOf (r ∷ rs) [] = ⊥
-ReportsOf (r ∷ rs) (e ∷ es) = ReportOf (readOf r) e × ReportsOf rs es
+abbrev pub ReportsOf : (ℕ → ℕ) → List (List ℕ) → List Event → Type 0
+ReportsOf ids [] [] = Unit {0}
+ReportsOf ids [] (e ∷ es) = ⊥
+ReportsOf ids (r ∷ rs) [] = ⊥
+ReportsOf ids (r ∷ rs) (e ∷ es) = ReportOf ids (readOf r) e × ReportsOf ids rs es
 
 -- Run with this room and budget: its reports are of the events es, it leaves open os and nothing in work, and takes n steps
 pub record ShowsIn (t : List ℕ) (room budget : ℕ) (es : List Event) (os : List ℕ) (n : ℕ) : Type 0 where
-  pub events : ReportsOf (ran t room budget .reports) es
+  pub events : ReportsOf (orderIdAt t) (ran t room budget .reports) es
   pub left : map openOf (bookOf (ran t room budget .table)) ≡ os
   pub steps : runSteps (ran t room budget .answer) ≡ n
   pub ended : workOf (ran t room budget .table) ≡ 0

@@ -1,6 +1,6 @@
--- What a member tells from reports alone (document 01, "The reports", what demand 3 takes from them): of the order that 37 names, the
--- quantity accepted, the executions, the decrements, the cancels and what was last reported open; of the whole market, what was
--- bought and sold. All of it is taken from the bytes of reports as Read gives them, if it takes them. Assumes nothing.
+-- What a member tells from reports alone (document 01, "The reports", what demand 3 takes from them): of the order that 37 names by its
+-- OrderID, the quantity accepted, the executions, the decrements, the cancels and what was last reported open; of the whole market,
+-- what was bought and sold. All of it is taken from the bytes of reports as Read gives them, if it takes them. Assumes nothing.
 use mathlib.Core.Bool.{Bool, true, false, cond, not, _&&_}
 use mathlib.Core.List.{List, [], _∷_}
 use Prim.Native.Nat.{ℕ, _+_, _-_}
@@ -68,18 +68,18 @@ afterReport CancelReject r a = a
 afterReport SessionReject r a = a
 afterReport Refused r a = a
 
--- the account of order k after one report more
+-- the account of the order with OrderID n after one report more
 unfoldable pub noted : ℕ → Account → Reading → Account
-noted k a r = cond (eqb (says 37 r) k) (afterReport (r .kind) r a) a
+noted n a r = cond (eqb (says 37 r) n) (afterReport (r .kind) r a) a
 
 -- and after reports, one by one
 unfoldable pub accountFrom : ℕ → Account → List (List ℕ) → Account
-accountFrom k a [] = a
-accountFrom k a (r ∷ rs) = accountFrom k (noted k a (readOf r)) rs
+accountFrom n a [] = a
+accountFrom n a (r ∷ rs) = accountFrom n (noted n a (readOf r)) rs
 
--- the account of order k by all reports
+-- the account of the order with OrderID n by all reports
 abbrev pub accountOf : ℕ → List (List ℕ) → Account
-accountOf k rs = accountFrom k blank rs
+accountOf n rs = accountFrom n blank rs
 
 -- ---- the whole market
 

@@ -53,7 +53,7 @@ module _ (sent stored : List ℕ) where
       & executed-takes sent stored (o .order) (j .order-right)
       & number-takes sent stored 1 999999999 (s .number) (i .number-low) (i .number-high) (omega (arith, i .number-high))
       & char-takes sent stored 48
-      & number-takes sent stored 1 255 (o .orderid) (j .orderid-low) (j .orderid-high) (omega (arith, j .orderid-high))
+      & number-takes sent stored 1 999999999 (o .orderid) (j .orderid-low) (j .orderid-high) (omega (arith, j .orderid-high))
       & quantity-takes sent stored (o .order) (j .order-right)
       & char-takes sent stored 48
       & char-takes sent stored 50
@@ -88,7 +88,7 @@ module _ (sent stored : List ℕ) where
       & executed-takes sent stored (o .order) (j .order-right)
       & number-takes sent stored 1 999999999 (s .number) (i .number-low) (i .number-high) (omega (arith, i .number-high))
       & char-takes sent stored 48
-      & number-takes sent stored 1 255 (o .orderid) (j .orderid-low) (j .orderid-high) (omega (arith, j .orderid-high))
+      & number-takes sent stored 1 999999999 (o .orderid) (j .orderid-low) (j .orderid-high) (omega (arith, j .orderid-high))
       & quantity-takes sent stored (o .order) (j .order-right)
       & replaced-takes sent stored (o .order)
       & char-takes sent stored 50
@@ -125,7 +125,7 @@ module _ (sent stored : List ℕ) where
       & executed-takes sent stored (o .order) (j .order-right)
       & number-takes sent stored 1 999999999 (s .number) (i .number-low) (i .number-high) (omega (arith, i .number-high))
       & char-takes sent stored 48
-      & number-takes sent stored 1 255 (o .orderid) (j .orderid-low) (j .orderid-high) (omega (arith, j .orderid-high))
+      & number-takes sent stored 1 999999999 (o .orderid) (j .orderid-low) (j .orderid-high) (omega (arith, j .orderid-high))
       & quantity-takes sent stored (o .order) (j .order-right)
       & char-takes sent stored 52
       & char-takes sent stored 50
@@ -183,7 +183,7 @@ module _ (sent stored : List ℕ) where
       & char-takes sent stored 48
       & level-takes sent stored (f .level) (k .level-low) (k .level-high)
       & number-takes sent stored 0 999999999 (f .quantity) (omega arith) (k .quantity-right) (omega (arith, k .quantity-right))
-      & number-takes sent stored 1 255 (o .orderid) (j .orderid-low) (j .orderid-high) (omega (arith, j .orderid-high))
+      & number-takes sent stored 1 999999999 (o .orderid) (j .orderid-low) (j .orderid-high) (omega (arith, j .orderid-high))
       & quantity-takes sent stored (o .order) (j .order-right)
       & traded-takes sent stored (o .order)
       & char-takes sent stored 50

@@ -104,8 +104,8 @@ module _ (t message : List ℕ) where
   unfolding shownOn
   shown-right i long h =
       record {
-        orderid-low = h .low;
-        orderid-high = omega (arith, h .high);
+        orderid-low = h .orderid-low;
+        orderid-high = omega (arith, h .orderid-high);
         order-right = h .sound;
         mpid-right = omega (arith, h .owner);
         capacity-right = h .capacity;

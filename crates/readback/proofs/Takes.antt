@@ -11,11 +11,11 @@ use borrow.Author.Tests.{eq-eqb, ne-eqb, le-leb, le-ltb, eqb-true, eqb-false, le
 use Rattle.octets.specs.Octets.{sameBytes}
 use Rattle.octets.proofs.Bools.{split, both-l, both-r, or-r}
 use Rattle.decimal.specs.declared.Said.the-variants.{Value as Says}
-use Rattle.decimal.specs.Reading.{numOf}
+use Rattle.decimal.specs.Reading.{isDigit, runOf, digitRun, numOf}
 use Rattle.decimal.specs.Writing.{decimal, meanOf}
 use Rattle.decimal.specs.Canonical.{bareOf, within}
-use Rattle.decimal.proofs.Digits.{decimal-few}
 use Rattle.decimal.proofs.Means.{mean-range}
+use Rattle.decimal.proofs.Afters.{digits-decimal}
 use Rattle.decimal.proofs.RoundTrip.{bare-back, fixed-back}
 use Rattle.matching.specs.declared.Order.{Order}
 use Rattle.matching.specs.Matching.{openOf, isImmediate}
@@ -28,7 +28,7 @@ use Rattle.report.specs.declared.Shape.{Shape}
 use Rattle.report.specs.declared.Shape.the-variants as shape
 use Rattle.report.specs.declared.Pick.the-variants.{Is}
 use Rattle.report.specs.Fields.{isAbsent, valueBytes}
-use Rattle.report.specs.Shapes.{oneIn, numberIn, wordIn, recordIn, textIn, timeIn, yieldIn, averageIn, valueIn}
+use Rattle.report.specs.Shapes.{oneIn, numberIn, wordIn, orderIdIn, textIn, timeIn, yieldIn, averageIn, valueIn}
 use Rattle.report.proofs.Taken.{same-is}
 use Rattle.report.proofs.Back.{moved, same-back}
 use Rattle.rows.specs.Rows.{digit, orNumber, orNobody, avgPx, replacedStatus, tradeStatus}
@@ -95,20 +95,26 @@ module _ (sent stored : List ℕ) where
       split (eqb n 0) (λ e. rw e (inl refl))
       (λ e. rw e (inr (number-takes least most n (omega (arith, l, eqb-false n 0 e)) h f)))
 
-  -- an order's record, or NONE
-  not-none : (n : ℕ) → 1 ≤ n → n ≤ 255 → sameBytes (decimal n) (78 ∷ 79 ∷ 78 ∷ 69 ∷ []) ≡ false
-  not-none n l h =
+  -- an OrderID, or NONE: digits are not NONE
+  none-digits : digitRun (78 ∷ 79 ∷ 78 ∷ 69 ∷ []) ≡ 0
+  unfolding runOf isDigit
+  none-digits = refl
+
+  not-none : (n : ℕ) → n ≤ 999999999 → sameBytes (decimal n) (78 ∷ 79 ∷ 78 ∷ 69 ∷ []) ≡ false
+  not-none n h =
       split (sameBytes (decimal n) (78 ∷ 79 ∷ 78 ∷ 69 ∷ []))
-      (λ e. absurd (omega (arith, decimal-few 2 n (omega arith), ap length (same-is (decimal n) (78 ∷ 79 ∷ 78 ∷ 69 ∷ []) e))))
+      (λ e.
+      let z : digitRun (78 ∷ 79 ∷ 78 ∷ 69 ∷ []) ≡ 4 = rw (same-is (decimal n) (78 ∷ 79 ∷ 78 ∷ 69 ∷ []) e) at (digits-decimal n (omega arith)) in
+      absurd (omega (arith, z, none-digits)))
       (λ e. e)
 
-  pub or-nobody-takes : (n : ℕ) → n ≤ 255 → Takes sent stored shape.Record (orNobody n)
-  unfolding orNobody recordIn
+  pub or-nobody-takes : (n : ℕ) → n ≤ 999999999 → Takes sent stored shape.OrderId (orNobody n)
+  unfolding orNobody orderIdIn
   or-nobody-takes n h =
       split (eqb n 0)
       (λ e. rw e (record { here = refl; picked = λ place. rw (same-back (78 ∷ 79 ∷ 78 ∷ 69 ∷ [])) }))
       (λ e. let l : 1 ≤ n = omega (arith, eqb-false n 0 e) in
-      rw e (record { here = refl; picked = λ place. rw (not-none n l h) (ap numberIn (within-back 1 255 n l h (omega arith))) }))
+      rw e (record { here = refl; picked = λ place. rw (not-none n h) (ap numberIn (within-back 1 999999999 n l h (omega arith))) }))
 
   -- ---- digits as characters
   abbrev Digit : Shape → ℕ → Type 0

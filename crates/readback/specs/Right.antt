@@ -70,7 +70,7 @@ module _ (sent stored : List ℕ) where
   -- ---- an order; it has an account or none, MPID 0 is none, and so is MinQty 0
   pub record ShownRight (o : Shown) : Type 0 where
     pub orderid-low : 1 ≤ o .orderid
-    pub orderid-high : o .orderid ≤ 255
+    pub orderid-high : o .orderid ≤ 999999999
     pub order-right : Sound (o .order)
     pub mpid-right : o .order .mpid ≤ 999999
     pub capacity-right : isCapacity (o .capacity) ≡ true
@@ -98,10 +98,10 @@ module _ (sent stored : List ℕ) where
     pub code-right : CodeRight (text (q .code))
     pub reason-right : isAmong (0 ∷ 1 ∷ 6 ∷ 99 ∷ []) (q .reason) ≡ true
 
-  -- ---- a cancel or replacement that is rejected; order 0 is none
+  -- ---- a cancel or replacement that is rejected; OrderID 0 is none
   pub record UnchangedRight (u : Unchanged) : Type 0 where
     pub id-right : IdRight (text (u .id))
-    pub orderid-right : u .orderid ≤ 255
+    pub orderid-right : u .orderid ≤ 999999999
     pub status-right : isAmong (0 ∷ 1 ∷ 2 ∷ 4 ∷ 8 ∷ []) (u .status) ≡ true
     pub orig-right : IdRight (text (u .orig))
     pub reason-right : isAmong (0 ∷ 1 ∷ 2 ∷ []) (u .reason) ≡ true

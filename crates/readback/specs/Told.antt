@@ -1,17 +1,16 @@
 -- What the report of an event says when it is read (document 01, "The reports", from which Demand 3 takes its tallies; document 02,
--- T-05): its kind, and the numbers of the order after the event, with 32 and 375 of a trade and 378 of what prevention, a minimum that
--- is not reached or the end of an immediate order did. Assumes nothing.
+-- T-05 and T-09): its kind, the OrderID and the numbers of the order after the event, with 32 and 375 of a trade and 378 of what
+-- prevention, a minimum that is not reached or the end of an immediate order did. Assumes nothing.
 use Prim.Native.Nat.{ℕ}
 use mathlib.Core.Path.{_≡_}
 use mathlib.Core.List.{List}
 use Rattle.matching.specs.declared.Event.{Event}
 use Rattle.matching.specs.declared.Event.the-variants.{Accepted, Replaced, Withdrawn, Canceled, Decremented, Traded, Killed, Expired}
 use Rattle.matching.specs.Matching.{openOf, who}
-use Rattle.table.specs.Orders.{orderAt}
+use Rattle.table.specs.Orders.{orderIdAt, orderAt}
 use Rattle.report.specs.declared.Kind.{Kind}
 use Rattle.report.specs.declared.Kind.the-variants as kind
 use Rattle.report.specs.declared.Reading.{Reading}
-use Rattle.ticket.specs.Tickets.{orderIdAt}
 use Rattle.readback.specs.Says.{says}
 
 -- the kind of report that an event has

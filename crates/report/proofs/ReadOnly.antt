@@ -29,7 +29,7 @@ properShape (shape.OneOf a b c d e) = not (eqb a 1) && not (eqb b 1) && not (eqb
 properShape (shape.Range least most) = true
 properShape (shape.Listed a b c d e f g h) = true
 properShape (shape.Exact w x y z) = not (eqb w 1) && not (eqb x 1) && not (eqb y 1) && not (eqb z 1)
-properShape shape.Record = true
+properShape shape.OrderId = true
 properShape (shape.Text most low) = ltb 1 low
 properShape shape.Digits = true
 properShape shape.Time = true
@@ -57,7 +57,7 @@ proper-is (shape.Listed a b c d x f g h) e = tt
 proper-is (shape.Exact w x y z) e =
     let p = four (not (eqb w 1)) (not (eqb x 1)) (not (eqb y 1)) (not (eqb z 1)) e in
     (other w (p .0), (other x (p .1), (other y (p .2), (other z (p .3), tt))))
-proper-is shape.Record e = tt
+proper-is shape.OrderId e = tt
 proper-is (shape.Text most low) e = ltb-true 1 low e
 proper-is shape.Digits e = tt
 proper-is shape.Time e = tt

@@ -27,7 +27,7 @@ use Rattle.report.specs.declared.Shape.the-variants as shape
 use Rattle.report.specs.declared.Pick.{Pick}
 use Rattle.report.specs.declared.Pick.the-variants.{Is, No}
 use Rattle.report.specs.Fields.{isAbsent, valueBytes}
-use Rattle.report.specs.Shapes.{oneIn, numberIn, listedIn, wordIn, recordIn, allFrom, textIn, placeIn, timeIn, yieldIn, averageIn, valueIn}
+use Rattle.report.specs.Shapes.{oneIn, numberIn, listedIn, wordIn, orderIdIn, allFrom, textIn, placeIn, timeIn, yieldIn, averageIn, valueIn}
 
 -- ---- no byte is SOH
 abbrev pub NoSoh : List ℕ → Type 0
@@ -91,7 +91,7 @@ widthOf (shape.OneOf a b c d e) = 1
 widthOf (shape.Range least most) = 9
 widthOf (shape.Listed a b c d e f g h) = 9
 widthOf (shape.Exact w x y z) = 4
-widthOf shape.Record = 9
+widthOf shape.OrderId = 9
 widthOf (shape.Text most low) = most
 widthOf shape.Digits = 9
 widthOf shape.Time = 21
@@ -174,7 +174,7 @@ Proper (shape.OneOf a b c d e) = (a ≡ 1 → ⊥) × (b ≡ 1 → ⊥) × (c �
 Proper (shape.Range least most) = Unit {0}
 Proper (shape.Listed a b c d e f g h) = Unit {0}
 Proper (shape.Exact w x y z) = NoSoh (w ∷ x ∷ y ∷ z ∷ [])
-Proper shape.Record = Unit {0}
+Proper shape.OrderId = Unit {0}
 Proper (shape.Text most low) = 1 < low
 Proper shape.Digits = Unit {0}
 Proper shape.Time = Unit {0}
@@ -205,13 +205,13 @@ taken-word v from x a b c d n q =
 wider : (v : List ℕ) (m n from : ℕ) (x : Value) → m ≤ n → Taken v m from x → Taken v n from x
 wider v m n from x h t = record { clean = t .clean; few = omega (arith, t .few); here = t .here; bytes = t .bytes }
 
-taken-record : (v : List ℕ) (from : ℕ) (x : Value) → recordIn v ≡ Is x → Taken v 9 from x
-unfolding recordIn wordIn
-taken-record v from x q =
+taken-order-id : (v : List ℕ) (from : ℕ) (x : Value) → orderIdIn v ≡ Is x → Taken v 9 from x
+unfolding orderIdIn wordIn
+taken-order-id v from x q =
     split (sameBytes v (78 ∷ 79 ∷ 78 ∷ 69 ∷ []))
     (λ t. let z : Is (Word 78 79 78 69) ≡ Is x = rw t at q in
     wider v 4 9 from x (omega arith) (taken-word v from x 78 79 78 69 ((λ e. omega (arith, e)), ((λ e. omega (arith, e)), ((λ e. omega (arith, e)), ((λ e. omega (arith, e)), tt)))) (rw t z)))
-    (λ t. taken-number v from x 1 255 (rw t at q))
+    (λ t. taken-number v from x 1 999999999 (rw t at q))
 
 -- texts
 taken-text : (v : List ℕ) (from : ℕ) (x : Value) (most low : ℕ) → 1 < low → textIn most low from v ≡ Is x → Taken v most from x
@@ -303,7 +303,7 @@ taken (shape.Listed a b c d e f g h) from v x n q =
     let s = listed-says a b c d e f g h (bareOf 9 v) x q in
     subst (λ (y : Value). Taken v 9 from y) (s .is) (taken-bare v from (s .said) (s .says))
 taken (shape.Exact w x₁ y z) from v x n q = taken-word v from x w x₁ y z n q
-taken shape.Record from v x n q = taken-record v from x q
+taken shape.OrderId from v x n q = taken-order-id v from x q
 taken (shape.Text most low) from v x n q = taken-text v from x most low n q
 taken shape.Digits from v x n q = taken-digits v from x q
 taken shape.Time from v x n q = taken-time v from x q

@@ -1,5 +1,5 @@
--- What the value of a field may be where a report is read, and what it then is: document 01, "The reports", Read. A text is
--- given as its place in the report. Assumes nothing.
+-- What the value of a field may be where a report is read, and what it then is: document 01, "The reports", Read, and document
+-- 02, T-09 (37). A text is given as its place in the report. Assumes nothing.
 use Prim.Native.Nat.{ℕ}
 use mathlib.Core.Bool.{Bool, true, false, cond, _&&_, _||_}
 use mathlib.Core.List.{List, [], _∷_}
@@ -41,9 +41,9 @@ listedIn a b c d e f g h Says-not = No
 unfoldable pub wordIn : ℕ → ℕ → ℕ → ℕ → List ℕ → Pick
 wordIn w x y z v = cond (sameBytes v (w ∷ x ∷ y ∷ z ∷ [])) (Is (Word w x y z)) No
 
--- an order's record, 1 to 255, or NONE
-unfoldable pub recordIn : List ℕ → Pick
-recordIn v = cond (sameBytes v (bytes "NONE")) (Is (word "NONE")) (numberIn (within 1 255 (bareOf 9 v)))
+-- an OrderID, 1 to 999,999,999, or NONE
+unfoldable pub orderIdIn : List ℕ → Pick
+orderIdIn v = cond (sameBytes v (bytes "NONE")) (Is (word "NONE")) (numberIn (within 1 999999999 (bareOf 9 v)))
 
 -- every byte lies from low to 7E hex
 abbrev pub allFrom : ℕ → List ℕ → Bool
@@ -81,7 +81,7 @@ valueIn (shape.OneOf a b c d e) from v = oneIn a b c d e v
 valueIn (shape.Range least most) from v = numberIn (within least most (bareOf 9 v))
 valueIn (shape.Listed a b c d e f g h) from v = listedIn a b c d e f g h (bareOf 9 v)
 valueIn (shape.Exact w x y z) from v = wordIn w x y z v
-valueIn shape.Record from v = recordIn v
+valueIn shape.OrderId from v = orderIdIn v
 valueIn (shape.Text most low) from v = textIn most low from v
 valueIn shape.Digits from v = placeIn from (length v) (numOf 9 v)
 valueIn shape.Time from v = timeIn from v

@@ -1,6 +1,6 @@
 -- The seven kinds of reports as tables of slots, in the order in which their fields stand: the tag, whether the field may be
 -- missing, what its value may be. From sections 7.2 and 7.5.1 to 7.5.4 of source document 000, without 797, document 01, "The
--- reports", and document 02, T-05. Assumes nothing.
+-- reports", and document 02, T-05 and T-09. Assumes nothing.
 use Prim.Native.Nat.{ℕ}
 use Prim.Native.String.{String}
 use mathlib.Core.Bool.{Bool, true, false}
@@ -48,7 +48,7 @@ acceptedSlots =
     ∷ always 14 (shape.Range 0 999999999)
     ∷ always 17 (shape.Range 1 999999999)
     ∷ always 20 (oneOf "0")
-    ∷ always 37 (shape.Range 1 255)
+    ∷ always 37 (shape.Range 1 999999999)
     ∷ always 38 (shape.Range 0 999999999)
     ∷ always 39 (oneOf "0")
     ∷ always 40 (oneOf "2")
@@ -76,7 +76,7 @@ replacedSlots =
     ∷ always 14 (shape.Range 0 999999999)
     ∷ always 17 (shape.Range 1 999999999)
     ∷ always 20 (oneOf "0")
-    ∷ always 37 (shape.Range 1 255)
+    ∷ always 37 (shape.Range 1 999999999)
     ∷ always 38 (shape.Range 0 999999999)
     ∷ always 39 (oneOf "15")
     ∷ always 40 (oneOf "2")
@@ -106,7 +106,7 @@ canceledSlots =
     ∷ always 14 (shape.Range 0 999999999)
     ∷ always 17 (shape.Range 1 999999999)
     ∷ always 20 (oneOf "0")
-    ∷ always 37 (shape.Range 1 255)
+    ∷ always 37 (shape.Range 1 999999999)
     ∷ always 38 (shape.Range 0 999999999)
     ∷ always 39 (oneOf "4")
     ∷ always 40 (oneOf "2")
@@ -138,7 +138,7 @@ tradeSlots =
     ∷ always 20 (oneOf "0")
     ∷ always 31 shape.Yield
     ∷ always 32 (shape.Range 0 999999999)
-    ∷ always 37 (shape.Range 1 255)
+    ∷ always 37 (shape.Range 1 999999999)
     ∷ always 38 (shape.Range 0 999999999)
     ∷ always 39 (oneOf "12")
     ∷ always 40 (oneOf "2")
@@ -184,7 +184,7 @@ unfoldable pub cancelRejectSlots : List Slot
 cancelRejectSlots =
     headSlots "9"
     ++ (always 11 (shape.Text 32 0x20)
-    ∷ always 37 shape.Record
+    ∷ always 37 shape.OrderId
     ∷ always 39 (oneOf "01248")
     ∷ always 41 (shape.Text 32 0x20)
     ∷ always 102 (shape.Listed 0 1 2 2 2 2 2 2)

@@ -33,7 +33,7 @@ pub struct Place {
 }
 
 // What the value of a field may be: one of five characters; a number in a range; one of eight numbers; four characters; an
-// order's record, or NONE; a text of at most so many characters from one on to 7E hex; 1 to 9 digits; a time; a yield; AvgPx.
+// OrderID, or NONE; a text of at most so many characters from one on to 7E hex; 1 to 9 digits; a time; a yield; AvgPx.
 pub enum Shape {
     Nothing,
     OneOf {
@@ -63,7 +63,7 @@ pub enum Shape {
         y: u8,
         z: u8,
     },
-    Record,
+    OrderId,
     Text {
         most: usize,
         low: u8,

@@ -106,7 +106,7 @@ fn accepted_slots() -> [Slot; 36]
             optional: false,
             shape: Shape::Range {
                 least: 1,
-                most: 255,
+                most: 999999999,
             },
         },
         Slot {
@@ -359,7 +359,7 @@ fn replaced_slots() -> [Slot; 36]
             optional: false,
             shape: Shape::Range {
                 least: 1,
-                most: 255,
+                most: 999999999,
             },
         },
         Slot {
@@ -629,7 +629,7 @@ fn canceled_slots() -> [Slot; 36]
             optional: false,
             shape: Shape::Range {
                 least: 1,
-                most: 255,
+                most: 999999999,
             },
         },
         Slot {
@@ -912,7 +912,7 @@ fn trade_slots() -> [Slot; 36]
             optional: false,
             shape: Shape::Range {
                 least: 1,
-                most: 255,
+                most: 999999999,
             },
         },
         Slot {
@@ -1365,7 +1365,7 @@ fn cancel_reject_slots() -> [Slot; 36]
         Slot {
             tag: 37,
             optional: false,
-            shape: Shape::Record,
+            shape: Shape::OrderId,
         },
         Slot {
             tag: 39,

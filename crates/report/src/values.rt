@@ -14,7 +14,7 @@ ghost use mathlib.Core.Path.{_≡_};
 ghost use mathlib.Core.List.{_∷_, []};
 ghost use Prim.Native.Nat.{_≤_};
 ghost use lib.ListN.{length};
-ghost use Rattle.report.specs.Shapes.{oneIn, numberIn, listedIn, wordIn, recordIn, allFrom, textIn, placeIn, timeIn, yieldIn, averageIn, valueIn};
+ghost use Rattle.report.specs.Shapes.{oneIn, numberIn, listedIn, wordIn, orderIdIn, allFrom, textIn, placeIn, timeIn, yieldIn, averageIn, valueIn};
 
 // One of five characters.
 fn pick_one(v: &[u8], a: u8, b: u8, c: u8, d: u8, e: u8) -> Pick
@@ -74,9 +74,9 @@ fn pick_word(v: &[u8], w: u8, x: u8, y: u8, z: u8) -> Pick
     Pick::No
 }
 
-// An order's record, 1 to 255, or NONE.
-fn pick_record(v: &[u8]) -> Pick
-    ensures { λ r. ⌜ r ≡ recordIn (now (v .entry)) ⌝ }
+// An OrderID, 1 to 999,999,999, or NONE.
+fn pick_order_id(v: &[u8]) -> Pick
+    ensures { λ r. ⌜ r ≡ orderIdIn (now (v .entry)) ⌝ }
 {
     let word = [78u8, 79, 78, 69];
     if same(v, &word) {
@@ -87,7 +87,7 @@ fn pick_record(v: &[u8]) -> Pick
             z: 69,
         });
     }
-    pick_number(read_within(v, 9, 1, 255))
+    pick_number(read_within(v, 9, 1, 999999999))
 }
 
 // Whether every byte lies from `low` to 7E hex.
@@ -182,7 +182,7 @@ pub fn pick_value(v: &[u8], shape: Shape, from: usize) -> Pick
             h,
         } => pick_listed(read_bare(v, 9), a, b, c, d, e, f, g, h),
         Shape::Exact { w, x, y, z } => pick_word(v, w, x, y, z),
-        Shape::Record => pick_record(v),
+        Shape::OrderId => pick_order_id(v),
         Shape::Text { most, low } => pick_text(v, from, most, low),
         Shape::Digits => pick_place(read_number(v, 9), from, v.len()),
         Shape::Time => pick_time(v, from),

@@ -1,11 +1,13 @@
--- The tables that definitions are run on: a market just opened (venue V, port P, code 350, first number 1, MPIDs 10 to 14), and book R
--- with a buy in work, A being MPID 10 and having this mode, all others mode 1.
-use mathlib.Core.List.{List, [], _∷_}
-use Prim.Native.Nat.{ℕ}
+-- The tables that definitions are run on: a market just opened (venue V, port P, code 350, first number 1, MPIDs 10 to 14); book R
+-- with a buy in work, A being MPID 10 and having this mode, all others mode 1; a table of 255 records, and one whose record 1 an order
+-- has left.
+use mathlib.Core.List.{List, [], _∷_, _++_}
+use Prim.Native.Nat.{ℕ, zero, suc}
+use lib.ListN.{set, take}
 use Rattle.matching.specs.declared.Order.{Order}
 use Rattle.matching.specs.Rehearsed.{yield, sell, buy, buyAtLeast, buyFOK}
 use Rattle.table.specs.Heading.{putWork, putNext}
-use Rattle.table.specs.Orders.{accepted}
+use Rattle.table.specs.Orders.{recordOf, accepted}
 use Rattle.table.specs.Opened.{freshTable}
 use Rattle.octets.specs.Characters.{message}
 
@@ -17,16 +19,20 @@ abbrev with : ℕ → Order → List ℕ
 with mode o =
     putWork (putNext
     (accepted (accepted (accepted (accepted (accepted (fresh mode)
-    1 (message "a") [] 65 1 (sell 100 (yield 101) 1 11))
-    2 (message "b") [] 65 1 (sell 200 (yield 100) 2 12))
-    3 (message "c") [] 65 1 (sell 200 (yield 100) 3 10))
-    4 (message "d") [] 65 1 (sell 500 (yield 100) 4 13))
-    5 (message "e") [] 65 1 o)
+    1 1 (message "a") [] 65 1 (sell 100 (yield 101) 1 11))
+    2 2 (message "b") [] 65 1 (sell 200 (yield 100) 2 12))
+    3 3 (message "c") [] 65 1 (sell 200 (yield 100) 3 10))
+    4 4 (message "d") [] 65 1 (sell 500 (yield 100) 4 13))
+    5 5 (message "e") [] 65 1 o)
     6) 5 (message "20260105-09:00:00")
 
 -- A buys 1,200 at 0.100, a Day order
 abbrev pub bookR : ℕ → List ℕ
 bookR mode = with mode (buy 1200 (yield 100) 5 10)
+
+-- the same, where the orders of records 1, 3 and 5 were accepted in another order: their OrderIDs are 3, 5 and 1
+abbrev pub mixed : ℕ → List ℕ
+mixed mode = set (set (set (bookR mode) 212 3) 468 5) 724 1
 
 -- A buys 1,200 at 0.100, IOC with this MinQty
 abbrev pub bookLeast : ℕ → ℕ → List ℕ
@@ -35,3 +41,33 @@ bookLeast mode least = with mode (buyAtLeast least 1200 (yield 100) 5 10)
 -- MPID 14 buys 1,200 at 0.100, Fill or Kill
 abbrev pub bookKill : List ℕ
 bookKill = with 1 (buyFOK 1200 (yield 100) 5 14)
+
+-- ---- records that a new order may take
+
+-- a sell of 100, IOC with a MinQty, of which nothing is open
+abbrev ended : Order
+ended = record { side = 2; tif = 3; level = yield 100; qty = 100; executed = 0; decremented = 0; canceled = 100; sum = 0; place = 1; mpid = 11; minqty = 50 }
+
+-- n times these bytes
+abbrev times : ℕ → List ℕ → List ℕ
+times zero r = []
+times (suc n) r = r ++ times n r
+
+-- records of an open order and of one with nothing open
+abbrev live : List ℕ
+live = recordOf 1 (message "x") [] 65 1 (sell 100 (yield 100) 1 11)
+
+abbrev dead : List ℕ → List ℕ
+dead clOrdId = recordOf 1 clOrdId (message "ACC-1") 65 1 ended
+
+-- 255 records, of which 2 and 4 have nothing open; it is no market, since the open ones have one ClOrdID
+abbrev pub full : List ℕ
+full = take 128 (fresh 1) ++ (live ++ (dead (message "y") ++ (live ++ (dead (message "z") ++ times 251 live))))
+
+-- record 1 has an order with nothing open
+abbrev pub left : List ℕ
+left = accepted (fresh 1) 1 1 (message "OLD-1") (message "ACC-1") 80 6 ended
+
+-- after a buy without an account is accepted as record 1, with OrderID 2
+abbrev pub over : List ℕ → List ℕ
+over t = accepted t 1 2 (message "b") [] 65 1 (buy 100 (yield 100) 2 10)

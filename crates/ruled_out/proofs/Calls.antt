@@ -16,10 +16,10 @@ use Rattle.matching.specs.Matching.{openOf, meets, better, faces, sameOwner, su
 use Rattle.matching.specs.Depth.{stands, behind, nearer, next, levelAt, onLevel, share, total, orders, depth}
 use Rattle.matching.specs.Held.{mayMinimum}
 use Rattle.table.specs.Changes.{played, missesNow, stepEvents, stepWork, numbered, stepped, entered, renewed, taken}
-use Rattle.table.specs.Heading.{entries, entryOf, isListed, modeOf, mpidBytes, nextOf, decidedOf, endWork}
-use Rattle.table.specs.Market.{every, isPadded, hasLength, hasNames, isEntry, hasList, hasSettings, hasNext, hasWork, hasSpare, restZero, isCapacity, isClass, isRecord, isRanged, isKnown, isWithin, isShut, isPriced, isOrder, hasOrders, isFreshId, hasIds, isFreshPlace, hasPlaces, isDone, noIoc, isClear, noCross, hasNumbers, isBook, hasDecision, isMarket, isText as isStoredText}
+use Rattle.table.specs.Heading.{entries, entryOf, isListed, modeOf, mpidBytes, nextOf, decidedOf, putNext, endWork}
+use Rattle.table.specs.Market.{every, isPadded, hasLength, hasNames, isEntry, hasList, hasSettings, hasNext, hasWork, hasSpare, restZero, isCapacity, isClass, isRecord, isRanged, isKnown, isWithin, isShut, isPriced, isOrder, hasOrders, isFreshId, hasIds, isFresh, areFresh, hasOrderIds, hasPlaces, isDone, noIoc, isClear, noCross, hasNumbers, isBook, hasDecision, isMarket, isText as isStoredText}
 use Rattle.table.specs.Opened.{isName, isNew, isGiven, areGiven, areNames, areSettings, namedTable, freshTable, isOpening, opened}
-use Rattle.table.specs.Orders.{orderAt, filled, ordersFrom, bookOf, idIndex, recordWith, termBytes, amountBytes, tailBytes, recordOf, applied, withdrawn, replaced, accepted, fieldBytes}
+use Rattle.table.specs.Orders.{orderIdAt, orderAt, filled, ordersFrom, bookOf, firstRecord, recordWith, recordFor, termBytes, amountBytes, tailBytes, recordOf, applied, withdrawn, replaced, accepted, fieldBytes}
 use Rattle.calls.specs.Checks.{holder, newStands, changeStands, cancelStands, replaceStands}
 use Rattle.calls.specs.Submit.{rejecting, faulted, newRejected, changeRejected, newTaken, replacementTaken, cancelTaken, submitted, Submitted, submitNumber, submitLength}
 use Rattle.calls.specs.Run.{eventReport, eventReports, stepReports, worked, ran, Ran, runBytes, runReports, runSteps}
@@ -35,11 +35,11 @@ use Rattle.kamurjesh.specs.Numbers.{yieldOf}
 use lib.IntN.{pos}
 use Rattle.market.specs.Depth.{depthAnswer, depthNumber}
 use Rattle.octets.specs.Characters.{message}
-use Rattle.ruled_out.proofs.Books.{fresh, bookR, bookLeast, bookKill}
+use Rattle.ruled_out.proofs.Books.{fresh, bookR, bookLeast, bookKill, full, left, over}
 
 -- opens all definitions
 computes : ℕ
-unfolding leAt bytesOf put partAt textAt textBytes sameBytes allZero allUpTo firstFrom decimal places plain fixed shareOf meanOf isDigit digitOf runOf numberAfter isNumber numOf digitAt isFraction fractionOf sizeOf levelOf isTimeLength twoAt timeShaped timeRanged isTime isText startsTag leading tagOf valueFrom valueLen fieldOf fieldsAfter fieldsFrom stepOf findTag valueOf hasTag repeats cleanFields lastTagOr headedBy ordered headerRight partOf endOf tenAt lengthTrue sumOf checkSum sumTrue garbledMessage bodyPart headOf frameOf bodyOf saidIn lengthIn hasIn refusalOf termsIn requestIn completed agreed bodyAsked headAsked askedOf kindOf oneOf belongs listed shapeOf charSays lookAs judge firstFailing firstMissing minimumClashes firstClashing openOf meets better faces sameOwner sumOver countOf choose best partner prevention meeting ending outcome preventing causes placeAfter change happens workAfter after play run minimumOf wouldTrade misses decidedAfter mayMinimum opposed opposedTo stands behind nearer next levelAt onLevel share total orders depth played missesNow stepEvents stepWork numbered stepped entered renewed taken entries entryOf isListed modeOf mpidBytes every isPadded hasLength hasNames isEntry hasList hasSettings hasNext hasWork hasSpare restZero isCapacity isClass isRecord isRanged isKnown isWithin isShut isPriced isOrder hasOrders isFreshId hasIds isFreshPlace hasPlaces isDone noIoc isClear noCross hasNumbers isBook hasDecision isMarket isStoredText isName isNew isGiven areGiven areNames areSettings namedTable freshTable isOpening opened orderAt filled ordersFrom bookOf idIndex recordWith termBytes amountBytes tailBytes recordOf applied withdrawn replaced accepted fieldBytes holder newStands changeStands cancelStands replaceStands rejecting faulted newRejected changeRejected newTaken replacementTaken cancelTaken submitted eventReport eventReports stepReports worked ran joined label written writtenField version front trailer reportBytes text orNumber digit orNobody avgPx replacedStatus tradeStatus statusOf figuresOf header acceptedFields replacedFields canceledFields tradeFields cancelRejectRow orStoredAt stampOn shownOn rowOf ticketOf unchangedOn unchangedRow openAnswer depthAnswer
+unfolding leAt bytesOf put partAt textAt textBytes sameBytes allZero allUpTo firstFrom decimal places plain fixed shareOf meanOf isDigit digitOf runOf numberAfter isNumber numOf digitAt isFraction fractionOf sizeOf levelOf isTimeLength twoAt timeShaped timeRanged isTime isText startsTag leading tagOf valueFrom valueLen fieldOf fieldsAfter fieldsFrom stepOf findTag valueOf hasTag repeats cleanFields lastTagOr headedBy ordered headerRight partOf endOf tenAt lengthTrue sumOf checkSum sumTrue garbledMessage bodyPart headOf frameOf bodyOf saidIn lengthIn hasIn refusalOf termsIn requestIn completed agreed bodyAsked headAsked askedOf kindOf oneOf belongs listed shapeOf charSays lookAs judge firstFailing firstMissing minimumClashes firstClashing openOf meets better faces sameOwner sumOver countOf choose best partner prevention meeting ending outcome preventing causes placeAfter change happens workAfter after play run minimumOf wouldTrade misses decidedAfter mayMinimum opposed opposedTo stands behind nearer next levelAt onLevel share total orders depth played missesNow stepEvents stepWork numbered stepped entered renewed taken entries entryOf isListed modeOf mpidBytes every isPadded hasLength hasNames isEntry hasList hasSettings hasNext hasWork hasSpare restZero isCapacity isClass isRecord isRanged isKnown isWithin isShut isPriced isOrder hasOrders isFreshId hasIds isFresh areFresh hasOrderIds hasPlaces isDone noIoc isClear noCross hasNumbers isBook hasDecision isMarket isStoredText isName isNew isGiven areGiven areNames areSettings namedTable freshTable isOpening opened orderAt filled ordersFrom bookOf firstRecord recordWith recordFor termBytes amountBytes tailBytes recordOf applied withdrawn replaced accepted fieldBytes holder newStands changeStands cancelStands replaceStands rejecting faulted newRejected changeRejected newTaken replacementTaken cancelTaken submitted eventReport eventReports stepReports worked ran joined label written writtenField version front trailer reportBytes text orNumber digit orNobody avgPx replacedStatus tradeStatus statusOf figuresOf header acceptedFields replacedFields canceledFields tradeFields cancelRejectRow orStoredAt stampOn shownOn rowOf ticketOf unchangedOn unchangedRow openAnswer depthAnswer
 computes = 0
 
 -- ---- Open
@@ -80,6 +80,37 @@ untold = refl
 minimum-stored : orderAt (submitted (fresh 1) (message "8=FIX.4.2|9=132|35=D|34=1|49=P|52=20260101-09:00:00|56=V|11=A1|21=1|38=100|40=2|44=0.101|47=A|54=2|55=350|59=3|60=20260101-09:00:00|110=0007|8060=1|10=025|") 1024 .table) 1 .minqty ≡ 7
 unfolding computes
 minimum-stored = refl
+
+-- ---- Submit: the record that a new order takes, and its OrderID
+
+-- of a full table, in which 2 and 4 have nothing open, the lowest-numbered of them
+lowest-dead : recordFor full ≡ 2
+unfolding computes
+lowest-dead = refl
+
+-- the ClOrdID that stands there is in the table until then, and not after
+held-until : holder full (message "y") ≡ 2
+unfolding computes
+held-until = refl
+
+gone-after : holder (over left) (message "OLD-1") ≡ 0
+unfolding computes
+gone-after = refl
+
+-- while a record is not filled, the next one, 6, although 1, 2 and 5 have nothing open
+free-first : recordFor (ran (bookR 1) 262144 256 .table) ≡ 6
+unfolding computes
+free-first = refl
+
+-- nothing is left of the order that was there, no account and no MinQty: every byte is as if there had been none
+written-anew : over left ≡ over (fresh 1)
+unfolding computes
+written-anew = refl
+
+-- the OrderID is the number of the report, 7, and not of the record
+own-number : orderIdAt (submitted (putNext (fresh 1) 7) buy 1024 .table) 1 ≡ 7
+unfolding computes
+own-number = refl
 
 -- ---- Submit, while the buy rests
 

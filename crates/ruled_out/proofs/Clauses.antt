@@ -12,14 +12,14 @@ use Rattle.matching.specs.Matching.{openOf, meets, opposed, opposedTo, countOf,
 use Rattle.matching.specs.Held.{mayMinimum}
 use Rattle.table.specs.Heading.{entries, entryOf, isListed, modeOf, mpidBytes, putNext, putDecided, endWork}
 use Rattle.table.specs.Orders.{orderAt, filled, ordersFrom, bookOf, termBytes, amountBytes, tailBytes, fieldBytes, recordOf, accepted}
-use Rattle.table.specs.Market.{every, isPadded, isText, hasLength, hasNames, isEntry, hasList, hasSettings, hasNext, hasWork, hasSpare, restZero, isCapacity, isClass, isRecord, isRanged, isKnown, isWithin, isShut, isPriced, isOrder, hasOrders, isFreshId, hasIds, isFreshPlace, hasPlaces, isDone, noIoc, isClear, noCross, hasNumbers, isBook, hasDecision, isMarket}
+use Rattle.table.specs.Market.{every, isPadded, isText, hasLength, hasNames, isEntry, hasList, hasSettings, hasNext, hasWork, hasSpare, restZero, isCapacity, isClass, isRecord, isRanged, isKnown, isWithin, isShut, isPriced, isOrder, hasOrders, isFreshId, hasIds, isFresh, areFresh, hasOrderIds, hasPlaces, isDone, noIoc, isClear, noCross, hasNumbers, isBook, hasDecision, isMarket}
 use Rattle.table.specs.Opened.{namedTable, freshTable}
 use Rattle.octets.specs.Characters.{message}
-use Rattle.ruled_out.proofs.Books.{fresh, bookR, bookLeast, bookKill}
+use Rattle.ruled_out.proofs.Books.{fresh, bookR, mixed, bookLeast, bookKill}
 
 -- opens all definitions
 computes : ℕ
-unfolding leAt bytesOf put partAt textAt textBytes sameBytes allZero allUpTo firstFrom isDigit digitOf isTime isTimeLength timeShaped timeRanged twoAt openOf meets opposed opposedTo countOf sumOver minimumOf mayMinimum entries entryOf isListed modeOf mpidBytes orderAt filled ordersFrom bookOf termBytes amountBytes tailBytes fieldBytes recordOf accepted every isPadded isText hasLength hasNames isEntry hasList hasSettings hasNext hasWork hasSpare restZero isCapacity isClass isRecord isRanged isKnown isWithin isShut isPriced isOrder hasOrders isFreshId hasIds isFreshPlace hasPlaces isDone noIoc isClear noCross hasNumbers isBook hasDecision isMarket namedTable freshTable
+unfolding leAt bytesOf put partAt textAt textBytes sameBytes allZero allUpTo firstFrom isDigit digitOf isTime isTimeLength timeShaped timeRanged twoAt openOf meets opposed opposedTo countOf sumOver minimumOf mayMinimum entries entryOf isListed modeOf mpidBytes orderAt filled ordersFrom bookOf termBytes amountBytes tailBytes fieldBytes recordOf accepted every isPadded isText hasLength hasNames isEntry hasList hasSettings hasNext hasWork hasSpare restZero isCapacity isClass isRecord isRanged isKnown isWithin isShut isPriced isOrder hasOrders isFreshId hasIds isFresh areFresh hasOrderIds hasPlaces isDone noIoc isClear noCross hasNumbers isBook hasDecision isMarket namedTable freshTable
 computes = 0
 
 -- a table just opened, and book R's
@@ -74,8 +74,7 @@ heading-unused : isMarket (set (bookR 1) 127 1) ≡ false
 unfolding computes
 heading-unused = refl
 
--- ---- the records: a gap, a byte behind the last one, unused bytes before and behind MinQty, a capacity B, a side 3, an MPID that
--- is not listed
+-- ---- the records: a gap, a byte behind the last one, an unused byte behind MinQty, a capacity B, a side 3, an MPID that is not listed
 gap : isMarket (set (bookR 1) 384 0) ≡ false
 unfolding computes
 gap = refl
@@ -83,10 +82,6 @@ gap = refl
 rest : isMarket (set (bookR 1) 32767 1) ≡ false
 unfolding computes
 rest = refl
-
-record-unused : isMarket (set (bookR 1) 212 1) ≡ false
-unfolding computes
-record-unused = refl
 
 record-rest : isMarket (set (bookR 1) 220 1) ≡ false
 unfolding computes
@@ -137,6 +132,23 @@ ioc-resting = refl
 crossed : isMarket (endWork (bookR 1)) ≡ false
 unfolding computes
 crossed = refl
+
+-- ---- OrderIDs: in any order; none, one twice, one that is not yet given
+orders-mixed : isMarket (mixed 1) ≡ true
+unfolding computes
+orders-mixed = refl
+
+order-zero : isMarket (set (bookR 1) 212 0) ≡ false
+unfolding computes
+order-zero = refl
+
+order-twice : isMarket (set (bookR 1) 340 1) ≡ false
+unfolding computes
+order-twice = refl
+
+order-next : isMarket (set (bookR 1) 724 6) ≡ false
+unfolding computes
+order-next = refl
 
 -- ---- the numbers: eight for four open sells and one more must fit below 1,000,000,000
 numbers-fit : isMarket (putNext (bookR 1) 999999991) ≡ true

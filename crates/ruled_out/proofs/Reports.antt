@@ -16,19 +16,19 @@ use Rattle.request.specs.Session.{kindOf, oneOf, belongs, listed, shapeOf, char
 use Rattle.matching.specs.Matching.{openOf, meets, better, faces, sameOwner, sumOver, countOf, choose, best, partner, prevention, meeting, ending, outcome, preventing, causes, change, happens, workAfter, after, play, run, minimumOf, wouldTrade, misses, decidedAfter, opposed, opposedTo}
 use Rattle.matching.specs.Held.{mayMinimum}
 use Rattle.table.specs.Changes.{played, missesNow, stepEvents, stepWork, numbered, stepped, entered, renewed, taken}
-use Rattle.table.specs.Heading.{entries, entryOf, isListed, modeOf, mpidBytes, endWork}
-use Rattle.table.specs.Market.{every, isPadded, hasLength, hasNames, isEntry, hasList, hasSettings, hasNext, hasWork, hasSpare, restZero, isCapacity, isClass, isRecord, isRanged, isKnown, isWithin, isShut, isPriced, isOrder, hasOrders, isFreshId, hasIds, isFreshPlace, hasPlaces, isDone, noIoc, isClear, noCross, hasNumbers, isBook, hasDecision, isMarket, isText as isStoredText}
+use Rattle.table.specs.Heading.{entries, entryOf, isListed, modeOf, mpidBytes, putNext, endWork}
+use Rattle.table.specs.Market.{every, isPadded, hasLength, hasNames, isEntry, hasList, hasSettings, hasNext, hasWork, hasSpare, restZero, isCapacity, isClass, isRecord, isRanged, isKnown, isWithin, isShut, isPriced, isOrder, hasOrders, isFreshId, hasIds, isFresh, areFresh, hasOrderIds, hasPlaces, isDone, noIoc, isClear, noCross, hasNumbers, isBook, hasDecision, isMarket, isText as isStoredText}
 use Rattle.table.specs.Opened.{isName, isNew, isGiven, areGiven, areNames, areSettings, namedTable, freshTable, isOpening, opened}
-use Rattle.table.specs.Orders.{orderAt, filled, ordersFrom, bookOf, idIndex, recordWith, termBytes, amountBytes, tailBytes, recordOf, applied, withdrawn, replaced, accepted, fieldBytes}
+use Rattle.table.specs.Orders.{orderAt, filled, ordersFrom, bookOf, firstRecord, recordWith, recordFor, termBytes, amountBytes, tailBytes, recordOf, applied, withdrawn, replaced, accepted, fieldBytes}
 use Rattle.calls.specs.Checks.{holder, newStands, changeStands, cancelStands, replaceStands}
-use Rattle.calls.specs.Submit.{rejecting, faulted, newRejected, changeRejected, newTaken, replacementTaken, cancelTaken, submitted}
+use Rattle.calls.specs.Submit.{rejecting, faulted, newRejected, changeRejected, newTaken, replacementTaken, cancelTaken, submitted, Submitted}
 use Rattle.calls.specs.Run.{eventReport, eventReports, stepReports, worked, ran}
 use Rattle.calls.specs.Told.{joined}
 use Rattle.report.specs.Fields.{label, written, fieldBytes as writtenField}
 use Rattle.report.specs.Frame.{version, front, trailer, reportBytes}
 use Rattle.report.specs.Parse.{valueAt, fieldAt, hop, placeOf}
 use Rattle.report.specs.Reports.{bodyAt, trailerAt, readFramed, executionFor, kindFor, firstOf, oneReason, readOf, kindOf as kindOfReport, partOf as placeOfTag}
-use Rattle.report.specs.Shapes.{oneIn, wordIn, recordIn, textIn, timeIn}
+use Rattle.report.specs.Shapes.{oneIn, wordIn, orderIdIn, textIn, timeIn}
 use Rattle.report.specs.Slots.{acceptedSlots, replacedSlots, canceledSlots, tradeSlots, cancelRejectSlots}
 use Rattle.rows.specs.Rows.{text, orNumber, digit, orNobody, avgPx, replacedStatus, tradeStatus, statusOf, figuresOf, header, acceptedFields, replacedFields, canceledFields, tradeFields, cancelRejectRow}
 use Rattle.ticket.specs.Tickets.{orStoredAt, stampOn, shownOn, rowOf, ticketOf, unchangedOn, unchangedRow}
@@ -36,11 +36,11 @@ use Rattle.readback.specs.Says.{says}
 use Rattle.report.specs.declared.Part.the-variants.{Nowhere}
 use Rattle.calls.specs.Read.{readNumber}
 use Rattle.octets.specs.Characters.{message}
-use Rattle.ruled_out.proofs.Books.{fresh, bookR, bookLeast, bookKill}
+use Rattle.ruled_out.proofs.Books.{fresh, bookR, mixed, bookLeast, bookKill}
 
 -- opens all definitions
 computes : ℕ
-unfolding leAt bytesOf put partAt textAt textBytes sameBytes allZero allUpTo firstFrom decimal places plain fixed shareOf meanOf bare bareOf exactlyOf amountOf fixedOf isDigit digitOf runOf numberAfter isNumber numOf digitAt isFraction fractionOf sizeOf levelOf isTimeLength twoAt timeShaped timeRanged isTime isText startsTag leading tagOf valueFrom valueLen fieldOf fieldsAfter fieldsFrom stepOf findTag valueOf hasTag repeats cleanFields lastTagOr headedBy ordered headerRight partOf endOf tenAt lengthTrue sumOf checkSum sumTrue garbledMessage bodyPart headOf frameOf bodyOf saidIn lengthIn hasIn refusalOf termsIn requestIn completed agreed bodyAsked headAsked askedOf kindOf oneOf belongs listed shapeOf charSays lookAs judge firstFailing firstMissing minimumClashes firstClashing openOf meets better faces sameOwner sumOver countOf choose best partner prevention meeting ending outcome preventing causes change happens workAfter after play run minimumOf wouldTrade misses decidedAfter mayMinimum opposed opposedTo played missesNow stepEvents stepWork numbered stepped entered renewed taken entries entryOf isListed modeOf mpidBytes every isPadded hasLength hasNames isEntry hasList hasSettings hasNext hasWork hasSpare restZero isCapacity isClass isRecord isRanged isKnown isWithin isShut isPriced isOrder hasOrders isFreshId hasIds isFreshPlace hasPlaces isDone noIoc isClear noCross hasNumbers isBook hasDecision isMarket isStoredText isName isNew isGiven areGiven areNames areSettings namedTable freshTable isOpening opened orderAt filled ordersFrom bookOf idIndex recordWith termBytes amountBytes tailBytes recordOf applied withdrawn replaced accepted fieldBytes holder newStands changeStands cancelStands replaceStands rejecting faulted newRejected changeRejected newTaken replacementTaken cancelTaken submitted eventReport eventReports stepReports worked ran joined label written writtenField version front trailer reportBytes valueAt fieldAt hop placeOf bodyAt trailerAt readFramed executionFor kindFor firstOf oneReason readOf kindOfReport placeOfTag oneIn wordIn recordIn textIn timeIn acceptedSlots replacedSlots canceledSlots tradeSlots cancelRejectSlots text orNumber digit orNobody avgPx replacedStatus tradeStatus statusOf figuresOf header acceptedFields replacedFields canceledFields tradeFields cancelRejectRow orStoredAt stampOn shownOn rowOf ticketOf unchangedOn unchangedRow says
+unfolding leAt bytesOf put partAt textAt textBytes sameBytes allZero allUpTo firstFrom decimal places plain fixed shareOf meanOf bare bareOf exactlyOf amountOf fixedOf isDigit digitOf runOf numberAfter isNumber numOf digitAt isFraction fractionOf sizeOf levelOf isTimeLength twoAt timeShaped timeRanged isTime isText startsTag leading tagOf valueFrom valueLen fieldOf fieldsAfter fieldsFrom stepOf findTag valueOf hasTag repeats cleanFields lastTagOr headedBy ordered headerRight partOf endOf tenAt lengthTrue sumOf checkSum sumTrue garbledMessage bodyPart headOf frameOf bodyOf saidIn lengthIn hasIn refusalOf termsIn requestIn completed agreed bodyAsked headAsked askedOf kindOf oneOf belongs listed shapeOf charSays lookAs judge firstFailing firstMissing minimumClashes firstClashing openOf meets better faces sameOwner sumOver countOf choose best partner prevention meeting ending outcome preventing causes change happens workAfter after play run minimumOf wouldTrade misses decidedAfter mayMinimum opposed opposedTo played missesNow stepEvents stepWork numbered stepped entered renewed taken entries entryOf isListed modeOf mpidBytes every isPadded hasLength hasNames isEntry hasList hasSettings hasNext hasWork hasSpare restZero isCapacity isClass isRecord isRanged isKnown isWithin isShut isPriced isOrder hasOrders isFreshId hasIds isFresh areFresh hasOrderIds hasPlaces isDone noIoc isClear noCross hasNumbers isBook hasDecision isMarket isStoredText isName isNew isGiven areGiven areNames areSettings namedTable freshTable isOpening opened orderAt filled ordersFrom bookOf firstRecord recordWith recordFor termBytes amountBytes tailBytes recordOf applied withdrawn replaced accepted fieldBytes holder newStands changeStands cancelStands replaceStands rejecting faulted newRejected changeRejected newTaken replacementTaken cancelTaken submitted eventReport eventReports stepReports worked ran joined label written writtenField version front trailer reportBytes valueAt fieldAt hop placeOf bodyAt trailerAt readFramed executionFor kindFor firstOf oneReason readOf kindOfReport placeOfTag oneIn wordIn orderIdIn textIn timeIn acceptedSlots replacedSlots canceledSlots tradeSlots cancelRejectSlots text orNumber digit orNobody avgPx replacedStatus tradeStatus statusOf figuresOf header acceptedFields replacedFields canceledFields tradeFields cancelRejectRow orStoredAt stampOn shownOn rowOf ticketOf unchangedOn unchangedRow says
 computes = 0
 
 -- ---- Read
@@ -50,10 +50,18 @@ whole : readNumber (readOf (message "8=FIX.4.2|9=202|35=8|34=1|49=V|50=DJGB|52=2
 unfolding computes
 whole = refl
 
--- 37 is 256, a record that no table has
-record-256 : readNumber (readOf (message "8=FIX.4.2|9=204|35=8|34=1|49=V|50=DJGB|52=20260105-09:00:02|56=P|1=ACC-1|6=0.000000|11=BUY-1|14=0|17=1|20=0|37=256|38=1200|39=0|40=2|44=0.100|47=A|54=1|55=350|59=0|60=20260105-09:00:02|109=10|150=0|151=1200|423=9|8060=1|10=119|") .kind) ≡ 11
+-- 37 has one to nine digits, whatever the number of records, and is not 0
+nine-digits : readNumber (readOf (message "8=FIX.4.2|9=210|35=8|34=1|49=V|50=DJGB|52=20260105-09:00:02|56=P|1=ACC-1|6=0.000000|11=BUY-1|14=0|17=1|20=0|37=999999999|38=1200|39=0|40=2|44=0.100|47=A|54=1|55=350|59=0|60=20260105-09:00:02|109=10|150=0|151=1200|423=9|8060=1|10=216|") .kind) ≡ 0
 unfolding computes
-record-256 = refl
+nine-digits = refl
+
+ten-digits : readNumber (readOf (message "8=FIX.4.2|9=211|35=8|34=1|49=V|50=DJGB|52=20260105-09:00:02|56=P|1=ACC-1|6=0.000000|11=BUY-1|14=0|17=1|20=0|37=1000000000|38=1200|39=0|40=2|44=0.100|47=A|54=1|55=350|59=0|60=20260105-09:00:02|109=10|150=0|151=1200|423=9|8060=1|10=185|") .kind) ≡ 11
+unfolding computes
+ten-digits = refl
+
+order-zero : readNumber (readOf (message "8=FIX.4.2|9=202|35=8|34=1|49=V|50=DJGB|52=20260105-09:00:02|56=P|1=ACC-1|6=0.000000|11=BUY-1|14=0|17=1|20=0|37=0|38=1200|39=0|40=2|44=0.100|47=A|54=1|55=350|59=0|60=20260105-09:00:02|109=10|150=0|151=1200|423=9|8060=1|10=008|") .kind) ≡ 11
+unfolding computes
+order-zero = refl
 
 -- a CheckSum of two digits
 short-sum : readNumber (readOf (message "8=FIX.4.2|9=202|35=8|34=1|49=V|50=DJGB|52=20260105-09:00:02|56=P|1=ACC-1|6=0.000000|11=BUY-1|14=0|17=1|20=0|37=7|38=1200|39=0|40=2|44=0.100|47=A|54=1|55=350|59=0|60=20260105-09:00:02|109=10|150=0|151=1200|423=9|8060=1|10=15|") .kind) ≡ 11
@@ -134,6 +142,14 @@ trade-told : trade-says (ran (bookR 3) 262144 1 .reports) ≡ 6 ∷ 7 ∷ 10 ∷
 unfolding computes
 trade-told = refl
 
+-- 37 is the OrderID of the report's own order: that of record 1 is 3, that of record 5 is 1
+abbrev trade-orders : List (List ℕ) → List ℕ
+trade-orders rs = told rs 0 37 ∷ told rs 1 37 ∷ []
+
+trade-37 : trade-orders (ran (mixed 3) 262144 1 .reports) ≡ 3 ∷ 1 ∷ []
+unfolding computes
+trade-37 = refl
+
 -- of the decrement, the sixth report: 34, 38, which stays 1,200, and 151, which falls to 700
 abbrev decrement-says : List (List ℕ) → List ℕ
 decrement-says rs = told rs 5 34 ∷ told rs 5 38 ∷ told rs 5 151 ∷ []
@@ -164,11 +180,18 @@ trade-minimums = refl
 
 -- ---- what the reports of Submit say, while a buy of 100 rests that has ClOrdID a
 
+abbrev buy : List ℕ
+buy = message "8=FIX.4.2|9=122|35=D|34=1|49=P|52=20260105-09:00:00|56=V|11=a|21=1|38=100|40=2|44=0.100|47=A|54=1|55=350|59=0|60=20260105-09:00:00|8060=1|10=115|"
+
 abbrev rests : List ℕ
-rests = endWork (submitted (fresh 1) (message "8=FIX.4.2|9=122|35=D|34=1|49=P|52=20260105-09:00:00|56=V|11=a|21=1|38=100|40=2|44=0.100|47=A|54=1|55=350|59=0|60=20260105-09:00:00|8060=1|10=115|") 1024 .table)
+rests = endWork (submitted (fresh 1) buy 1024 .table)
+
+-- a cancel that gives another side
+abbrev side-two : List ℕ
+side-two = message "8=FIX.4.2|9=84|35=F|34=2|49=P|52=20260105-09:00:00|56=V|11=b|41=a|54=2|55=350|60=20260105-09:00:00|10=219|"
 
 -- 102 is 2 for another side, and 0 where nothing is open
-other-side : told (submitted rests (message "8=FIX.4.2|9=84|35=F|34=2|49=P|52=20260105-09:00:00|56=V|11=b|41=a|54=2|55=350|60=20260105-09:00:00|10=219|") 1024 .reports) 0 102 ≡ 2
+other-side : told (submitted rests side-two 1024 .reports) 0 102 ≡ 2
 unfolding computes
 other-side = refl
 
@@ -185,8 +208,10 @@ named tag [] = []
 named tag (r ∷ rs) = valueOf r tag
 
 -- a Replaced names the ClOrdID before
+abbrev replacement : List ℕ
+replacement = message "8=FIX.4.2|9=110|35=G|34=2|49=P|52=20260105-09:00:00|56=V|11=b|21=1|38=100|40=2|41=a|44=0.101|54=1|55=350|60=20260105-09:00:00|10=119|"
 
-replaced-41 : named 41 (submitted rests (message "8=FIX.4.2|9=110|35=G|34=2|49=P|52=20260105-09:00:00|56=V|11=b|21=1|38=100|40=2|41=a|44=0.101|54=1|55=350|60=20260105-09:00:00|10=119|") 1024 .reports) ≡ message "a"
+replaced-41 : named 41 (submitted rests replacement 1024 .reports) ≡ message "a"
 unfolding computes
 replaced-41 = refl
 
@@ -198,3 +223,23 @@ accepted-59 = refl
 accepted-110 : named 110 (submitted (fresh 1) (message "8=FIX.4.2|9=132|35=D|34=1|49=P|52=20260101-09:00:00|56=V|11=A1|21=1|38=100|40=2|44=0.101|47=A|54=2|55=350|59=3|60=20260101-09:00:00|110=0007|8060=1|10=025|") 1024 .reports) ≡ message "7"
 unfolding computes
 accepted-110 = refl
+
+-- ---- 37, where the buy is record 1 and its Accepted report number 7: the Accepted, the Replaced that is number 8, a Cancel reject
+
+abbrev seventh : Submitted
+seventh = submitted (putNext (fresh 1) 7) buy 1024
+
+abbrev later : List ℕ
+later = endWork (seventh .table)
+
+accepted-37 : told (seventh .reports) 0 37 ≡ 7
+unfolding computes
+accepted-37 = refl
+
+replaced-37 : told (submitted later replacement 1024 .reports) 0 37 ≡ 7
+unfolding computes
+replaced-37 = refl
+
+reject-37 : told (submitted later side-two 1024 .reports) 0 37 ≡ 7
+unfolding computes
+reject-37 = refl

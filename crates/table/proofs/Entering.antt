@@ -1,146 +1,196 @@
--- A new order is written as the next record: the table stays formed, and its book is the old one with the order added.
+-- A new order is written as a record, the next one or that of an order with nothing open: the table stays formed, its OrderIDs are
+-- those of the other records and the next number, and its book is the old one with the order put there.
 use mathlib.Core.Path.{_≡_, sym, ap, _∙_}
 use mathlib.Core.Bool.{true, false}
 use mathlib.Core.List.{List}
 use mathlib.Core.Logic.{⊎-elim}
-use Prim.Native.Nat.{ℕ, suc, _+_, _*_, _-_, _≤_, _<_}
+use Prim.Native.Nat.{ℕ, suc, _+_, _*_, _-_, _^_, _≤_, _<_}
 use native.Mathlib.Omega.{arith}
-use lib.Dec.{lit≤}
+use lib.Dec.{eqb, lit≤}
 use lib.ListN.{length, getD, drop}
 use lib.Seq.{getD-drop}
-use Rattle.octets.specs.Octets.{partAt, textBytes, sameBytes, allZero}
+use borrow.Author.Tests.{eqb-true, eqb-false}
+use Rattle.octets.specs.Octets.{textBytes, sameBytes, allZero}
+use Rattle.octets.proofs.Bools.{split}
 use Rattle.octets.proofs.Places.{below-or, length-put}
-use Rattle.octets.proofs.Parts.{text-put-first, getD-part, length-part}
+use Rattle.octets.proofs.Parts.{text-put-first}
 use Rattle.octets.proofs.Zeros.{zero-at, zero-from}
 use Rattle.matching.specs.declared.Order.{Order}
 use Rattle.matching.specs.Matching.{put as putOrder}
+use Rattle.matching.specs.Held.{In, Takes}
+use Rattle.matching.proofs.Conserved.{takes-low, takes-high}
+use Rattle.matching.proofs.Requests.{takes-more, takes-in, takes-back, takes-most}
 use Rattle.table.specs.Places.{recordAt}
 use Rattle.table.specs.Heading.{isListed}
-use Rattle.table.specs.Orders.{clOrdIdAt, filled, bookOf, putId, accepted}
+use Rattle.table.specs.Orders.{clOrdIdAt, orderIdAt, filled, bookOf, putId, recordOf, accepted}
 use Rattle.table.specs.Market.{every, isPrintable, restZero, isCapacity, isClass, isRecord}
-use Rattle.table.specs.Facts.{Named}
-use Rattle.table.proofs.Same.{Same, same-in, same-then, put-below, is-text-same, part-same, rest-same, record-parts, order-same, id-same, settings-same, spare-same, listed-same}
-use Rattle.table.proofs.Stores.{Sized, putTexts, accepted-texts, accepted-before, accepted-behind, accepted-id, accepted-capacity, accepted-class, accepted-gap, accepted-order}
-use Rattle.table.proofs.Books.{book-added}
+use Rattle.table.specs.Facts.{FreshNumbers, Named}
+use Rattle.table.proofs.Same.{Same, same-in, same-then, put-below, put-above, is-text-same, rest-same, record-parts, order-same, id-same, order-id-same, settings-same, spare-same, listed-same, filled-few}
+use Rattle.table.proofs.Stores.{Sized, putTexts, length-record, accepted-texts, accepted-behind, accepted-id, accepted-order-id, accepted-capacity, accepted-class, accepted-spare, accepted-order}
+use Rattle.table.proofs.Books.{length-book, book-put}
 use Rattle.table.proofs.Texts.{is-text-put}
+use Rattle.table.proofs.Fresh.{fresh-taken}
 use Rattle.table.proofs.Frames.{Formed, filled-byte, filled-is, id-short}
-use Rattle.table.proofs.Naming.{rest-zero, zero-rest, parts-record}
+use Rattle.table.proofs.Naming.{same-flip, rest-zero, zero-rest, parts-record}
 
--- where the rest of a table is zero, so is each byte and each part of it
+-- where the rest of a table is zero, so is each byte of it, and what is left behind a later place
 zero-byte : (t : List ℕ) (q p : ℕ) → allZero (drop q t) ≡ true → q ≤ p → getD t p 0 ≡ 0
 zero-byte t q p h l =
     let e : q + (p - q) ≡ p = omega arith in
     ap (λ (k : ℕ). getD t k 0) (sym e) ∙ sym (getD-drop q t (p - q) 0) ∙ zero-at (drop q t) h (p - q)
 
-zero-part : (t : List ℕ) (q p n : ℕ) → allZero (drop q t) ≡ true → q ≤ p → p + n ≤ length t → allZero (partAt t p n) ≡ true
-zero-part t q p n h l room =
-    zero-from (partAt t p n) (λ k m. getD-part t p n k (omega (arith, length-part t p n room)) ∙ zero-byte t q (p + k) h (omega arith))
-
 zero-later : (t : List ℕ) (q p : ℕ) → allZero (drop q t) ≡ true → q ≤ p → allZero (drop p t) ≡ true
 zero-later t q p h l = zero-from (drop p t) (λ k m. getD-drop p t k 0 ∙ zero-byte t q (p + k) h (omega arith))
 
--- the table with the new record
-abbrev pub withRecord : List ℕ → List ℕ → List ℕ → ℕ → ℕ → Order → List ℕ
-withRecord t clOrdId account capacity class o = accepted t (filled t + 1) clOrdId account capacity class o
+-- the order o is written as record k of t, which it may take, with a new OrderID and ClOrdID
+module _ (t : List ℕ) (k orderId : ℕ) (clOrdId account : List ℕ) (capacity class : ℕ) (o : Order) (f : Formed t) (x : Takes (bookOf t) k) (small : k ≤ 255)
+    (g : Named t clOrdId) (few : length account ≤ 10) (printable : every isPrintable account ≡ true) (a : isCapacity capacity ≡ true) (b : isClass class ≡ true)
+    (some : 1 ≤ orderId) (sized : orderId < 256 ^ 4) where
+  -- the table afterwards, and its number of filled records
+  abbrev pub after : List ℕ
+  after = accepted t k orderId clOrdId account capacity class o
 
-module _ (t : List ℕ) (clOrdId account : List ℕ) (capacity class : ℕ) (o : Order) (f : Formed t) (free : filled t < 255) (g : Named t clOrdId)
-    (few : length account ≤ 10) (printable : every isPrintable account ≡ true) (a : isCapacity capacity ≡ true) (b : isClass class ≡ true) where
-  room : recordAt (filled t + 1) + 128 ≤ length t
+  abbrev pub count : ℕ
+  count = length (putOrder (bookOf t) k o)
+
+  low : 1 ≤ k
+  low = takes-low (bookOf t) k x
+
+  inside : k ≤ count
+  inside = takes-in (bookOf t) k o x .high
+
+  most : count ≤ 255
+  most = takes-most (bookOf t) k o x small (omega (arith, length-book t, filled-few t))
+
+  more : filled t ≤ count
+  more = omega (arith, takes-more (bookOf t) k o x, length-book t)
+
+  -- every other record was there before
+  others : (i : ℕ) → 1 ≤ i → i ≤ count → (i ≡ k → ⊥) → i ≤ filled t
+  others i l h n = omega (arith, takes-back (bookOf t) k o x i n (record { low = l; high = h }) .high, length-book t)
+
+  room : recordAt k + 128 ≤ length t
   room = omega (arith, f .long)
 
   -- all bytes but those of the record are as they were
-  pub entered-before : Same (withRecord t clOrdId account capacity class o) t 0 (128 * (filled t + 1))
-  entered-before = accepted-before t (filled t + 1) clOrdId account capacity class o (g .short) few room
+  pub entered-heading : Same after t 0 128
+  unfolding accepted
+  entered-heading = let l = low in put-below t (128 * k) (recordOf orderId clOrdId account capacity class o) 0 128 (omega arith)
 
-  pub entered-heading : Same (withRecord t clOrdId account capacity class o) t 0 128
-  entered-heading = same-in 0 128 entered-before (lit≤ tt) (omega arith)
+  entered-behind : (e : ℕ) → Same after t (128 * k + 128) e
+  entered-behind = accepted-behind t k orderId clOrdId account capacity class o (g .short) few room
 
-  entered-behind : (e : ℕ) → Same (withRecord t clOrdId account capacity class o) t (128 * (filled t + 1) + 92) e
-  entered-behind = accepted-behind t (filled t + 1) clOrdId account capacity class o (g .short) few room
-
-  entered-other : (i : ℕ) → i ≤ filled t → Same (withRecord t clOrdId account capacity class o) t (128 * i) (128 * i + 128)
-  entered-other i h = same-in (128 * i) (128 * i + 128) entered-before (omega arith) (omega arith)
+  entered-other : (i : ℕ) → (i ≡ k → ⊥) → Same after t (128 * i) (128 * i + 128)
+  unfolding accepted
+  entered-other i n =
+      let s = length-record t k orderId clOrdId account capacity class o (g .short) few room in
+      ⊎-elim (λ (l : k < i). put-above t (128 * k) (recordOf orderId clOrdId account capacity class o) (128 * i) (128 * i + 128) (omega arith))
+      (λ (l : i ≤ k). put-below t (128 * k) (recordOf orderId clOrdId account capacity class o) (128 * i) (128 * i + 128) (omega arith)) (below-or k i)
 
   -- its texts
-  texts : Same (withRecord t clOrdId account capacity class o) (putTexts t (filled t + 1) clOrdId account) (128 * (filled t + 1)) (128 * (filled t + 1) + 44)
-  texts = accepted-texts t (filled t + 1) clOrdId account capacity class o (g .short) few room
+  texts : Same after (putTexts t k clOrdId account) (128 * k) (128 * k + 44)
+  texts = accepted-texts t k orderId clOrdId account capacity class o (g .short) few room
 
-  id-texts : Same (withRecord t clOrdId account capacity class o) (putId t (filled t + 1) clOrdId) (128 * (filled t + 1)) (128 * (filled t + 1) + 33)
+  id-texts : Same after (putId t k clOrdId) (128 * k) (128 * k + 33)
   id-texts =
-      same-then (same-in (128 * (filled t + 1)) (128 * (filled t + 1) + 33) texts (omega arith) (omega arith))
-      (put-below (putId t (filled t + 1) clOrdId) (128 * (filled t + 1) + 33) (textBytes 10 account) (128 * (filled t + 1)) (128 * (filled t + 1) + 33) (omega arith))
+      same-then (same-in (128 * k) (128 * k + 33) texts (omega arith) (omega arith))
+      (put-below (putId t k clOrdId) (128 * k + 33) (textBytes 10 account) (128 * k) (128 * k + 33) (omega arith))
 
-  entered-byte : getD (withRecord t clOrdId account capacity class o) (128 * (filled t + 1)) 0 ≡ length clOrdId
+  entered-byte : getD after (128 * k) 0 ≡ length clOrdId
   entered-byte =
-      id-texts .byte (128 * (filled t + 1)) (omega arith) (omega arith)
-      ∙ text-put-first 32 t (128 * (filled t + 1)) clOrdId (omega (arith, room)) (g .short)
+      id-texts .byte (128 * k) (omega arith) (omega arith)
+      ∙ text-put-first 32 t (128 * k) clOrdId (omega (arith, room)) (g .short)
 
-  -- one more record is filled
-  pub entered-filled : filled (withRecord t clOrdId account capacity class o) ≡ filled t + 1
+  -- as many records are filled as the book has orders then
+  pub entered-filled : filled after ≡ count
   entered-filled =
-      filled-is (withRecord t clOrdId account capacity class o) (filled t + 1) (omega arith)
+      filled-is after count most
       (λ i l h e.
-      ⊎-elim
-      (λ (x : filled t < i).
-      let q : i ≡ filled t + 1 = omega arith in
-      let y : getD (withRecord t clOrdId account capacity class o) (128 * (filled t + 1)) 0 ≡ 0 = rw q at e in
+      split (eqb i k)
+      (λ z.
+      let q = eqb-true i k z in
+      let y : getD after (128 * k) 0 ≡ 0 = rw q at e in
       omega (arith, entered-byte, g .some))
-      (λ (x : i ≤ filled t). filled-byte t i l x (sym (entered-other i x .byte (128 * i) (omega arith) (omega arith)) ∙ e))
-      (below-or (filled t) i))
+      (λ z.
+      let n = eqb-false i k z in
+      filled-byte t i l (others i l h n) (sym (entered-other i n .byte (128 * i) (omega arith) (omega arith)) ∙ e)))
       (λ h.
-      entered-behind (length t) .byte (128 * (filled t + 1 + 1)) (omega arith) (omega (arith, f .long))
-      ∙ zero-byte t (128 * (filled t + 1)) (128 * (filled t + 1 + 1)) (rest-zero t (f .rest)) (omega arith))
+      let u = inside in
+      let v = more in
+      entered-other (count + 1) (λ e. omega arith) .byte (128 * (count + 1)) (omega arith) (omega arith)
+      ∙ zero-byte t (128 * (filled t + 1)) (128 * (count + 1)) (rest-zero t (f .rest)) (omega arith))
 
-  new-record : isRecord (withRecord t clOrdId account capacity class o) (filled t + 1) ≡ true
+  -- the OrderIDs afterwards
+  pub entered-order-id : orderIdAt after k ≡ orderId
+  entered-order-id = accepted-order-id t k orderId clOrdId account capacity class o (g .short) few room sized
+
+  other-order-id : (i : ℕ) → (i ≡ k → ⊥) → orderIdAt after i ≡ orderIdAt t i
+  other-order-id i n = order-id-same i (same-in (128 * i + 84) (128 * i + 128) (entered-other i n) (omega arith) (omega arith))
+
+  pub entered-order-ids : FreshNumbers (orderIdAt t) orderId (filled t) → FreshNumbers (orderIdAt after) (orderId + 1) (filled after)
+  entered-order-ids h =
+      let e = entered-filled in
+      rw e
+      (fresh-taken (orderIdAt t) (orderIdAt after) orderId (filled t) count k
+      (λ i l m n. (others i l m n, other-order-id i n)) entered-order-id h)
+
+  new-record : isRecord after k ≡ true
   new-record =
-      let u : List ℕ = withRecord t clOrdId account capacity class o in
-      let p : ℕ = 128 * (filled t + 1) in
+      let p : ℕ = 128 * k in
       let long = length-put t p (textBytes 32 clOrdId) in
-      let c = accepted-capacity t (filled t + 1) clOrdId account capacity class o (g .short) few room in
-      let d = accepted-class t (filled t + 1) clOrdId account capacity class o (g .short) few room in
-      parts-record u (filled t + 1)
+      let c = accepted-capacity t k orderId clOrdId account capacity class o (g .short) few room in
+      let d = accepted-class t k orderId clOrdId account capacity class o (g .short) few room in
+      parts-record after k
       (is-text-same isPrintable 1 32 p (p + 33) id-texts (omega arith)
       ∙ is-text-put 32 t p clOrdId (omega (arith, room)) (g .short) isPrintable 1 (g .some) (g .printable))
       (is-text-same isPrintable 0 10 (p + 33) (p + 44) (same-in (p + 33) (p + 44) texts (omega arith) (omega arith)) (omega arith)
-      ∙ is-text-put 10 (putId t (filled t + 1) clOrdId) (p + 33) account (omega (arith, room)) few isPrintable 0 (omega arith) printable)
+      ∙ is-text-put 10 (putId t k clOrdId) (p + 33) account (omega (arith, room)) few isPrintable 0 (omega arith) printable)
       (rw c a) (rw d b)
-      (accepted-gap t (filled t + 1) clOrdId account capacity class o (g .short) few room)
-      (ap allZero (part-same (p + 92) 36 (p + 128) (entered-behind (p + 128)) (omega arith))
-      ∙ zero-part t p (p + 92) 36 (rest-zero t (f .rest)) (omega arith) (omega (arith, room)))
+      (rw entered-order-id some)
+      (accepted-spare t k orderId clOrdId account capacity class o (g .short) few room)
 
-  entered-record : (i : ℕ) → 1 ≤ i → i ≤ filled t + 1 → isRecord (withRecord t clOrdId account capacity class o) i ≡ true
+  entered-record : (i : ℕ) → 1 ≤ i → i ≤ count → isRecord after i ≡ true
   entered-record i l h =
-      ⊎-elim
-      (λ (x : filled t < i). let q : i ≡ filled t + 1 = omega arith in rw q new-record)
-      (λ (x : i ≤ filled t).
-      let s = entered-other i x in
+      split (eqb i k)
+      (λ z. let q = eqb-true i k z in rw q new-record)
+      (λ z.
+      let n = eqb-false i k z in
+      let s = entered-other i n in
       record-parts i (same-in (128 * i) (128 * i + 44) s (omega arith) (omega arith)) (same-in (128 * i + 46) (128 * i + 48) s (omega arith) (omega arith))
       (same-in (128 * i + 84) (128 * i + 128) s (omega arith) (omega arith))
-      ∙ f .records i l x)
-      (below-or (filled t) i)
+      ∙ f .records i l (others i l h n))
 
   -- the ClOrdIDs afterwards
-  pub entered-id : clOrdIdAt (withRecord t clOrdId account capacity class o) (filled t + 1) ≡ clOrdId
-  entered-id = accepted-id t (filled t + 1) clOrdId account capacity class o (g .short) few room
+  pub entered-id : clOrdIdAt after k ≡ clOrdId
+  entered-id = accepted-id t k orderId clOrdId account capacity class o (g .short) few room
 
-  entered-keeps : (i : ℕ) → 1 ≤ i → i ≤ filled t → clOrdIdAt (withRecord t clOrdId account capacity class o) i ≡ clOrdIdAt t i
-  entered-keeps i l h =
-      id-same i (same-in (128 * i) (128 * i + 33) (entered-other i h) (omega arith) (omega arith)) (id-short t i (f .records i l h))
+  pub entered-keeps : (i : ℕ) → 1 ≤ i → i ≤ count → (i ≡ k → ⊥) → clOrdIdAt after i ≡ clOrdIdAt t i
+  entered-keeps i l h n =
+      id-same i (same-in (128 * i) (128 * i + 33) (entered-other i n) (omega arith) (omega arith)) (id-short t i (f .records i l (others i l h n)))
 
-  entered-ids : (j k : ℕ) → 1 ≤ j → j < k → k ≤ filled t + 1
-      → sameBytes (clOrdIdAt (withRecord t clOrdId account capacity class o) j) (clOrdIdAt (withRecord t clOrdId account capacity class o) k) ≡ false
-  entered-ids j k l h m =
-      let x = entered-keeps j l (omega arith) in
-      ⊎-elim
-      (λ (z : filled t < k).
-      let q : k ≡ filled t + 1 = omega arith in
-      let y : clOrdIdAt (withRecord t clOrdId account capacity class o) k ≡ clOrdId = rw q entered-id in
-      rw (x, y) (g .fresh j l (omega arith)))
-      (λ (z : k ≤ filled t). let y = entered-keeps k (omega arith) z in rw (x, y) (f .ids j k l h z))
-      (below-or (filled t) k)
+  entered-ids : (i j : ℕ) → 1 ≤ i → i < j → j ≤ count → sameBytes (clOrdIdAt after i) (clOrdIdAt after j) ≡ false
+  entered-ids i j l h m =
+      split (eqb i k)
+      (λ z.
+      let q = eqb-true i k z in
+      let c : clOrdIdAt after i ≡ clOrdId = rw q entered-id in
+      let d = entered-keeps j (omega arith) m (λ e. omega arith) in
+      rw (c, d) (same-flip _ _ (g .fresh j (omega arith) (others j (omega arith) m (λ e. omega arith)))))
+      (λ z.
+      let u = eqb-false i k z in
+      let c = entered-keeps i l (omega arith) u in
+      split (eqb j k)
+      (λ y.
+      let q = eqb-true j k y in
+      let d : clOrdIdAt after j ≡ clOrdId = rw q entered-id in
+      rw (c, d) (g .fresh i l (others i l (omega arith) u)))
+      (λ y.
+      let v = eqb-false j k y in
+      let d = entered-keeps j (omega arith) m v in
+      rw (c, d) (f .ids i j l h (others j (omega arith) m v))))
 
   -- the table is formed
-  pub entered-formed : Formed (withRecord t clOrdId account capacity class o)
+  pub entered-formed : Formed after
   entered-formed =
       let e = entered-filled in
       let s = entered-heading in
@@ -149,23 +199,27 @@ module _ (t : List ℕ) (clOrdId account : List ℕ) (capacity class : ℕ) (o :
         settings = settings-same (same-in 0 28 s (lit≤ tt) (lit≤ tt)) (same-in 56 96 s (lit≤ tt) (lit≤ tt)) ∙ f .settings;
         spare = spare-same (same-in 55 56 s (lit≤ tt) (lit≤ tt)) (same-in 97 128 s (lit≤ tt) (lit≤ tt)) ∙ f .spare;
         rest = rest;
-        records = λ i l h. entered-record i l (omega arith);
-        ids = λ j k l h m. entered-ids j k l h (omega arith);
+        records = λ i l h. entered-record i l (rw e at h);
+        ids = λ i j l h m. entered-ids i j l h (rw e at m);
       }
     where
-      rest : restZero (withRecord t clOrdId account capacity class o) ≡ true
+      rest : restZero after ≡ true
       rest =
-          let p : ℕ = 128 * (filled t + 1 + 1) in
+          let u = inside in
+          let v = more in
+          let p : ℕ = 128 * (count + 1) in
           let d = rest-same p (same-in p (length t) (entered-behind (length t)) (omega arith) (omega arith)) in
-          zero-rest (withRecord t clOrdId account capacity class o) (filled t + 1) entered-filled
+          zero-rest after count entered-filled
           (rw d (zero-later t (128 * (filled t + 1)) p (rest-zero t (f .rest)) (omega arith)))
 
   -- the book, and who is listed
-  pub entered-book : Sized o → bookOf (withRecord t clOrdId account capacity class o) ≡ putOrder (bookOf t) (suc (length (bookOf t))) o
+  pub entered-book : Sized o → bookOf after ≡ putOrder (bookOf t) k o
   entered-book z =
-      book-added t (withRecord t clOrdId account capacity class o) o entered-filled
-      (accepted-order t (filled t + 1) clOrdId account capacity class o (g .short) few room z)
-      (λ i l h. order-same i (same-in (128 * i + 44) (128 * i + 92) (entered-other i h) (omega arith) (omega arith)))
+      let e = entered-filled in
+      book-put t after k o low (takes-high (bookOf t) k x) e
+      (accepted-order t k orderId clOrdId account capacity class o (g .short) few room z)
+      (λ j l h n. others j l (rw e at h) n)
+      (λ j l h n. order-same j (same-in (128 * j + 44) (128 * j + 92) (entered-other j n) (omega arith) (omega arith)))
 
-  pub entered-listed : isListed (withRecord t clOrdId account capacity class o) ≡ isListed t
+  pub entered-listed : isListed after ≡ isListed t
   entered-listed = λ j m. listed-same (same-in 56 96 entered-heading (lit≤ tt) (lit≤ tt)) m j

@@ -19,10 +19,11 @@ use Rattle.matching.specs.Matching.{Book, none, at, openOf, isBuy, isOpen, isIm
 use Rattle.matching.specs.Held.{Sound, In, Held}
 use Rattle.matching.proofs.Books.{open-low, open-high}
 use Rattle.table.specs.Heading.{nextOf, workOf, isListed}
-use Rattle.table.specs.Orders.{clOrdIdAt, orderAt, filled, bookOf}
-use Rattle.table.specs.Market.{hasLength, hasNext, hasWork, isRecord, isRanged, isKnown, isWithin, isShut, isPriced, isOrder, hasOrders, isFreshId, hasIds, isFreshPlace, hasPlaces, isDone, noIoc, isClear, noCross, hasNumbers, isBook, isMarket}
-use Rattle.table.specs.Facts.{Market}
+use Rattle.table.specs.Orders.{clOrdIdAt, orderIdAt, orderAt, filled, bookOf}
+use Rattle.table.specs.Market.{hasLength, hasNext, hasWork, isRecord, isRanged, isKnown, isWithin, isShut, isPriced, isOrder, hasOrders, isFreshId, hasIds, hasOrderIds, hasPlaces, isDone, noIoc, isClear, noCross, hasNumbers, isBook, isMarket}
+use Rattle.table.specs.Facts.{FreshNumbers, Market}
 use Rattle.table.proofs.Books.{length-book, at-book}
+use Rattle.table.proofs.Fresh.{fresh-facts, facts-fresh}
 
 -- ---- tests taken apart
 
@@ -121,35 +122,6 @@ module _ (b : Book) (w next : ℕ) where
   or-work : (k : ℕ) (x : Bool) → ((k ≡ w → ⊥) → x ≡ true) → (eqb k w || x) ≡ true
   or-work k x h = split (eqb k w) (λ e. or-l (eqb k w) x e) (λ e. or-second (eqb k w) x (h (eqb-false k w e)))
 
-  -- places
-  place-facts : hasPlaces b next ≡ true → (k : ℕ) → 1 ≤ k → k ≤ length b
-      → (at b k .place < next) × ((j : ℕ) → 1 ≤ j → j < k → at b j .place ≡ at b k .place → ⊥)
-  unfolding hasPlaces isFreshPlace
-  place-facts h zero l m = absurd (omega arith)
-  place-facts h (suc k) l m =
-      let f = all-at (λ j. ltb (at b (suc j) .place) next && isFreshPlace b j) (length b) h k m in (
-        ltb-true _ _ (both-l _ (isFreshPlace b k) f),
-        λ j i g e. eqb-false _ _ (not-true _ (upto-at (λ (i : ℕ). not (eqb (at b i .place) (at b (suc k) .place))) k (both-r (ltb (at b (suc k) .place) next) _ f) j i (omega arith))) e,
-      )
-
-  apart : hasPlaces b next ≡ true → (j k : ℕ) → In b j → In b k → at b j .place ≡ at b k .place → j ≡ k
-  apart h j k jl kl e =
-      ⊎-elim (λ (l : j < k). absurd (place-facts h k (kl .low) (kl .high) .1 j (jl .low) l e))
-      (λ (l : k ≤ j).
-      ⊎-elim (λ (m : k < j). absurd (place-facts h j (jl .low) (jl .high) .1 k (kl .low) m (sym e)))
-      (λ (m : j ≤ k). omega arith) (below-or k j))
-      (below-or j k)
-
-  facts-place : ((k : ℕ) → 1 ≤ k → k ≤ length b → at b k .place < next)
-      → ((j k : ℕ) → 1 ≤ j → j < k → k ≤ length b → at b j .place ≡ at b k .place → ⊥) → hasPlaces b next ≡ true
-  unfolding hasPlaces isFreshPlace
-  facts-place p q =
-      all-from (λ j. ltb (at b (suc j) .place) next && isFreshPlace b j) (length b)
-      (λ k l.
-      both-i (lt-ltb _ _ (p (suc k) (omega arith) l))
-      (all-from (λ i. not (eqb (at b (suc i) .place) (at b (suc k) .place))) k
-      (λ i h. not-i (ne-eqb _ _ (q (suc i) (suc k) (omega arith) (omega arith) l)))))
-
   -- no IOC is open
   done-facts : noIoc b w ≡ true → (k : ℕ) → 1 ≤ k → k ≤ length b → (k ≡ w → ⊥) → isImmediate (at b k) ≡ true → openOf (at b k) ≡ 0
   unfolding noIoc
@@ -194,6 +166,15 @@ module _ (b : Book) (w next : ℕ) where
       split (isOpen (at b w))
       (λ e. or-second (not (isOpen (at b w))) _ (le-leb _ _ (h (ltb-true 0 (openOf (at b w)) e))))
       (λ e. or-l (not (isOpen (at b w))) (leb (next + 2 * opposedTo b w + 1) 1000000000) (not-i e))
+
+-- places
+place-facts : (b : Book) (next : ℕ) → hasPlaces b next ≡ true → FreshNumbers (λ i. at b i .place) next (length b)
+unfolding hasPlaces
+place-facts b next h = fresh-facts (λ i. at b i .place) next (length b) h
+
+facts-place : (b : Book) (next : ℕ) → FreshNumbers (λ i. at b i .place) next (length b) → hasPlaces b next ≡ true
+unfolding hasPlaces
+facts-place b next h = facts-fresh (λ i. at b i .place) next (length b) h
 
 -- an order out of the book is not immediate
 ioc-in : (b : Book) (k : ℕ) → isImmediate (at b k) ≡ true → (1 ≤ k) × (k ≤ length b)
@@ -257,7 +238,8 @@ module _ (t : List ℕ) where
       let x : ℕ = nextOf t in
       let size : length b ≡ filled t = length-book t in
       let within = work-within g in
-      let p : hasPlaces b x ≡ true = search (both-l, both-r) in
+      let a : hasPlaces b x ≡ true = search (both-l, both-r) in
+      let p = place-facts b x a in
       let i : noIoc b w ≡ true = search (both-l, both-r) in
       let c : noCross b w ≡ true = search (both-l, both-r) in
       let m : hasNumbers b w x ≡ true = search (both-l, both-r) in
@@ -265,8 +247,8 @@ module _ (t : List ℕ) where
         work = omega arith;
         sound = λ k l. rw (at-book t k (l .low) (omega (arith, l .high))) (order-sound k (is k (l .low) (omega (arith, l .high))));
         owned = λ k l. rw (at-book t k (l .low) (omega (arith, l .high))) (order-known k (is k (l .low) (omega (arith, l .high))));
-        places-apart = λ j k jl kl e. apart b w x p j k jl kl e;
-        places-below = λ k l. place-facts b w x p k (l .low) (l .high) .0;
+        places-apart = λ j k jl kl e. p .apart j k (jl .low) (jl .high) (kl .low) (kl .high) e;
+        places-below = λ k l. p .below k (l .low) (l .high);
         no-ioc = λ k nk e. let l = ioc-in b k e in done-facts b w x i k (l .0) (l .1) nk e;
         uncrossed = λ j k nj nk bj bk oj ok.
             clear-order (at b j) (at b k) (cross-facts b w x c j k (open-low b j oj) (open-high b j oj) (open-low b k ok) (open-high b k ok) nj nk) bj bk oj ok;
@@ -281,32 +263,42 @@ module _ (t : List ℕ) where
       let w : ℕ = workOf t in
       let x : ℕ = nextOf t in
       both-i (both-i (both-i
-      (facts-place b w x (λ k l m. h .places-below k (record { low = l; high = m }))
-      (λ j k l m n e.
-      let q : j ≡ k = h .places-apart j k (record { low = l; high = omega arith }) (record { low = omega arith; high = n }) e in
-      omega arith))
+      (facts-place b x
+      (record {
+        below = λ k l m. h .places-below k (record { low = l; high = m });
+        apart = λ j k l m n o e. h .places-apart j k (record { low = l; high = m }) (record { low = n; high = o }) e;
+      }))
       (facts-done b w x (λ k l m. h .no-ioc k)))
       (facts-cross b w x (λ j k nj nk. order-clear (at b j) (at b k) (h .uncrossed j k nj nk))))
       (facts-number b w x (h .numbers))
+
+  order-id-facts : hasOrderIds t ≡ true → FreshNumbers (orderIdAt t) (nextOf t) (filled t)
+  unfolding hasOrderIds
+  order-id-facts h = fresh-facts (orderIdAt t) (nextOf t) (filled t) h
+
+  facts-order-id : FreshNumbers (orderIdAt t) (nextOf t) (filled t) → hasOrderIds t ≡ true
+  unfolding hasOrderIds
+  facts-order-id h = facts-fresh (orderIdAt t) (nextOf t) (filled t) h
 
   -- what the test says of a market
   pub market-facts : isMarket t ≡ true → Market t
   unfolding isMarket hasLength hasNext hasOrders
   market-facts h =
-      let n : hasNext t ≡ true = search (both-l, both-r) depth 11 in
-      let w : hasWork t ≡ true = search (both-l, both-r) depth 11 in
-      let o : hasOrders t ≡ true = search (both-l, both-r) depth 11 in
-      let b : isBook (bookOf t) (workOf t) (nextOf t) ≡ true = search (both-l, both-r) depth 11 in
+      let n : hasNext t ≡ true = search (both-l, both-r) depth 12 in
+      let w : hasWork t ≡ true = search (both-l, both-r) depth 12 in
+      let o : hasOrders t ≡ true = search (both-l, both-r) depth 12 in
+      let b : isBook (bookOf t) (workOf t) (nextOf t) ≡ true = search (both-l, both-r) depth 12 in
       let is : (i : ℕ) → 1 ≤ i → i ≤ filled t → isOrder t i ≡ true = record-at (isOrder t) (filled t) o in
       record {
-        long = eqb-true _ _ (search both-l depth 12);
-        settings = search (both-l, both-r) depth 11;
+        long = eqb-true _ _ (search both-l depth 13);
+        settings = search (both-l, both-r) depth 12;
         next-low = leb-true _ _ (both-l _ (leb (nextOf t) 1000000000) n);
         work = w;
-        spare = search (both-l, both-r) depth 11;
-        rest = search (both-l, both-r) depth 11;
+        spare = search (both-l, both-r) depth 12;
+        rest = search (both-l, both-r) depth 12;
         records = λ i l m. order-record i (is i l m);
-        ids = id-facts (search (both-l, both-r) depth 11);
+        ids = id-facts (search (both-l, both-r) depth 12);
+        order-ids = order-id-facts (search (both-l, both-r) depth 12);
         decision = search both-r;
         held = book-facts n w is b;
       }
@@ -318,7 +310,7 @@ module _ (t : List ℕ) where
       let h = m .held in
       let size : length (bookOf t) ≡ filled t = length-book t in
       let in-book : (i : ℕ) → 1 ≤ i → i ≤ filled t → In (bookOf t) i = λ i l n. record { low = l; high = omega arith } in
-      both-i (both-i (both-i (both-i (both-i (both-i (both-i (both-i (both-i
+      both-i (both-i (both-i (both-i (both-i (both-i (both-i (both-i (both-i (both-i
       (eq-eqb _ _ (m .long)) (m .settings))
       (both-i (le-leb _ _ (m .next-low)) (le-leb _ _ (h .next-high)))) (m .work)) (m .spare)) (m .rest))
       (record-from (isOrder t) (filled t) (λ i l n.
@@ -326,5 +318,6 @@ module _ (t : List ℕ) where
       (rw (at-book t i l n) at (h .owned i (in-book i l n)))
       (rw (at-book t i l n) at (h .sound i (in-book i l n))))))
       (facts-id (m .ids)))
+      (facts-order-id (m .order-ids)))
       (facts-book h))
       (m .decision)

@@ -15,11 +15,12 @@ use Rattle.octets.proofs.Places.{below-or}
 use Rattle.matching.specs.Held.{Held}
 use Rattle.table.specs.Places.{tableBytes, recordAt}
 use Rattle.table.specs.Heading.{nextOf, workOf, decidedOf, isListed, putDecided}
-use Rattle.table.specs.Orders.{clOrdIdAt, orderAt, isFree, filled, bookOf}
+use Rattle.table.specs.Orders.{clOrdIdAt, orderIdAt, orderAt, isFree, filled, bookOf}
 use Rattle.table.specs.Market.{isText, hasSettings, hasWork, hasSpare, restZero, isRecord, hasDecision}
-use Rattle.table.specs.Facts.{Market}
+use Rattle.table.specs.Facts.{FreshNumbers, Market}
 use Rattle.octets.proofs.Searches.{first-before, first-is, first-holds}
-use Rattle.table.proofs.Same.{Same, same-in, same-then, put-below, put-above, order-same, record-parts, rest-same, id-same, settings-same, spare-same, listed-same, filled-few}
+use Rattle.table.proofs.Same.{Same, same-in, same-then, put-below, put-above, order-same, record-parts, rest-same, id-same, order-id-same, settings-same, spare-same, listed-same, filled-few}
+use Rattle.table.proofs.Fresh.{fresh-same}
 
 pub record Framed (t u : List ℕ) : Type 0 where
   pub names : Same u t 0 28
@@ -48,6 +49,7 @@ pub record Unnoted (t : List ℕ) : Type 0 where
   pub formed : Formed t
   pub work : hasWork t ≡ true
   pub next-low : 1 ≤ nextOf t
+  pub order-ids : FreshNumbers (orderIdAt t) (nextOf t) (filled t)
   pub held : Held (isListed t) (nextOf t) (bookOf t) (workOf t)
 
 pub noted-market : (t : List ℕ) → Unnoted t → hasDecision (bookOf t) (workOf t) (decidedOf t) ≡ true → Market t
@@ -61,6 +63,7 @@ noted-market t u d =
       rest = u .formed .rest;
       records = u .formed .records;
       ids = u .formed .ids;
+      order-ids = u .order-ids;
       decision = d;
       held = u .held;
     }
@@ -127,6 +130,10 @@ module _ (t u : List ℕ) (long : length t ≡ tableBytes) (f : Framed t u) wher
 
   pub framed-id : (i : ℕ) → 1 ≤ i → i ≤ filled t → isRecord t i ≡ true → clOrdIdAt u i ≡ clOrdIdAt t i
   framed-id i l h r = id-same i (same-in (128 * i) (128 * i + 33) (f .texts i l h) (omega arith) (omega arith)) (id-short t i r)
+
+  pub framed-order-ids : (next more : ℕ) → next ≤ more → FreshNumbers (orderIdAt t) next (filled t) → FreshNumbers (orderIdAt u) more (filled u)
+  framed-order-ids next more l h =
+      fresh-same (orderIdAt t) (orderIdAt u) next more (filled t) (filled u) l framed-filled (λ i a b. order-id-same i (f .spares i a b)) h
 
   -- so a formed table's frame is formed
   pub framed-formed : Formed t → Formed u

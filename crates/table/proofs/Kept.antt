@@ -3,7 +3,7 @@
 use mathlib.Core.Path.{_≡_, refl, sym, ap, _∙_, subst}
 use mathlib.Core.Bool.{Bool, true, _||_}
 use mathlib.Core.List.{List, [], _∷_}
-use Prim.Native.Nat.{ℕ, suc, _+_, _*_, _≤_, _<_}
+use Prim.Native.Nat.{ℕ, _+_, _*_, _^_, _≤_, _<_}
 use native.Mathlib.Omega.{arith}
 use lib.Dec.{eqb, lit≤}
 use lib.ListN.{length}
@@ -19,28 +19,29 @@ use Rattle.decimal.proofs.Times.{time-short}
 use Rattle.matching.specs.declared.Order.{Order}
 use Rattle.matching.specs.declared.Event.{Event}
 use Rattle.matching.specs.declared.Event.the-variants.{Accepted, Replaced, Withdrawn}
-use Rattle.matching.specs.Matching.{Book, at, put as putOrder, openOf, minimumOf, decidedAfter, change, after, partner, happens, bookAfter, workAfter}
-use Rattle.matching.specs.Held.{In, Held, Ready, Enters, Renews}
+use Rattle.matching.specs.Matching.{Book, at, openOf, minimumOf, decidedAfter, change, after, partner, happens, bookAfter, workAfter}
+use Rattle.matching.specs.Held.{In, Held, Ready, Takes, Enters, Renews}
+use Rattle.matching.proofs.Conserved.{takes-low}
 use Rattle.matching.proofs.Placing.{place-either}
 use Rattle.matching.proofs.Events.{play-minimum}
 use Rattle.matching.proofs.Sounds.{minimum-most}
 use Rattle.matching.proofs.Steps.{happens-fits}
 use Rattle.matching.proofs.Holding.{step-ready, step-held}
-use Rattle.matching.proofs.Requests.{later-held, accepted-held, replaced-held, withdrawn-fits, withdrawn-held}
+use Rattle.matching.proofs.Requests.{later-held, takes-in, accepted-held, replaced-held, withdrawn-fits, withdrawn-held}
 use Rattle.table.specs.Places.{tableBytes}
 use Rattle.table.specs.Heading.{nextOf, workOf, decidedOf, mpidAt, entries, entryOf, modeOf, isListed, putNext, putWork, putDecided}
-use Rattle.table.specs.Orders.{orderAt, filled, bookOf, termBytes, putId, putTerms, putAmounts, applied, withdrawn, replaced, accepted}
+use Rattle.table.specs.Orders.{orderIdAt, orderAt, filled, bookOf, termBytes, putId, putTerms, putAmounts, applied, withdrawn, replaced, accepted}
 use Rattle.table.specs.Market.{every, isPrintable, isEntry, hasList, hasSettings, hasWork, isCapacity, isClass, hasDecision}
-use Rattle.table.specs.Facts.{Market, Named}
+use Rattle.table.specs.Facts.{FreshNumbers, Market, Named}
 use Rattle.table.specs.Changes.{played, missesNow, stepEvents, stepWork, numbered, stepped, entered, renewed, taken}
 use Rattle.octets.proofs.Searches.{first-holds}
 use Rattle.table.proofs.Same.{Same, same-in, same-then, put-below, put-above, next-same, work-same, decided-same}
 use Rattle.table.proofs.Stores.{Terms, Sized, next-got, work-got, decided-got}
 use Rattle.table.proofs.Books.{length-book, at-book}
-use Rattle.table.proofs.Frames.{Framed, framed-long, framed-filled, framed-listed, framed-self, framed-then, framed-heading, framed-decided, Formed, Unnoted, noted-market, market-formed, framed-formed}
+use Rattle.table.proofs.Frames.{Framed, framed-long, framed-filled, framed-listed, framed-order-ids, framed-self, framed-then, framed-heading, framed-decided, Formed, Unnoted, noted-market, market-formed, framed-formed}
 use Rattle.table.proofs.Applied.{Played, all-played, fits-move, heading-applied, framed-applied, book-applied, framed-terms, book-terms, book-next, book-work, book-decided, sound-amounts}
-use Rattle.table.proofs.Naming.{named-formed, named-heading, named-book, named-order, named-filled, named-listed}
-use Rattle.table.proofs.Entering.{entered-formed, entered-heading, entered-filled, entered-book, entered-listed}
+use Rattle.table.proofs.Naming.{named-formed, named-heading, named-order-ids, named-book, named-order, named-filled, named-listed}
+use Rattle.table.proofs.Entering.{entered-formed, entered-heading, entered-order-ids, entered-filled, entered-book, entered-listed}
 use Rattle.table.proofs.Working.{has-work-kept, has-work-put, has-work-none, undecided, idle-undecided, least-undecided, decided-after}
 
 -- ---- the next number
@@ -55,7 +56,7 @@ decided-next : (t : List ℕ) (n : ℕ) → decidedOf (putNext t n) ≡ decidedO
 decided-next t n = decided-same (put-above t 28 (bytesOf 4 n) 96 97 (omega (arith, length-bytesOf 4 n)))
 
 -- a table with the frame of a formed one, its work in order and its book held, once its next number is set
-module _ (t u : List ℕ) (m : Formed t) (f : Framed t u) (w : hasWork u ≡ true) (n : ℕ) (low : 1 ≤ n)
+module _ (t u : List ℕ) (m : Formed t) (f : Framed t u) (w : hasWork u ≡ true) (n : ℕ) (low : 1 ≤ n) (ids : FreshNumbers (orderIdAt t) n (filled t))
     (h : Held (isListed t) n (bookOf u) (workOf u)) where
   long : length u ≡ tableBytes
   long = framed-long t u (m .long) f
@@ -73,6 +74,7 @@ module _ (t u : List ℕ) (m : Formed t) (f : Framed t u) (w : hasWork u ≡ tru
         formed = framed-formed t v (m .long) k m;
         work = has-work-kept u v z (work-next u n) (omega arith) w;
         next-low = omega arith;
+        order-ids = framed-order-ids t v (m .long) k n (nextOf v) (omega arith) ids;
         held = rw (e, x, b, framed-listed t v (m .long) k) h;
       }
 
@@ -107,13 +109,14 @@ module _ (t : List ℕ) (u : Unnoted t) (d : ℕ) (g : hasDecision (bookOf t) (w
         formed = framed-formed t v long f (u .formed);
         work = has-work-kept t v long s (omega arith) (u .work);
         next-low = rw e (u .next-low);
+        order-ids = framed-order-ids t v long f (nextOf t) (nextOf v) (omega arith) (u .order-ids);
         held = rw (e, x, b, framed-listed t v long f) (u .held);
       })
       (rw (b, x, n) g)
 
 -- the same, and with another order in work or none
-module _ (t u : List ℕ) (m : Formed t) (f : Framed t u) (n : ℕ) (low : 1 ≤ n) (w : ℕ) (stamp : List ℕ) (short : length stamp ≤ 21)
-    (h : Held (isListed t) n (bookOf u) w) where
+module _ (t u : List ℕ) (m : Formed t) (f : Framed t u) (n : ℕ) (low : 1 ≤ n) (ids : FreshNumbers (orderIdAt t) n (filled t))
+    (w : ℕ) (stamp : List ℕ) (short : length stamp ≤ 21) (h : Held (isListed t) n (bookOf u) w) where
   numbered-long : length (putNext u n) ≡ tableBytes
   numbered-long = framed-long t (putNext u n) (m .long) (framed-then t u (putNext u n) (m .long) f (framed-next u n))
 
@@ -132,6 +135,7 @@ module _ (t u : List ℕ) (m : Formed t) (f : Framed t u) (n : ℕ) (low : 1 ≤
         formed = framed-formed t v (m .long) k m;
         work = work;
         next-low = omega arith;
+        order-ids = framed-order-ids t v (m .long) k n (nextOf v) (omega arith) ids;
         held = rw (e, d, b, framed-listed t v (m .long) k) h;
       }
 
@@ -150,6 +154,10 @@ work-stays missed b w n =
     split (missed || eqb (partner b w) 0)
     (λ t. absurd (n (rw t)))
     (λ t. rw t)
+
+-- a market's OrderIDs are below any later number too
+later-order-ids : (t : List ℕ) (n : ℕ) → Market t → nextOf t ≤ n → FreshNumbers (orderIdAt t) n (filled t)
+later-order-ids t n m l = framed-order-ids t t (m .long) (framed-self t) (nextOf t) n l (m .order-ids)
 
 -- a step on a market with an order in work leaves a market
 pub stepped-kept : (t : List ℕ) → Market t → 1 ≤ workOf t → Market (stepped t)
@@ -170,16 +178,17 @@ stepped-kept t m l =
     let low : 1 ≤ n = omega (arith, m .next-low) in
     let v : ℕ = workAfter d b w in
     let h : Held (isListed t) n (bookOf u) v = rw c (step-held (isListed t) (modeOf t) d (nextOf t) b w i (m .held)) in
-    let z : length (putNext u n) ≡ tableBytes = numbered-long t u (market-formed t m) (p .framed) n low v [] (lit≤ tt) h in
+    let ids : FreshNumbers (orderIdAt t) n (filled t) = later-order-ids t n m (omega arith) in
+    let z : length (putNext u n) ≡ tableBytes = numbered-long t u (market-formed t m) (p .framed) n low ids v [] (lit≤ tt) h in
     split (eqb v 0)
     (λ x.
     let q : v ≡ 0 = eqb-true v 0 x in
-    let r = reworked t u (market-formed t m) (p .framed) n low 0 [] (lit≤ tt) (subst (λ (k : ℕ). Held (isListed t) n (bookOf u) k) q h) (has-work-none (putNext u n) z) in
+    let r = reworked t u (market-formed t m) (p .framed) n low ids 0 [] (lit≤ tt) (subst (λ (k : ℕ). Held (isListed t) n (bookOf u) k) q h) (has-work-none (putNext u n) z) in
     rw (x, e) (noted-kept (putWork (putNext u n) 0 []) r 0 (undecided _ _ 0 refl)))
     (λ x.
     let q : v ≡ w = work-stays d b w (eqb-false v 0 x) in
     let g : hasWork u ≡ true = has-work-kept t u (m .long) (same-in 32 55 (p .heading) (lit≤ tt) (lit≤ tt)) (omega (arith, framed-filled t u (m .long) (p .framed))) (m .work) in
-    let r = renumbered t u (market-formed t m) (p .framed) g n low (subst (λ (k : ℕ). Held (isListed t) n (bookOf u) k) (q ∙ sym y) h) in
+    let r = renumbered t u (market-formed t m) (p .framed) g n low ids (subst (λ (k : ℕ). Held (isListed t) n (bookOf u) k) (q ∙ sym y) h) in
     let a : bookOf (putNext u n) ≡ bookAfter (modeOf t) d b w = book-next u n (framed-long t u (m .long) (p .framed)) ∙ c in
     let j : workOf (putNext u n) ≡ w = work-same (same-in 32 33 (work-next u n) (lit≤ tt) (lit≤ tt)) ∙ y in
     let o : minimumOf (at (bookAfter (modeOf t) d b w) w) ≡ minimumOf (at b w) = play-minimum w es b (happens-fits (modeOf t) d b w i) in
@@ -201,7 +210,7 @@ numbered-kept t n m e h =
     let held : Held (isListed t) (nextOf t) (bookOf t) 0 = rw e at (m .held) in
     let later : Held (isListed t) (nextOf t + n) (bookOf t) (workOf t) =
     rw e (later-held (isListed t) (nextOf t) (nextOf t + n) (bookOf t) held (omega arith) h) in
-    renumbered-idle t t (market-formed t m) (framed-self t) (m .work) (nextOf t + n) (omega (arith, m .next-low)) later (idle-decided t m e)
+    renumbered-idle t t (market-formed t m) (framed-self t) (m .work) (nextOf t + n) (omega (arith, m .next-low)) (later-order-ids t (nextOf t + n) m (omega arith)) later (idle-decided t m e)
 
 -- ---- a replacement's terms are of their widths, whether it keeps its place or takes the one given
 
@@ -244,6 +253,9 @@ module _ (t : List ℕ) (k : ℕ) (clOrdId : List ℕ) (m : Market t) (e : workO
   held : Held (isListed t) (nextOf t) (bookOf t) 0
   held = rw e at (m .held)
 
+  order-ids : FreshNumbers (orderIdAt (putId t k clOrdId)) (nextOf t + 1) (filled (putId t k clOrdId))
+  order-ids = named-order-ids t k clOrdId (market-formed t m) (i .low) high g (nextOf t) (nextOf t + 1) (omega arith) (m .order-ids)
+
   -- what a market asks of the work, while nothing is in work
   idle : (u : List ℕ) → Same u (putId t k clOrdId) 0 128 → filled u ≡ filled t → hasWork u ≡ true
   idle u s z = has-work-kept t u (m .long) (same-in 32 55 (same-then s heading) (lit≤ tt) (lit≤ tt)) (omega arith) (m .work)
@@ -267,7 +279,7 @@ module _ (t : List ℕ) (k : ℕ) (clOrdId : List ℕ) (m : Market t) (e : workO
       rw (b, w, named-listed t k clOrdId (market-formed t m) (i .low) high g) (withdrawn-held (isListed t) (nextOf t) (bookOf t) k held i low) in
       let x : putAmounts t1 k (change v (orderAt t k)) ≡ u = rw order in
       let d : decidedOf u ≡ 0 = decided-same (same-in 96 97 (same-then s heading) (lit≤ tt) (lit≤ tt)) ∙ idle-decided t m e in
-      rw (x, n) (renumbered-idle t1 u formed f (idle u s z) (nextOf t + 1) (omega arith) h d)
+      rw (x, n) (renumbered-idle t1 u formed f (idle u s z) (nextOf t + 1) (omega arith) order-ids h d)
 
   -- ---- a replacement
 
@@ -290,13 +302,13 @@ module _ (t : List ℕ) (k : ℕ) (clOrdId : List ℕ) (m : Market t) (e : workO
       rw (b, named-listed t k clOrdId (market-formed t m) (i .low) high g) (replaced-held (isListed t) (nextOf t) (bookOf t) k l q p held a) in
       let x : List ℕ = putNext u (nextOf t + 1) in
       let short = time-short stamp time in
-      let longer = numbered-long t1 u formed f (nextOf t + 1) (omega arith) k stamp short h in
+      let longer = numbered-long t1 u formed f (nextOf t + 1) (omega arith) order-ids k stamp short h in
       let same : filled (putWork x k stamp) ≡ filled t =
       framed-filled x (putWork x k stamp) longer (framed-work x k stamp short)
       ∙ framed-filled u x (framed-long t1 u long f) (framed-next u (nextOf t + 1))
       ∙ framed-filled t1 u long f ∙ filled-there in
       let d : decidedOf u ≡ 0 = decided-same (same-in 96 97 (same-then s heading) (lit≤ tt) (lit≤ tt)) ∙ idle-decided t m e in
-      rw n (reworked-idle t1 u formed f (nextOf t + 1) (omega arith) k stamp short h (has-work-put x k stamp longer (i .low) (omega (arith, high)) time) d)
+      rw n (reworked-idle t1 u formed f (nextOf t + 1) (omega arith) order-ids k stamp short h (has-work-put x k stamp longer (i .low) (omega (arith, high)) time) d)
 
 -- ---- a new order
 
@@ -326,32 +338,64 @@ enters-sized t n o m a =
       minqty = omega (arith, minimum-most o s, s .qty-high);
     }
 
-pub entered-kept : (t clOrdId account : List ℕ) (capacity class : ℕ) (o : Order) (stamp : List ℕ) → Market t → workOf t ≡ 0 → Named t clOrdId
-    → length account ≤ 10 → every isPrintable account ≡ true → isCapacity capacity ≡ true → isClass class ≡ true
-    → Enters (isListed t) (nextOf t) (bookOf t) (filled t + 1) o → isTime stamp ≡ true → Market (entered t clOrdId account capacity class o stamp)
-unfolding entered numbered after change
-entered-kept t clOrdId account capacity class o stamp m e g few printable cap cls a time =
-    let f0 = market-formed t m in
-    let size = length-book t in
-    let free : filled t < 255 = omega (arith, a .free) in
-    let k : ℕ = filled t + 1 in
-    let u : List ℕ = accepted t k clOrdId account capacity class o in
-    let formed : Formed u = entered-formed t clOrdId account capacity class o f0 free g few printable cap cls in
-    let s : Same u t 0 128 = entered-heading t clOrdId account capacity class o f0 free g few printable cap cls in
-    let n : nextOf u ≡ nextOf t = next-same (same-in 28 32 s (lit≤ tt) (lit≤ tt)) in
-    let q : suc (length (bookOf t)) ≡ k = omega arith in
-    let b : bookOf u ≡ after (bookOf t) (Accepted k o) =
-    entered-book t clOrdId account capacity class o f0 free g few printable cap cls (enters-sized t k o m a)
-    ∙ ap (λ (j : ℕ). putOrder (bookOf t) j o) q in
-    let held : Held (isListed t) (nextOf t) (bookOf t) 0 = rw e at (m .held) in
-    let h : Held (isListed u) (nextOf t + 1) (bookOf u) k =
-    rw (b, entered-listed t clOrdId account capacity class o f0 free g few printable cap cls) (accepted-held (isListed t) (nextOf t) (bookOf t) k o held a) in
-    let x : List ℕ = putNext u (nextOf t + 1) in
-    let short = time-short stamp time in
-    let longer = numbered-long u u formed (framed-self u) (nextOf t + 1) (omega arith) k stamp short h in
-    let same : filled (putWork x k stamp) ≡ filled t + 1 =
-    framed-filled x (putWork x k stamp) longer (framed-work x k stamp short)
-    ∙ framed-filled u x (formed .long) (framed-next u (nextOf t + 1))
-    ∙ entered-filled t clOrdId account capacity class o f0 free g few printable cap cls in
-    let d : decidedOf u ≡ 0 = decided-same (same-in 96 97 s (lit≤ tt) (lit≤ tt)) ∙ idle-decided t m e in
-    rw n (reworked-idle u u formed (framed-self u) (nextOf t + 1) (omega arith) k stamp short h (has-work-put x k stamp longer (omega arith) (omega arith) time) d)
+-- a new order as record k, with the next number as its OrderID: what stands afterwards, but for the number and the work
+module _ (t : List ℕ) (k : ℕ) (clOrdId account : List ℕ) (capacity class : ℕ) (o : Order) (m : Market t) (g : Named t clOrdId) (few : length account ≤ 10)
+    (printable : every isPrintable account ≡ true) (cap : isCapacity capacity ≡ true) (cls : isClass class ≡ true)
+    (a : Enters (isListed t) (nextOf t) (bookOf t) k o) where
+  small-number : nextOf t < 256 ^ 4
+  small-number = omega (arith, a .numbered)
+
+  pub new-formed : Formed (accepted t k (nextOf t) clOrdId account capacity class o)
+  new-formed =
+      entered-formed t k (nextOf t) clOrdId account capacity class o (market-formed t m) (a .number) (a .free) g few printable cap cls (m .next-low) small-number
+
+  pub new-heading : Same (accepted t k (nextOf t) clOrdId account capacity class o) t 0 128
+  new-heading =
+      entered-heading t k (nextOf t) clOrdId account capacity class o (market-formed t m) (a .number) (a .free) g few printable cap cls (m .next-low) small-number
+
+  pub new-filled : filled (accepted t k (nextOf t) clOrdId account capacity class o) ≡ length (after (bookOf t) (Accepted k o))
+  unfolding after change
+  new-filled =
+      entered-filled t k (nextOf t) clOrdId account capacity class o (market-formed t m) (a .number) (a .free) g few printable cap cls (m .next-low) small-number
+
+  pub new-book : bookOf (accepted t k (nextOf t) clOrdId account capacity class o) ≡ after (bookOf t) (Accepted k o)
+  unfolding after change
+  new-book =
+      entered-book t k (nextOf t) clOrdId account capacity class o (market-formed t m) (a .number) (a .free) g few printable cap cls (m .next-low) small-number
+      (enters-sized t k o m a)
+
+  new-order-ids : FreshNumbers (orderIdAt (accepted t k (nextOf t) clOrdId account capacity class o)) (nextOf t + 1) (filled (accepted t k (nextOf t) clOrdId account capacity class o))
+  new-order-ids =
+      entered-order-ids t k (nextOf t) clOrdId account capacity class o (market-formed t m) (a .number) (a .free) g few printable cap cls (m .next-low) small-number
+      (m .order-ids)
+
+  new-listed : isListed (accepted t k (nextOf t) clOrdId account capacity class o) ≡ isListed t
+  new-listed =
+      entered-listed t k (nextOf t) clOrdId account capacity class o (market-formed t m) (a .number) (a .free) g few printable cap cls (m .next-low) small-number
+
+  -- the record is one of the filled ones
+  new-inside : k ≤ filled (accepted t k (nextOf t) clOrdId account capacity class o)
+  unfolding after change
+  new-inside = rw new-filled (takes-in (bookOf t) k o (a .number) .high)
+
+  pub entered-kept : (stamp : List ℕ) → workOf t ≡ 0 → isTime stamp ≡ true → Market (entered t k clOrdId account capacity class o stamp)
+  unfolding entered numbered
+  entered-kept stamp e time =
+      let u : List ℕ = accepted t k (nextOf t) clOrdId account capacity class o in
+      let s = new-heading in
+      let n : nextOf u ≡ nextOf t = next-same (same-in 28 32 s (lit≤ tt) (lit≤ tt)) in
+      let held : Held (isListed t) (nextOf t) (bookOf t) 0 = rw e at (m .held) in
+      let h : Held (isListed u) (nextOf t + 1) (bookOf u) k =
+      rw (new-book, new-listed) (accepted-held (isListed t) (nextOf t) (bookOf t) k o held a) in
+      let x : List ℕ = putNext u (nextOf t + 1) in
+      let short = time-short stamp time in
+      let longer = numbered-long u u new-formed (framed-self u) (nextOf t + 1) (omega arith) new-order-ids k stamp short h in
+      let same : filled (putWork x k stamp) ≡ filled u =
+      framed-filled x (putWork x k stamp) longer (framed-work x k stamp short)
+      ∙ framed-filled u x (new-formed .long) (framed-next u (nextOf t + 1)) in
+      let d : decidedOf u ≡ 0 = decided-same (same-in 96 97 s (lit≤ tt) (lit≤ tt)) ∙ idle-decided t m e in
+      let low = takes-low (bookOf t) k (a .number) in
+      let high = new-inside in
+      rw n
+      (reworked-idle u u new-formed (framed-self u) (nextOf t + 1) (omega arith) new-order-ids k stamp short h
+      (has-work-put x k stamp longer low (omega arith) time) d)

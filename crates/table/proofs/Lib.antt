@@ -1,17 +1,19 @@
 -- The laws of `table`, for the proofs of this crate and of those above it. Nothing here need be believed.
 -- Loaded: an order as the loader reads it; Same: what is read depends on the bytes it is read from; Stores: what stands
 -- after a store; Writes: parts of a record make the record; Books: the book of a table; Lookups: searches over the
--- records; Facts: the test of a market as facts; Listed: the MPIDs; Frames: all but number, work and amounts; Applied:
--- stores against events; Texts: texts put; Events: applying an event; Working: the order in work; Naming: a record takes
--- another ClOrdID; Entering: a record is added; Settings: settings tested and written; Kept: a market stays a market;
--- Opens: opening makes one; Notes: turns with quantities; Looks: what an order would trade, found by looking; Promises:
--- what a market says of its texts; Theorems: what people read.
+-- records; Fresh: numbers that no two records share; Facts: the test of a market as facts; Listed: the MPIDs; Frames: all but
+-- number, work and amounts; Applied: stores against events; Texts: texts put; Events: applying an event; Working: the order in
+-- work; Naming: a record takes another ClOrdID; Entering: a record is written anew; Settings: settings tested and written; Kept:
+-- a market stays a market; OrderIds: which records keep theirs; Opens: opening makes one; Notes: turns with quantities; Looks:
+-- what an order would trade, found by looking; Promises: what a market says of its texts and OrderIDs; Theorems: what people
+-- read.
 pub mod Loaded
 pub mod Same
 pub mod Stores
 pub mod Writes
 pub mod Books
 pub mod Lookups
+pub mod Fresh
 pub mod Facts
 pub mod Listed
 pub mod Frames
@@ -23,6 +25,7 @@ pub mod Naming
 pub mod Entering
 pub mod Settings
 pub mod Kept
+pub mod OrderIds
 pub mod Opens
 pub mod Notes
 pub mod Looks

@@ -7,19 +7,20 @@ use Prim.Native.Nat.{ℕ, _+_, _*_, _≤_, _<_}
 use native.Mathlib.Omega.{arith}
 use lib.Dec.{eqb, lit≤}
 use lib.ListN.{length, getD, drop}
-use borrow.Author.Tests.{eqb-true, eqb-false}
+use borrow.Author.Tests.{eqb-true, eqb-false, leb-true, le-leb}
 use Rattle.octets.specs.Octets.{partAt, textBytes, sameBytes, allZero}
 use Rattle.octets.proofs.Bools.{split, both-i, both-l, both-r}
 use Rattle.octets.proofs.Places.{below-or}
 use Rattle.octets.proofs.Parts.{length-textBytes, text-put-first, same-not, not-same}
 use Rattle.table.specs.Places.{recordAt}
 use Rattle.table.specs.Heading.{isListed}
-use Rattle.table.specs.Orders.{clOrdIdAt, capacityAt, classificationAt, orderAt, filled, bookOf, putId}
+use Rattle.table.specs.Orders.{clOrdIdAt, orderIdAt, capacityAt, classificationAt, orderAt, filled, bookOf, putId}
 use Rattle.table.specs.Market.{isPrintable, isText, restZero, isCapacity, isClass, isRecord}
-use Rattle.table.specs.Facts.{Named}
-use Rattle.table.proofs.Same.{Same, same-in, put-below, put-above, is-text-same, part-same, rest-same, record-parts, order-same, id-same, settings-same, spare-same, listed-same, filled-few, book-same}
+use Rattle.table.specs.Facts.{FreshNumbers, Named}
+use Rattle.table.proofs.Same.{Same, same-in, put-below, put-above, is-text-same, part-same, rest-same, record-parts, order-same, id-same, order-id-same, settings-same, spare-same, listed-same, filled-few, book-same}
 use Rattle.table.proofs.Stores.{id-got, id-keeps}
 use Rattle.table.proofs.Texts.{is-text-put}
+use Rattle.table.proofs.Fresh.{fresh-same}
 use Rattle.table.proofs.Frames.{Formed, filled-byte, free-byte, filled-is, id-short}
 
 -- the same bytes, either way round
@@ -38,10 +39,10 @@ zero-rest t n e h = rw e h
 -- the parts of a good record
 module _ (t : List ℕ) (i : ℕ) where
   pub parts-record : isText isPrintable 1 32 t (recordAt i) ≡ true → isText isPrintable 0 10 t (recordAt i + 33) ≡ true
-      → isCapacity (capacityAt t i) ≡ true → isClass (classificationAt t i) ≡ true → allZero (partAt t (recordAt i + 84) 4) ≡ true
+      → isCapacity (capacityAt t i) ≡ true → isClass (classificationAt t i) ≡ true → 1 ≤ orderIdAt t i
       → allZero (partAt t (recordAt i + 92) 36) ≡ true → isRecord t i ≡ true
   unfolding isRecord
-  parts-record a b c d g e = both-i (both-i (both-i (both-i (both-i a b) c) d) g) e
+  parts-record a b c d g e = both-i (both-i (both-i (both-i (both-i a b) c) d) (le-leb 1 (orderIdAt t i) g)) e
 
   module _ (h : isRecord t i ≡ true) where
     pub record-id : isText isPrintable 1 32 t (recordAt i) ≡ true
@@ -60,9 +61,9 @@ module _ (t : List ℕ) (i : ℕ) where
     unfolding isRecord
     record-class = search (both-l, both-r)
 
-    pub record-gap : allZero (partAt t (recordAt i + 84) 4) ≡ true
+    pub record-order-id : 1 ≤ orderIdAt t i
     unfolding isRecord
-    record-gap = search (both-l, both-r)
+    record-order-id = leb-true 1 (orderIdAt t i) (search (both-l, both-r))
 
     pub record-spare : allZero (partAt t (recordAt i + 92) 36) ≡ true
     unfolding isRecord
@@ -125,8 +126,7 @@ module _ (t : List ℕ) (k : ℕ) (xs : List ℕ) (f : Formed t) (low : 1 ≤ k)
           (is-text-put 32 t (128 * k) xs (omega (arith, room)) (g .short) isPrintable 1 (g .some) (g .printable))
           (is-text-same isPrintable 0 10 (128 * k + 33) (128 * k + 128) s (omega arith) ∙ record-account t k r)
           (rw c (record-capacity t k r)) (rw d (record-class t k r))
-          (ap allZero (part-same (128 * k + 84) 4 (128 * k + 128) (same-in (128 * k + 84) (128 * k + 128) s (omega arith) (omega arith)) (omega arith))
-          ∙ record-gap t k r)
+          (rw (order-id-same k (same-in (128 * k + 84) (128 * k + 128) s (omega arith) (omega arith))) (record-order-id t k r))
           (ap allZero (part-same (128 * k + 92) 36 (128 * k + 128) (same-in (128 * k + 92) (128 * k + 128) s (omega arith) (omega arith)) (omega arith))
           ∙ record-spare t k r)
 
@@ -175,7 +175,19 @@ module _ (t : List ℕ) (k : ℕ) (xs : List ℕ) (f : Formed t) (low : 1 ≤ k)
           let d = rest-same (128 * (filled t + 1)) (same-in (128 * (filled t + 1)) (length t) (named-behind (length t)) (omega arith) (omega arith)) in
           zero-rest (putId t k xs) (filled t) e (rw d (rest-zero t (f .rest)))
 
-  -- the book, and who is listed
+  -- the OrderIDs, the book, and who is listed
+  pub named-order-ids : (next more : ℕ) → next ≤ more → FreshNumbers (orderIdAt t) next (filled t)
+      → FreshNumbers (orderIdAt (putId t k xs)) more (filled (putId t k xs))
+  named-order-ids next more l h =
+      fresh-same (orderIdAt t) (orderIdAt (putId t k xs)) next more (filled t) (filled (putId t k xs)) l named-filled
+      (λ i a b.
+      split (eqb i k)
+      (λ z.
+      let q = eqb-true i k z in
+      order-id-same i (same-in (128 * i + 84) (128 * i + 128) (named-behind (128 * i + 128)) (omega arith) (omega arith)))
+      (λ z. order-id-same i (same-in (128 * i + 84) (128 * i + 128) (named-other i (eqb-false i k z)) (omega arith) (omega arith))))
+      h
+
   pub named-order : (i : ℕ) → orderAt (putId t k xs) i ≡ orderAt t i
   named-order i =
       split (eqb i k)

@@ -32,6 +32,7 @@ use Rattle.table.proofs.Texts.{is-text-put}
 use Rattle.table.proofs.Working.{none-work, undecided}
 use Rattle.table.proofs.Frames.{filled-is}
 use Rattle.table.proofs.Settings.{name-some, name-every, venue-name, port-name, code-name, venue-short, port-short, code-short, settings-names, settings-low, settings-high, settings-given, given-some, given-few, given-same, given-each, given-low, given-high, mode-low, mode-high, given-new}
+use Rattle.table.proofs.Fresh.{fresh-none}
 use Rattle.table.proofs.Facts.{facts-market}
 
 -- ---- bytes that are zero
@@ -285,6 +286,7 @@ module _ (venue port code : List ℕ) (first : ℕ) (mpids modes : List ℕ) (h 
         rest = rw e (rest-of-zero fresh 128 (λ k l. zero-fresh k (omega arith) (inr (omega arith)) (inr (omega arith))));
         records = λ i l m. absurd (omega arith);
         ids = λ j k l m n. absurd (omega arith);
+        order-ids = fresh-none _ _ _ e;
         decision = undecided (bookOf fresh) (workOf fresh) (decidedOf fresh) (zero-fresh 96 (omega arith) (inr (omega arith)) (inr (omega arith)));
         held = rw (b, w, x) (opened-held (isListed fresh) first (omega (arith, settings-high venue port code first mpids modes h)));
       })

@@ -1,4 +1,4 @@
--- What a market promises of its texts and modes, for whoever writes a report from it or reads a message against it.
+-- What a market promises of its texts, OrderIDs and modes, for whoever writes a report from it or reads a message against it.
 use mathlib.Core.Path.{_≡_}
 use mathlib.Core.Bool.{Bool, true}
 use mathlib.Core.List.{List}
@@ -12,13 +12,13 @@ use Rattle.octets.proofs.Bools.{both-l, both-r}
 use Rattle.octets.proofs.Ranges.{all-at}
 use Rattle.octets.proofs.Parts.{length-text}
 use Rattle.decimal.specs.Reading.{isDigit, isTime}
-use Rattle.table.specs.Heading.{venueOf, portOf, codeOf, workOf, stampOf, modeAt, entries, entryOf, isListed, modeOf}
-use Rattle.table.specs.Orders.{clOrdIdAt, accountAt, capacityAt, classificationAt, filled}
+use Rattle.table.specs.Heading.{venueOf, portOf, codeOf, nextOf, workOf, stampOf, modeAt, entries, entryOf, isListed, modeOf}
+use Rattle.table.specs.Orders.{clOrdIdAt, accountAt, orderIdAt, capacityAt, classificationAt, filled}
 use Rattle.table.specs.Market.{every, isGraphic, isPrintable, isPadded, isText, hasNames, isEntry, hasList, hasSettings, isCapacity, isClass}
 use Rattle.table.specs.Facts.{Market}
 use Rattle.table.proofs.Same.{filled-few}
 use Rattle.table.proofs.Texts.{text-low, text-high, text-every}
-use Rattle.table.proofs.Naming.{record-id, record-account, record-capacity, record-class}
+use Rattle.table.proofs.Naming.{record-id, record-account, record-order-id, record-capacity, record-class}
 use Rattle.table.proofs.Working.{work-some}
 
 -- a good text: its length and its characters
@@ -75,8 +75,18 @@ module _ (t : List ℕ) (m : Market t) where
     pub account-spelt : Spelt isPrintable 0 10 (accountAt t i)
     account-spelt = spelt isPrintable 0 10 t (128 * i + 33) (omega (arith, m .long, filled-few t)) (record-account t i (m .records i low high))
 
+    pub order-id-low : 1 ≤ orderIdAt t i
+    order-id-low = record-order-id t i (m .records i low high)
+
+    pub order-id-below : orderIdAt t i < nextOf t
+    order-id-below = m .order-ids .below i low high
+
     pub capacity-good : isCapacity (capacityAt t i) ≡ true
     capacity-good = record-capacity t i (m .records i low high)
 
     pub class-good : isClass (classificationAt t i) ≡ true
     class-good = record-class t i (m .records i low high)
+
+  -- one OrderID, one record
+  pub order-id-apart : (i j : ℕ) → 1 ≤ i → i ≤ filled t → 1 ≤ j → j ≤ filled t → orderIdAt t i ≡ orderIdAt t j → i ≡ j
+  order-id-apart = m .order-ids .apart

@@ -17,7 +17,7 @@ use Rattle.octets.proofs.Places.{leAt-ext, getD-put-below, getD-put-above, belo
 use Rattle.decimal.specs.Reading.{isDigit}
 use Rattle.table.specs.Places.{recordAt}
 use Rattle.table.specs.Heading.{nextOf, workOf, decidedOf, mpidAt, modeAt, entries, entryOf, isListed, modeOf}
-use Rattle.table.specs.Orders.{clOrdIdAt, orderAt, isFree, filled, ordersFrom, bookOf}
+use Rattle.table.specs.Orders.{clOrdIdAt, orderIdAt, orderAt, isFree, filled, ordersFrom, bookOf}
 use Rattle.table.specs.Market.{isGraphic, isPrintable, isPadded, isText, hasNames, isEntry, hasList, hasSettings, hasSpare, isRecord, isKnown}
 use Rattle.octets.proofs.Searches.{all-ext, first-ext, first-high}
 
@@ -219,7 +219,7 @@ module _ {t u : List ℕ} where
 
   -- ---- the records
 
-  -- by its texts, its capacity and classification, and its unused bytes
+  -- by its texts, its capacity and classification, and its OrderID and unused bytes
   pub record-parts : (i : ℕ) → Same t u (recordAt i) (recordAt i + 44) → Same t u (recordAt i + 46) (recordAt i + 48)
       → Same t u (recordAt i + 84) (recordAt i + 128) → isRecord t i ≡ isRecord u i
   unfolding isRecord
@@ -228,7 +228,7 @@ module _ {t u : List ℕ} where
       let b = is-text-same isPrintable 0 10 (128 * i + 33) (128 * i + 44) (same-in (128 * i + 33) (128 * i + 44) s (omega arith) (omega arith)) (omega arith) in
       let c : getD t (128 * i + 46) 0 ≡ getD u (128 * i + 46) 0 = r .byte (128 * i + 46) (omega arith) (omega arith) in
       let d : getD t (128 * i + 47) 0 ≡ getD u (128 * i + 47) 0 = r .byte (128 * i + 47) (omega arith) (omega arith) in
-      let e = part-same (128 * i + 84) 4 (128 * i + 128) q (omega arith) in
+      let e : orderIdAt t i ≡ orderIdAt u i = le-same 4 (128 * i + 84) (128 * i + 128) q (omega arith) in
       let f = part-same (128 * i + 92) 36 (128 * i + 128) (same-in (128 * i + 92) (128 * i + 128) q (omega arith) (omega arith)) (omega arith) in
       rw (a, b, c, d, e, f)
 
@@ -254,6 +254,9 @@ module _ {t u : List ℕ} where
 
       number : (n k : ℕ) → 44 ≤ k → k + n ≤ 92 → leAt n t (128 * i + k) ≡ leAt n u (128 * i + k)
       number n k l h = le-same n (128 * i + k) (128 * i + 92) (same-in (128 * i + k) (128 * i + 92) s (omega arith) (omega arith)) (omega arith)
+
+  pub order-id-same : (i : ℕ) → Same t u (recordAt i + 84) (recordAt i + 128) → orderIdAt t i ≡ orderIdAt u i
+  order-id-same i s = le-same 4 (128 * i + 84) (128 * i + 128) s (omega arith)
 
   pub id-same : (i : ℕ) → Same t u (recordAt i) (recordAt i + 33) → getD u (recordAt i) 0 ≤ 32 → clOrdIdAt t i ≡ clOrdIdAt u i
   id-same i s l = text-same (128 * i) 32 (128 * i + 33) s (omega arith) l

@@ -43,22 +43,24 @@ module _ (t : List ℕ) (p : ℕ) (o : Order) where
       four t t1 t2 t3 t4 p (p + 8) (p + 12) (p + 16) (bytesOf 8 (o .sum)) (bytesOf 4 (o .executed)) (bytesOf 4 (o .decremented)) (bytesOf 4 (o .canceled))
       a b c d (omega arith) (omega arith) (omega arith)
 
-  pub tail-written : (t1 t2 t3 : List ℕ) → t1 ≡ put t p (amountBytes o) → t2 ≡ put t1 (p + 20) (bytesOf 4 0)
-      → t3 ≡ put t2 (p + 24) (bytesOf 4 (o .minqty)) → t3 ≡ put t p (tailBytes o)
+  pub tail-written : (orderId : ℕ) (t1 t2 t3 t4 : List ℕ) → t1 ≡ put t p (amountBytes o) → t2 ≡ put t1 (p + 20) (bytesOf 4 orderId)
+      → t3 ≡ put t2 (p + 24) (bytesOf 4 (o .minqty)) → t4 ≡ put t3 (p + 28) (replicate 36 0) → t4 ≡ put t p (tailBytes orderId o)
   unfolding tailBytes
-  tail-written t1 t2 t3 a b c =
+  tail-written orderId t1 t2 t3 t4 a b c d =
       let x = length-amounts o in
-      let y = length-bytesOf 4 0 in
-      three t t1 t2 t3 p (p + 20) (p + 24) (amountBytes o) (bytesOf 4 0) (bytesOf 4 (o .minqty)) a b c (omega arith) (omega arith)
+      let y = length-bytesOf 4 orderId in
+      let z = length-bytesOf 4 (o .minqty) in
+      four t t1 t2 t3 t4 p (p + 20) (p + 24) (p + 28) (amountBytes o) (bytesOf 4 orderId) (bytesOf 4 (o .minqty)) (replicate 36 0)
+      a b c d (omega arith) (omega arith) (omega arith)
 
-  pub fields-written : (capacity class : ℕ) (t1 t2 t3 t4 : List ℕ) → t1 ≡ put t p (o .side ∷ o .tif ∷ capacity ∷ class ∷ [])
-      → t2 ≡ put t1 (p + 4) (termBytes o) → t3 ≡ put t2 (p + 16) (bytesOf 4 (o .mpid)) → t4 ≡ put t3 (p + 20) (tailBytes o)
-      → t4 ≡ put t p (fieldBytes capacity class o)
+  pub fields-written : (orderId capacity class : ℕ) (t1 t2 t3 t4 : List ℕ) → t1 ≡ put t p (o .side ∷ o .tif ∷ capacity ∷ class ∷ [])
+      → t2 ≡ put t1 (p + 4) (termBytes o) → t3 ≡ put t2 (p + 16) (bytesOf 4 (o .mpid)) → t4 ≡ put t3 (p + 20) (tailBytes orderId o)
+      → t4 ≡ put t p (fieldBytes orderId capacity class o)
   unfolding fieldBytes
-  fields-written capacity class t1 t2 t3 t4 a b c d =
+  fields-written orderId capacity class t1 t2 t3 t4 a b c d =
       let y = length-terms o in
       let z = length-bytesOf 4 (o .mpid) in
-      four t t1 t2 t3 t4 p (p + 4) (p + 16) (p + 20) (o .side ∷ o .tif ∷ capacity ∷ class ∷ []) (termBytes o) (bytesOf 4 (o .mpid)) (tailBytes o)
+      four t t1 t2 t3 t4 p (p + 4) (p + 16) (p + 20) (o .side ∷ o .tif ∷ capacity ∷ class ∷ []) (termBytes o) (bytesOf 4 (o .mpid)) (tailBytes orderId o)
       a b c d refl (omega arith) (omega arith)
 
 pub four-written : (t : List ℕ) (p a b c d : ℕ) → set (set (set (set t p a) (p + 1) b) (p + 2) c) (p + 3) d ≡ put t p (a ∷ b ∷ c ∷ d ∷ [])
@@ -81,11 +83,11 @@ pub work-ended : (t u v : List ℕ) → u ≡ put t 32 (replicate 23 0) → v �
 unfolding textBytes
 work-ended t u v e f = f ∙ ap (λ (x : List ℕ). putDecided x 0) e
 
-pub record-written : (t t1 t2 t3 : List ℕ) (i : ℕ) (clOrdId account : List ℕ) (capacity class : ℕ) (o : Order) → length t ≡ 32768 → i < 256
+pub record-written : (t t1 t2 t3 : List ℕ) (i orderId : ℕ) (clOrdId account : List ℕ) (capacity class : ℕ) (o : Order) → length t ≡ 32768 → i < 256
     → length clOrdId ≤ 32 → length account ≤ 10 → t1 ≡ putText 32 t (128 * i) clOrdId → t2 ≡ putText 10 t1 (128 * i + 33) account
-    → t3 ≡ put t2 (128 * i + 44) (fieldBytes capacity class o) → t3 ≡ accepted t i clOrdId account capacity class o
-record-written t t1 t2 t3 i clOrdId account capacity class o long l short few a b c =
-    rw (c, b, a) (accepted-parts t i clOrdId account capacity class o short few (omega arith))
+    → t3 ≡ put t2 (128 * i + 44) (fieldBytes orderId capacity class o) → t3 ≡ accepted t i orderId clOrdId account capacity class o
+record-written t t1 t2 t3 i orderId clOrdId account capacity class o long l short few a b c =
+    rw (c, b, a) (accepted-parts t i orderId clOrdId account capacity class o short few (omega arith))
 
 pub work-length : (t u : List ℕ) (w : ℕ) (stamp : List ℕ) → u ≡ putText 21 (set t 32 w) 33 stamp → length u ≡ length t
 work-length t u w stamp e = ap length e ∙ length-put (set t 32 w) 33 (textBytes 21 stamp) ∙ length-set t 32 w

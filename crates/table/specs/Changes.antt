@@ -1,6 +1,6 @@
--- The table after what a call does to it (document 01, "The table and its calls" and "Matching, step by step"): one step of
--- the order in work, a report about no order, a new order, a replacement, a requested cancel. Each of them is a few named
--- writes. Assumes nothing; that a market stays a market is a theorem.
+-- The table after what a call does to it (document 01, "The table and its calls" and "Matching, step by step"; document 02,
+-- T-09): one step of the order in work, a report about no order, a new order, a replacement, a requested cancel. Each of them is
+-- a few named writes. Assumes nothing; that a market stays a market is a theorem.
 use mathlib.Core.Bool.{Bool, cond}
 use mathlib.Core.List.{List, [], _∷_}
 use Prim.Native.Nat.{ℕ, _+_}
@@ -10,7 +10,7 @@ use Rattle.matching.specs.declared.Order.{Order}
 use Rattle.matching.specs.declared.Event.{Event}
 use Rattle.matching.specs.Matching.{who, happens, workAfter, misses, decidedAfter}
 use Rattle.table.specs.Heading.{nextOf, workOf, decidedOf, modeOf, putNext, putWork, putDecided, endWork}
-use Rattle.table.specs.Orders.{filled, bookOf, applied, withdrawn, replaced, accepted}
+use Rattle.table.specs.Orders.{bookOf, applied, withdrawn, replaced, accepted}
 
 -- after events that change amounts, one by one
 unfoldable pub played : List ℕ → List Event → List ℕ
@@ -40,10 +40,11 @@ stepped t =
     let after = numbered (played t (stepEvents t)) (length (stepEvents t)) in
     cond (eqb (stepWork t) 0) (endWork after) (putDecided after (decidedAfter (bookOf t) (workOf t)))
 
--- after a new order, o, is accepted as the next record: it is in work, with the 52 of its message
-unfoldable pub entered : List ℕ → List ℕ → List ℕ → ℕ → ℕ → Order → List ℕ → List ℕ
-entered t clOrdId account capacity class o stamp =
-    putWork (numbered (accepted t (filled t + 1) clOrdId account capacity class o) 1) (filled t + 1) stamp
+-- after a new order, o, is accepted as record k: the number of the report is its OrderID, and it is in work, with the 52 of its
+-- message
+unfoldable pub entered : List ℕ → ℕ → List ℕ → List ℕ → ℕ → ℕ → Order → List ℕ → List ℕ
+entered t k clOrdId account capacity class o stamp =
+    putWork (numbered (accepted t k (nextOf t) clOrdId account capacity class o) 1) k stamp
 
 -- after event e replaces its order: it is in work, with the 52 of its message
 unfoldable pub renewed : List ℕ → List ℕ → Event → List ℕ → List ℕ

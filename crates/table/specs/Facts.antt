@@ -11,8 +11,13 @@ use Rattle.matching.specs.Matching.{who}
 use Rattle.matching.specs.Held.{Held, Ready}
 use Rattle.table.specs.Places.{tableBytes}
 use Rattle.table.specs.Heading.{nextOf, workOf, decidedOf, isListed}
-use Rattle.table.specs.Orders.{clOrdIdAt, filled, bookOf}
+use Rattle.table.specs.Orders.{clOrdIdAt, orderIdAt, filled, bookOf}
 use Rattle.table.specs.Market.{every, isPrintable, hasSettings, hasWork, hasSpare, restZero, isRecord, hasDecision}
+
+-- numbers given to n records, f i to record i, are distinct and below the next number
+pub record FreshNumbers (f : ℕ → ℕ) (next n : ℕ) : Type 0 where
+  pub below : (i : ℕ) → 1 ≤ i → i ≤ n → f i < next
+  pub apart : (i j : ℕ) → 1 ≤ i → i ≤ n → 1 ≤ j → j ≤ n → f i ≡ f j → i ≡ j
 
 -- all of a market
 pub record Market (t : List ℕ) : Type 0 where
@@ -24,6 +29,7 @@ pub record Market (t : List ℕ) : Type 0 where
   pub rest : restZero t ≡ true
   pub records : (i : ℕ) → 1 ≤ i → i ≤ filled t → isRecord t i ≡ true
   pub ids : (j k : ℕ) → 1 ≤ j → j < k → k ≤ filled t → sameBytes (clOrdIdAt t j) (clOrdIdAt t k) ≡ false
+  pub order-ids : FreshNumbers (orderIdAt t) (nextOf t) (filled t)
   pub decision : hasDecision (bookOf t) (workOf t) (decidedOf t) ≡ true
   pub held : Held (isListed t) (nextOf t) (bookOf t) (workOf t)
 

@@ -1,7 +1,7 @@
--- When a table is a market (document 01, "The table and its calls"): one definition for each clause, in the paper's order.
--- The places that the paper leaves to the team are decided here: bytes that nothing uses are zero, and so is the room
--- behind a text; the order in work is a filled record; while one is in work its 52 is a time, and otherwise zeros; OrderQty
--- and place are at least 1. Assumes nothing: any list of bytes is a market or is not.
+-- When a table is a market (document 01, "The table and its calls"; document 02, T-09): one definition for each clause, in the
+-- paper's order. The places that the paper leaves to the team are decided here: bytes that nothing uses are zero, and so is the
+-- room behind a text; the order in work is a filled record; while one is in work its 52 is a time, and otherwise zeros; OrderQty,
+-- place and OrderID are at least 1. Assumes nothing: any list of bytes is a market or is not.
 use mathlib.Core.Bool.{Bool, true, not, cond, _&&_, _||_}
 use mathlib.Core.List.{List, [], _∷_}
 use Prim.Native.Nat.{ℕ, suc, _+_, _*_, _-_}
@@ -14,9 +14,9 @@ use Rattle.decimal.specs.Reading.{isDigit, isTime}
 use Rattle.matching.specs.declared.Order.{Order}
 use Rattle.matching.specs.Matching.{Book, at, openOf, isOpen, isBuy, isImmediate, minimumOf, crosses, opposedTo}
 use Rattle.matching.specs.Held.{mayMinimum}
-use Rattle.table.specs.Places.{tableBytes, venueByte, portByte, idRoom, codeByte, codeRoom, stampByte, stampRoom, spareByte, mpidsByte, modesByte, mostMpids, headingEnd, headingSpare, recordAt, clOrdIdRoom, accountByte, accountRoom, gapByte, gapBytes, recordEnd, recordSpare}
+use Rattle.table.specs.Places.{tableBytes, venueByte, portByte, idRoom, codeByte, codeRoom, stampByte, stampRoom, spareByte, mpidsByte, modesByte, mostMpids, headingEnd, headingSpare, recordAt, clOrdIdRoom, accountByte, accountRoom, recordEnd, recordSpare}
 use Rattle.table.specs.Heading.{nextOf, workOf, stampOf, decidedOf, mpidAt, modeAt, entries, isListed}
-use Rattle.table.specs.Orders.{clOrdIdAt, capacityAt, classificationAt, orderAt, filled, bookOf}
+use Rattle.table.specs.Orders.{clOrdIdAt, orderIdAt, capacityAt, classificationAt, orderAt, filled, bookOf}
 
 -- ---- texts
 
@@ -98,14 +98,14 @@ isCapacity c = eqb c (byte "A") || eqb c (byte "P")
 unfoldable pub isClass : ℕ → Bool
 isClass c = eqb c 1 || (leb 3 c && leb c 6)
 
--- each field is in range: the texts, the capacity, the classification, and zeros in the unused bytes
+-- each field is in range: the texts, the capacity, the classification, an OrderID, and zeros in the unused bytes
 unfoldable pub isRecord : List ℕ → ℕ → Bool
 isRecord t i =
     isText isPrintable 1 clOrdIdRoom t (recordAt i)
     && isText isPrintable 0 accountRoom t (recordAt i + accountByte)
     && isCapacity (capacityAt t i)
     && isClass (classificationAt t i)
-    && allZero (partAt t (recordAt i + gapByte) gapBytes)
+    && leb 1 (orderIdAt t i)
     && allZero (partAt t (recordAt i + recordEnd) recordSpare)
 
 -- side 1 or 2, time in force 0, 3 or 4, MinQty on an IOC alone and at most OrderQty, level 1 to 1,999,999,999 (a yield of at most
@@ -150,14 +150,23 @@ isFreshId t j = allUpTo (λ i. not (sameBytes (clOrdIdAt t (i + 1)) (clOrdIdAt t
 unfoldable pub hasIds : List ℕ → Bool
 hasIds t = allUpTo (isFreshId t) (filled t)
 
+-- numbers given to n records, f i to record i, are distinct and below the next number: that of record j + 1 is that of no record
+-- before it
+unfoldable pub isFresh : (ℕ → ℕ) → ℕ → Bool
+isFresh f j = allUpTo (λ i. not (eqb (f (i + 1)) (f (j + 1)))) j
+
+unfoldable pub areFresh : (ℕ → ℕ) → ℕ → ℕ → Bool
+areFresh f next n = allUpTo (λ j. ltb (f (j + 1)) next && isFresh f j) n
+
+-- OrderIDs are distinct and below the next number
+unfoldable pub hasOrderIds : List ℕ → Bool
+hasOrderIds t = areFresh (orderIdAt t) (nextOf t) (filled t)
+
 -- ---- the book, with order w in work
 
 -- places are distinct and below the next number
-unfoldable pub isFreshPlace : Book → ℕ → Bool
-isFreshPlace b j = allUpTo (λ i. not (eqb (at b (suc i) .place) (at b (suc j) .place))) j
-
 unfoldable pub hasPlaces : Book → ℕ → Bool
-hasPlaces b next = allUpTo (λ j. ltb (at b (suc j) .place) next && isFreshPlace b j) (length b)
+hasPlaces b next = areFresh (λ i. at b i .place) next (length b)
 
 -- apart from the order in work, no IOC and no Fill or Kill is open
 unfoldable pub isDone : Order → Bool
@@ -192,5 +201,5 @@ hasDecision b w decided = eqb decided 0 || (eqb decided 1 && ltb 0 (minimumOf (a
 unfoldable pub isMarket : List ℕ → Bool
 isMarket t =
     hasLength t && hasSettings t && hasNext t && hasWork t && hasSpare t
-    && restZero t && hasOrders t && hasIds t && isBook (bookOf t) (workOf t) (nextOf t)
+    && restZero t && hasOrders t && hasIds t && hasOrderIds t && isBook (bookOf t) (workOf t) (nextOf t)
     && hasDecision (bookOf t) (workOf t) (decidedOf t)

@@ -1,17 +1,17 @@
 -- The orders of a table by name: reading a record, the book that matching works on, and the writes that change a record
--- (document 01, "The table and its calls"). Records count from 1. Writing changes the named bytes alone. Assumes nothing:
--- whether what is read makes sense is said in Market.
-use mathlib.Core.Bool.{Bool, cond}
+-- (document 01, "The table and its calls"; document 02, T-09). Records count from 1. Writing changes the named bytes alone.
+-- Assumes nothing: whether what is read makes sense is said in Market.
+use mathlib.Core.Bool.{Bool, not, cond}
 use mathlib.Core.List.{List, [], _∷_, _++_}
 use Prim.Native.Nat.{ℕ, zero, suc, _+_}
 use lib.Dec.{eqb, ltb}
-use lib.ListN.{getD}
+use lib.ListN.{getD, replicate}
 use Rattle.octets.specs.Octets.{leAt, bytesOf, put, textAt, textBytes, putText, sameBytes}
 use Rattle.octets.specs.Tests.{firstFrom}
 use Rattle.matching.specs.declared.Order.{Order}
 use Rattle.matching.specs.declared.Event.{Event}
-use Rattle.matching.specs.Matching.{Book, who, change}
-use Rattle.table.specs.Places.{mostOrders, recordAt, clOrdIdRoom, accountByte, accountRoom, sideByte, tifByte, capacityByte, classByte, levelByte, qtyByte, placeByte, mpidByte, sumByte, executedByte, decrementedByte, canceledByte, gapBytes, minQtyByte}
+use Rattle.matching.specs.Matching.{Book, isOpen, who, change}
+use Rattle.table.specs.Places.{mostOrders, recordAt, clOrdIdRoom, accountByte, accountRoom, sideByte, tifByte, capacityByte, classByte, levelByte, qtyByte, placeByte, mpidByte, sumByte, executedByte, decrementedByte, canceledByte, orderIdByte, minQtyByte, recordSpare}
 
 -- ---- reading
 
@@ -21,6 +21,10 @@ clOrdIdAt t i = textAt t (recordAt i)
 
 abbrev pub accountAt : List ℕ → ℕ → List ℕ
 accountAt t i = textAt t (recordAt i + accountByte)
+
+-- the OrderID, the number of the report that accepted the order: only reports and the rules of a market read it
+abbrev pub orderIdAt : List ℕ → ℕ → ℕ
+orderIdAt t i = leAt 4 t (recordAt i + orderIdByte)
 
 -- the capacity, a character, and the classification, a number: only reports read them
 abbrev pub capacityAt : List ℕ → ℕ → ℕ
@@ -63,13 +67,18 @@ ordersFrom t i (suc n) = orderAt t i ∷ ordersFrom t (i + 1) n
 unfoldable pub bookOf : List ℕ → Book
 bookOf t = ordersFrom t 1 (filled t)
 
--- among n records the first that has this ClOrdID, less 1; n if none has
-unfoldable pub idIndex : List ℕ → ℕ → List ℕ → ℕ
-idIndex t n xs = firstFrom (λ k. sameBytes (clOrdIdAt t (k + 1)) xs) 0 n
+-- the first of n records of which a test holds; 0 if it holds of none
+unfoldable pub firstRecord : (ℕ → Bool) → ℕ → ℕ
+firstRecord f n = let k = firstFrom (λ j. f (j + 1)) 0 n in cond (ltb k n) (k + 1) 0
 
 -- the record among the first n that has this ClOrdID; 0 if none has
 unfoldable pub recordWith : List ℕ → ℕ → List ℕ → ℕ
-recordWith t n xs = cond (ltb (idIndex t n xs) n) (idIndex t n xs + 1) 0
+recordWith t n xs = firstRecord (λ i. sameBytes (clOrdIdAt t i) xs) n
+
+-- the record that a new order takes: the next one while one is not filled; of a full table the lowest-numbered that has nothing
+-- open; 0 if every order is open
+unfoldable pub recordFor : List ℕ → ℕ
+recordFor t = cond (ltb (filled t) mostOrders) (filled t + 1) (firstRecord (λ i. not (isOpen (orderAt t i))) mostOrders)
 
 -- ---- writing
 
@@ -91,19 +100,19 @@ amountBytes o = bytesOf 8 (o .sum) ++ (bytesOf 4 (o .executed) ++ (bytesOf 4 (o 
 abbrev pub putAmounts : List ℕ → ℕ → Order → List ℕ
 putAmounts t i o = put t (recordAt i + sumByte) (amountBytes o)
 
--- what stands behind the MPID: the amounts, four unused bytes, MinQty
-unfoldable pub tailBytes : Order → List ℕ
-tailBytes o = amountBytes o ++ (bytesOf gapBytes 0 ++ bytesOf 4 (o .minqty))
+-- what stands behind the MPID, up to the end of the record: the amounts, the OrderID, MinQty, zeros
+unfoldable pub tailBytes : ℕ → Order → List ℕ
+tailBytes orderId o = amountBytes o ++ (bytesOf 4 orderId ++ (bytesOf 4 (o .minqty) ++ replicate recordSpare 0))
 
--- a record's bytes behind its texts: side, time in force, capacity, classification; the terms; the MPID; the amounts and MinQty
-unfoldable pub fieldBytes : ℕ → ℕ → Order → List ℕ
-fieldBytes capacity class o =
-    (o .side ∷ o .tif ∷ capacity ∷ class ∷ []) ++ (termBytes o ++ (bytesOf 4 (o .mpid) ++ tailBytes o))
+-- a record's bytes behind its texts: side, time in force, capacity, classification; the terms; the MPID; the rest
+unfoldable pub fieldBytes : ℕ → ℕ → ℕ → Order → List ℕ
+fieldBytes orderId capacity class o =
+    (o .side ∷ o .tif ∷ capacity ∷ class ∷ []) ++ (termBytes o ++ (bytesOf 4 (o .mpid) ++ tailBytes orderId o))
 
--- all of a record that is used
-unfoldable pub recordOf : List ℕ → List ℕ → ℕ → ℕ → Order → List ℕ
-recordOf clOrdId account capacity class o =
-    textBytes clOrdIdRoom clOrdId ++ (textBytes accountRoom account ++ fieldBytes capacity class o)
+-- all bytes of a record
+unfoldable pub recordOf : ℕ → List ℕ → List ℕ → ℕ → ℕ → Order → List ℕ
+recordOf orderId clOrdId account capacity class o =
+    textBytes clOrdIdRoom clOrdId ++ (textBytes accountRoom account ++ fieldBytes orderId capacity class o)
 
 -- ---- the table after an event
 
@@ -119,6 +128,6 @@ withdrawn t clOrdId e = putAmounts (putId t (who e) clOrdId) (who e) (change e (
 unfoldable pub replaced : List ℕ → List ℕ → Event → List ℕ
 replaced t clOrdId e = putTerms (putId t (who e) clOrdId) (who e) (change e (orderAt t (who e)))
 
--- after a new order, o, is accepted as record i
-unfoldable pub accepted : List ℕ → ℕ → List ℕ → List ℕ → ℕ → ℕ → Order → List ℕ
-accepted t i clOrdId account capacity class o = put t (recordAt i) (recordOf clOrdId account capacity class o)
+-- after a new order, o, is accepted as record i with this OrderID: nothing is left of what the record held
+unfoldable pub accepted : List ℕ → ℕ → ℕ → List ℕ → List ℕ → ℕ → ℕ → Order → List ℕ
+accepted t i orderId clOrdId account capacity class o = put t (recordAt i) (recordOf orderId clOrdId account capacity class o)

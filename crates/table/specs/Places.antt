@@ -1,6 +1,6 @@
 -- The byte places of the table (document 01, "The table and its calls": the team fixes them): 256 records of 128 bytes,
--- record 0 the heading, records 1 to 255 the orders in the order of their acceptance. A number is little endian; a text is a
--- length byte and room for its characters. docs/TABLE.md has the same as a table, with the range of each. Assumes nothing.
+-- record 0 the heading, records 1 to 255 the orders. A number is little endian; a text is a length byte and room for its
+-- characters. docs/TABLE.md has the same as a table, with the range of each. Assumes nothing.
 use Prim.Native.Nat.{ℕ, _*_}
 
 -- ---- the whole
@@ -130,12 +130,9 @@ decrementedByte = 76
 abbrev pub canceledByte : ℕ
 canceledByte = 80
 
--- four unused bytes
-abbrev pub gapByte : ℕ
-gapByte = 84
-
-abbrev pub gapBytes : ℕ
-gapBytes = 4
+-- the OrderID, 4 bytes: the number of the report that accepted the order (document 02, T-09)
+abbrev pub orderIdByte : ℕ
+orderIdByte = 84
 
 -- MinQty as it was sent, 4 bytes, 0 for none
 abbrev pub minQtyByte : ℕ

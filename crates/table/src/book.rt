@@ -1,13 +1,15 @@
-// Lookups in the records of a table: how many are filled, which has a ClOrdID, which is the best to meet an order.
+// Lookups in the records of a table: how many are filled, which has a ClOrdID, which a new order takes, which is the best to meet
+// an order.
 ghost use mathlib.Core.Path.{_≡_};
 ghost use Prim.Native.Nat.{_+_, _≤_, _<_};
 ghost use lib.ListN.{length};
 ghost use Rattle.matching.specs.Matching.{best, choose, countOf, opposed};
 ghost use Rattle.table.specs.Places.{tableBytes};
-ghost use Rattle.table.specs.Orders.{filled, bookOf, recordWith};
+ghost use Rattle.table.specs.Orders.{filled, bookOf, recordWith, recordFor};
 ghost use Rattle.table.specs.Facts.{Market};
 use crate::places;
 use crate::record::load;
+use crate::record::open_at;
 use matching::Order;
 
 // The number of filled records.
@@ -33,6 +35,24 @@ pub fn find_id(t: &[u8], n: usize, m: &[u8]) -> usize
     let mut k = 0;
     while k < n {
         if octets::text_is(t, places::RECORD * (k + 1), m) {
+            return k + 1;
+        }
+        k += 1;
+    }
+    0
+}
+
+// The record that a new order takes, n records being filled; 0 if every order is open.
+pub fn record_for(t: &[u8], n: usize) -> usize
+    requires { ⌜ (length (now t) ≡ tableBytes) × (n ≡ filled (now t)) ⌝ }
+    ensures { λ r. ⌜ (r ≡ recordFor (now (t .entry))) × (r ≤ 255) ⌝ }
+{
+    if n < places::MOST_ORDERS {
+        return n + 1;
+    }
+    let mut k = 0;
+    while k < places::MOST_ORDERS {
+        if !open_at(t, k + 1) {
             return k + 1;
         }
         k += 1;

@@ -102,11 +102,13 @@ pub const DECREMENTED: usize = 76;
 
 pub const CANCELED: usize = 80;
 
-// Four unused bytes.
-pub const GAP: usize = 84;
+// The OrderID, 4 bytes.
+pub const ORDER_ID: usize = 84;
 
 // MinQty as it was sent, 4 bytes.
 pub const MIN_QTY: usize = 88;
 
-// The first of the unused bytes up to the end of the record; how many they are stands in specs/Places.antt.
+// The first of the unused bytes up to the end of the record, and how many they are.
 pub const RECORD_END: usize = 92;
+
+pub const RECORD_SPARE: usize = 36;

@@ -6,7 +6,7 @@ ghost use lib.ListN.{length};
 ghost use Rattle.octets.specs.Octets.{leAt, put};
 ghost use Rattle.matching.specs.Matching.{isOpen, isBuy};
 ghost use Rattle.table.specs.Places.{tableBytes};
-ghost use Rattle.table.specs.Orders.{clOrdIdAt, accountAt, capacityAt, classificationAt, orderAt, termBytes, amountBytes, tailBytes, fieldBytes, putId, putTerms, putAmounts, accepted};
+ghost use Rattle.table.specs.Orders.{clOrdIdAt, accountAt, orderIdAt, capacityAt, classificationAt, orderAt, termBytes, amountBytes, tailBytes, fieldBytes, putId, putTerms, putAmounts, accepted};
 use crate::places;
 use matching::Order;
 
@@ -115,12 +115,12 @@ pub fn level_at(t: &[u8], i: usize) -> u64
     four_at(t, places::RECORD * i + places::LEVEL)
 }
 
-// The place of record i.
-pub fn place_at(t: &[u8], i: usize) -> u64
+// The OrderID of record i.
+pub fn order_id(t: &[u8], i: usize) -> u64
     requires { ⌜ (length (now t) ≡ tableBytes) × (i < 256) ⌝ }
-    ensures { λ r. ⌜ (r ≡ orderAt (now (t .entry)) i .place) × (r < 4294967296) ⌝ }
+    ensures { λ r. ⌜ (r ≡ orderIdAt (now (t .entry)) i) × (r < 4294967296) ⌝ }
 {
-    four_at(t, places::RECORD * i + places::PLACE)
+    four_at(t, places::RECORD * i + places::ORDER_ID)
 }
 
 // Writes the terms of an order from place p on.
@@ -144,14 +144,15 @@ fn write_amounts(t: &mut [u8], p: usize, o: Order)
     octets::put_le(t, p + 16, 4, o.canceled);
 }
 
-// Writes what stands behind the MPID of an order from place p on: the amounts, four unused bytes, MinQty.
-fn write_tail(t: &mut [u8], p: usize, o: Order)
-    requires { ⌜ p + 28 ≤ length (now t) ⌝ }
-    ensures { λ _. ⌜ now (t .exit) ≡ put (now (t .entry)) p (tailBytes o) ⌝ }
+// Writes what stands behind the MPID of an order from place p on: the amounts, the OrderID, MinQty, zeros.
+fn write_tail(t: &mut [u8], p: usize, orderid: u64, o: Order)
+    requires { ⌜ p + 64 ≤ length (now t) ⌝ }
+    ensures { λ _. ⌜ now (t .exit) ≡ put (now (t .entry)) p (tailBytes orderid o) ⌝ }
 {
     write_amounts(t, p, o);
-    octets::put_le(t, p + 20, 4, 0);
+    octets::put_le(t, p + 20, 4, orderid);
     octets::put_le(t, p + 24, 4, o.minqty);
+    octets::put_zeros(t, p + 28, places::RECORD_SPARE);
 }
 
 // Writes four bytes from place p on.
@@ -166,14 +167,14 @@ fn write_four(t: &mut [u8], p: usize, a: u8, b: u8, c: u8, d: u8)
 }
 
 // Writes what stands behind the texts of a record from place p on.
-fn write_fields(t: &mut [u8], p: usize, capacity: u8, class: u8, o: Order)
-    requires { ⌜ (p + 48 ≤ length (now t)) × (o .side < 256) × (o .tif < 256) ⌝ }
-    ensures { λ _. ⌜ now (t .exit) ≡ put (now (t .entry)) p (fieldBytes capacity class o) ⌝ }
+fn write_fields(t: &mut [u8], p: usize, orderid: u64, capacity: u8, class: u8, o: Order)
+    requires { ⌜ (p + 84 ≤ length (now t)) × (o .side < 256) × (o .tif < 256) ⌝ }
+    ensures { λ _. ⌜ now (t .exit) ≡ put (now (t .entry)) p (fieldBytes orderid capacity class o) ⌝ }
 {
     write_four(t, p, o.side as u8, o.tif as u8, capacity, class);
     write_terms(t, p + 4, o);
     octets::put_le(t, p + 16, 4, o.mpid);
-    write_tail(t, p + 20, o);
+    write_tail(t, p + 20, orderid, o);
 }
 
 // Sets the ClOrdID of record i.
@@ -200,10 +201,11 @@ pub fn put_amounts(t: &mut [u8], i: usize, o: Order)
     write_amounts(t, places::RECORD * i + places::SUM, o);
 }
 
-// Writes a new order as record i.
+// Writes a new order as record i, with its OrderID: every byte of the record.
 pub fn accept(
     t: &mut [u8],
     i: usize,
+    orderid: u64,
     clordid: &[u8],
     account: &[u8],
     capacity: u8,
@@ -211,7 +213,7 @@ pub fn accept(
     o: Order,
 )
     requires { ⌜ (length (now t) ≡ tableBytes) × (i < 256) × (length (now clordid) ≤ 32) × (length (now account) ≤ 10) × (o .side < 256) × (o .tif < 256) ⌝ }
-    ensures { λ _. ⌜ now (t .exit) ≡ accepted (now (t .entry)) i (now (clordid .entry)) (now (account .entry)) capacity class o ⌝ }
+    ensures { λ _. ⌜ now (t .exit) ≡ accepted (now (t .entry)) i orderid (now (clordid .entry)) (now (account .entry)) capacity class o ⌝ }
 {
     octets::put_text(t, places::RECORD * i, places::CL_ORD_ID_ROOM, clordid);
     octets::put_text(
@@ -220,5 +222,12 @@ pub fn accept(
         places::ACCOUNT_ROOM,
         account,
     );
-    write_fields(t, places::RECORD * i + places::SIDE, capacity, class, o);
+    write_fields(
+        t,
+        places::RECORD * i + places::SIDE,
+        orderid,
+        capacity,
+        class,
+        o,
+    );
 }

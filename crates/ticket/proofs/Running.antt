@@ -27,7 +27,7 @@ use Rattle.table.specs.Facts.{Market}
 use Rattle.table.specs.Changes.{missesNow, stepEvents}
 use Rattle.table.proofs.Same.{Same, same-in, work-same}
 use Rattle.table.proofs.Books.{length-book}
-use Rattle.table.proofs.Frames.{Framed, framed-formed, framed-filled, framed-listed}
+use Rattle.table.proofs.Frames.{Framed, framed-formed, framed-filled, framed-listed, framed-order-ids}
 use Rattle.table.proofs.Applied.{framed-applied, book-applied, heading-applied}
 use Rattle.table.proofs.Working.{work-some, has-work-kept}
 use Rattle.rows.specs.Rows.{text}
@@ -169,6 +169,7 @@ module _ (t : List ℕ) (m : Working t) where
     applied-orderly =
         record {
           formed = framed-formed t (applied t e) (m .orderly .formed .long) framed (m .orderly .formed);
+          order-ids = framed-order-ids t (applied t e) (m .orderly .formed .long) framed 1000000000 1000000000 (lit≤ tt) (m .orderly .order-ids);
           sound = λ k j.
               let i = back k (rw applied-book at j) in
               rw applied-book (play-sound k (e ∷ []) (bookOf t) (f, tt) (v, tt) (m .orderly .sound k i));

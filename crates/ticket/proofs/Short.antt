@@ -73,7 +73,7 @@ module _ (t message : List ℕ) where
   unfolding shownOn
   shown-in i h =
       record {
-        orderid-in = omega (arith, h .high);
+        orderid-in = h .orderid-high;
         order-in = h .sound;
         mpid-in = h .owner;
         code-in = stored-short _ 1 9 18 (h .code);
@@ -165,7 +165,7 @@ module _ (t message : List ℕ) where
       cancel-reject-short message t _ u (stamp-in n time (h .heading))
       (record {
         id-in = h .clOrdId .most;
-        orderid-in = omega (arith, h .orderid);
+        orderid-in = h .orderid;
         orig-in = h .orig .most;
         reason-in = among-below (0 ∷ 1 ∷ 2 ∷ []) 10 (u .reason) (lit< tt & lit< tt & lit< tt & tt) (h .reason);
         response-in = among-below (1 ∷ 2 ∷ []) 10 (u .response) (lit< tt & lit< tt & tt) (h .response);

@@ -20,16 +20,17 @@ use Rattle.matching.specs.declared.Event.{Event}
 use Rattle.matching.specs.declared.Event.the-variants.{Accepted, Replaced, Withdrawn}
 use Rattle.matching.specs.Matching.{at, openOf, who, change}
 use Rattle.matching.specs.Held.{In, Enters, Renews}
+use Rattle.matching.proofs.Conserved.{takes-low}
 use Rattle.table.specs.Places.{tableBytes}
 use Rattle.table.specs.Heading.{nextOf, workOf, isListed, putNext, putWork}
-use Rattle.table.specs.Orders.{orderAt, filled, bookOf, termBytes, amountBytes, recordOf, putId, accepted, replaced, withdrawn}
+use Rattle.table.specs.Orders.{orderIdAt, orderAt, filled, bookOf, termBytes, amountBytes, recordOf, putId, accepted, replaced, withdrawn}
 use Rattle.table.specs.Market.{every, isPrintable, isCapacity, isClass}
 use Rattle.table.specs.Facts.{Market, Named}
 use Rattle.table.specs.Changes.{numbered, entered, renewed, taken}
 use Rattle.table.proofs.Same.{same-sym, filled-few}
 use Rattle.table.proofs.Stores.{work-got}
 use Rattle.table.proofs.Books.{length-book, at-book}
-use Rattle.table.proofs.Frames.{Framed, framed-long, framed-filled, framed-listed, framed-heading, framed-then, framed-formed, market-formed}
+use Rattle.table.proofs.Frames.{Framed, framed-long, framed-filled, framed-listed, framed-heading, framed-then, framed-formed, framed-order-ids, market-formed}
 use Rattle.table.proofs.Applied.{book-next, book-work, framed-amounts}
 use Rattle.table.proofs.Naming.{named-formed, named-filled}
 use Rattle.table.proofs.Kept.{taken-kept, renewed-kept, entered-kept}
@@ -38,7 +39,7 @@ use Rattle.rows.specs.Rows.{text, statusOf}
 use Rattle.ticket.specs.declared.Cause.{Cause}
 use Rattle.ticket.specs.Tickets.{unchangedOn}
 use Rattle.ticket.specs.Legible.{textBy, Placed, isAmong, Headed, Recorded, Details, Legible, LegibleUnchanged, Holder}
-use Rattle.ticket.proofs.Formed.{formed-headed, Orderly, orderly-recorded}
+use Rattle.ticket.proofs.Formed.{formed-headed, Orderly, market-orderly, orderly-recorded}
 
 -- ---- texts of the message
 
@@ -73,6 +74,7 @@ orderly-back u v long f b m =
     let g = framed-back u v long f in
     record {
       formed = framed-formed v u (m .long) g (market-formed v m);
+      order-ids = framed-order-ids v u (m .long) g (nextOf v) 1000000000 (m .held .next-high) (m .order-ids);
       sound = rw b at (m .held .sound);
       owned = rw (b, framed-listed u v long f) at (m .held .owned);
     }
@@ -117,20 +119,20 @@ told : (u message : List ℕ) (n : ℕ) (c : Cause) (e : Event) → Orderly u �
 told u message n c e o i low high s d =
     record { heading = formed-headed u (o .formed) message n (c .time) low high s; order = orderly-recorded u o (who e) i; details = d }
 
--- a new order
-module _ (t message clOrdId account : List ℕ) (capacity class : ℕ) (o : Order) (c : Cause) where
+-- a new order, as record k: the number of the report is its OrderID
+module _ (t message : List ℕ) (k : ℕ) (clOrdId account : List ℕ) (capacity class : ℕ) (o : Order) (c : Cause) where
   pub new-legible : Market t → workOf t ≡ 0 → Named t clOrdId → length account ≤ 10 → every isPrintable account ≡ true → isCapacity capacity ≡ true
-      → isClass class ≡ true → Enters (isListed t) (nextOf t) (bookOf t) (filled t + 1) o
-      → isTime (textBy message (accepted t (filled t + 1) clOrdId account capacity class o) (c .time)) ≡ true
-      → Legible (accepted t (filled t + 1) clOrdId account capacity class o) message (nextOf t) c (Accepted (filled t + 1) o)
+      → isClass class ≡ true → Enters (isListed t) (nextOf t) (bookOf t) k o
+      → isTime (textBy message (accepted t k (nextOf t) clOrdId account capacity class o) (c .time)) ≡ true
+      → Legible (accepted t k (nextOf t) clOrdId account capacity class o) message (nextOf t) c (Accepted k o)
   unfolding entered accepted
   new-legible m idle g few printable a b e s =
-      let u : List ℕ = accepted t (filled t + 1) clOrdId account capacity class o in
-      let long : length u ≡ tableBytes = length-put t (128 * (filled t + 1)) (recordOf clOrdId account capacity class o) ∙ m .long in
+      let u : List ℕ = accepted t k (nextOf t) clOrdId account capacity class o in
+      let long : length u ≡ tableBytes = length-put t (128 * k) (recordOf (nextOf t) clOrdId account capacity class o) ∙ m .long in
       let stamp : List ℕ = textBy message u (c .time) in
-      let v = entered-kept t clOrdId account capacity class o stamp m idle g few printable a b e s in
-      told u message (nextOf t) c (Accepted (filled t + 1) o) (orderly-worked u long (filled t + 1) stamp (time-short stamp s) v)
-      (worked-in u long (filled t + 1) stamp (time-short stamp s) (omega arith) v) (m .next-low) (omega (arith, e .numbered)) s tt
+      let v = entered-kept t k clOrdId account capacity class o m g few printable a b e stamp idle s in
+      told u message (nextOf t) c (Accepted k o) (orderly-worked u long k stamp (time-short stamp s) v)
+      (worked-in u long k stamp (time-short stamp s) (takes-low (bookOf t) k (e .number)) v) (m .next-low) (omega (arith, e .numbered)) s tt
 
 module _ (t message clOrdId : List ℕ) (k : ℕ) (c : Cause) (m : Market t) (idle : workOf t ≡ 0) (i : In (bookOf t) k) (g : Named t clOrdId) where
   -- a replacement
@@ -191,6 +193,7 @@ market-holder t i m h =
     record {
       long = m .long;
       high = omega (arith, filled-few t);
+      numbered = λ l. market-orderly t m .order-ids .below i l h;
       covered = λ l.
           let j : In (bookOf t) i = record { low = l; high = omega (arith, length-book t) } in
           rw (at-book t i l h) at (m .held .sound i j .covered);
@@ -204,7 +207,7 @@ status-among o =
     (λ a. rw a (split (eqb (openOf o) 0) (λ b. rw b) (λ b. rw b (split (ltb 0 (o .executed)) (λ d. rw d) (λ d. rw d)))))
 
 module _ (t message : List ℕ) (n : ℕ) (time : Place) (i : ℕ) (id orig : Place) (reason response : ℕ) where
-  pub unchanged-legible : Headed t message n time → i < 256 → Placed isPrintable 1 32 message t id → Placed isPrintable 1 32 message t orig
+  pub unchanged-legible : Headed t message n time → Holder t i → Placed isPrintable 1 32 message t id → Placed isPrintable 1 32 message t orig
       → isAmong (0 ∷ 1 ∷ 2 ∷ []) reason ≡ true → isAmong (1 ∷ 2 ∷ []) response ≡ true
       → LegibleUnchanged t message n time (unchangedOn t i id orig reason response)
   unfolding unchangedOn
@@ -213,7 +216,7 @@ module _ (t message : List ℕ) (n : ℕ) (time : Place) (i : ℕ) (id orig : Pl
         heading = h;
         clOrdId = a;
         orig = b;
-        orderid = split (eqb i 0) (λ e. rw e (lit< tt)) (λ e. rw e l);
+        orderid = split (eqb i 0) (λ e. rw e (lit< tt)) (λ e. rw e (l .numbered (omega (arith, eqb-false i 0 e))));
         status = split (eqb i 0) (λ e. rw e) (λ e. rw e (status-among (orderAt t i)));
         reason = c;
         response = d;

@@ -15,7 +15,7 @@ use Rattle.matching.specs.Matching.{who}
 use Rattle.matching.specs.Held.{Sound, Covered}
 use Rattle.table.specs.Places.{tableBytes}
 use Rattle.table.specs.Heading.{venueOf, portOf, codeOf, workOf}
-use Rattle.table.specs.Orders.{clOrdIdAt, accountAt, capacityAt, classificationAt, orderAt}
+use Rattle.table.specs.Orders.{clOrdIdAt, accountAt, orderIdAt, capacityAt, classificationAt, orderAt}
 use Rattle.table.specs.Market.{every, isGraphic, isPrintable, isCapacity, isClass}
 use Rattle.report.specs.declared.Place.{Place}
 use Rattle.report.specs.Fields.{valueBytes}
@@ -66,6 +66,8 @@ pub record Recorded (t : List ℕ) (i : ℕ) : Type 0 where
   pub code : Spelt isDigit 1 9 (codeOf t)
   pub clOrdId : Spelt isPrintable 1 32 (clOrdIdAt t i)
   pub account : Spelt isPrintable 0 10 (accountAt t i)
+  pub orderid-low : 1 ≤ orderIdAt t i
+  pub orderid-high : orderIdAt t i < 1000000000
   pub capacity : isCapacity (capacityAt t i) ≡ true
   pub class : isClass (classificationAt t i) ≡ true
   pub sound : Sound (orderAt t i)
@@ -114,7 +116,7 @@ pub record LegibleUnchanged (t message : List ℕ) (n : ℕ) (time : Place) (u :
   pub heading : Headed t message n time
   pub clOrdId : Placed isPrintable 1 32 message t (u .id)
   pub orig : Placed isPrintable 1 32 message t (u .orig)
-  pub orderid : u .orderid < 256
+  pub orderid : u .orderid < 1000000000
   pub status : isAmong (0 ∷ 1 ∷ 2 ∷ 4 ∷ 8 ∷ []) (u .status) ≡ true
   pub reason : isAmong (0 ∷ 1 ∷ 2 ∷ []) (u .reason) ≡ true
   pub response : isAmong (1 ∷ 2 ∷ []) (u .response) ≡ true
@@ -123,6 +125,7 @@ pub record LegibleUnchanged (t message : List ℕ) (n : ℕ) (time : Place) (u :
 pub record Holder (t : List ℕ) (i : ℕ) : Type 0 where
   pub long : length t ≡ tableBytes
   pub high : i < 256
+  pub numbered : 1 ≤ i → orderIdAt t i < 1000000000
   pub covered : 1 ≤ i → Covered (orderAt t i)
 
 -- a message with a fault

@@ -1,6 +1,7 @@
--- Which report is written of what happens on a table (document 01, "The reports"): the row of each event, and of the order or
--- the change that is rejected. The table is the one after the event, before anything else changes; the number is the report's
--- own. Texts that the market keeps are named by where they stand in the table. Assumes nothing.
+-- Which report is written of what happens on a table (document 01, "The reports"; document 02, T-09): the row of each event, and
+-- of the order or the change that is rejected. The table is the one after the event, before anything else changes; the number is
+-- the report's own. 37 is the OrderID that the record keeps. Texts that the market keeps are named by where they stand in the
+-- table. Assumes nothing.
 use mathlib.Core.Bool.{Bool, true, false, cond}
 use mathlib.Core.List.{List}
 use mathlib.Core.Path.{_≡_}
@@ -13,7 +14,7 @@ use Rattle.matching.specs.Matching.{who}
 use Rattle.matching.specs.Held.{Sound}
 use Rattle.table.specs.Places.{tableBytes, recordAt, venueByte, portByte, codeByte, stampByte, accountByte}
 use Rattle.table.specs.Heading.{workOf}
-use Rattle.table.specs.Orders.{capacityAt, classificationAt, orderAt}
+use Rattle.table.specs.Orders.{orderIdAt, capacityAt, classificationAt, orderAt}
 use Rattle.report.specs.declared.Place.{Place}
 use Rattle.report.specs.declared.Value.{Value}
 use Rattle.report.specs.declared.Value.the-variants.{Absent, Stored}
@@ -37,10 +38,6 @@ storedAt t p = Stored (p + 1) (getD t p 0)
 
 unfoldable pub orStoredAt : List ℕ → ℕ → Value
 orStoredAt t p = cond (eqb (getD t p 0) 0) Absent (storedAt t p)
-
--- what 37 calls the order of record i: its number
-abbrev pub orderIdAt : List ℕ → ℕ → ℕ
-orderIdAt t i = i
 
 -- what report number n starts with, caused by a message with this 52
 unfoldable pub stampOn : List ℕ → ℕ → Place → Stamp

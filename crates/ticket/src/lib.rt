@@ -69,13 +69,14 @@ pub fn shown_on(t: &[u8], i: usize) -> Shown
     ensures { λ r. ⌜ r ≡ shownOn (now (t .entry)) i ⌝ }
 {
     let capacity = t[places::RECORD * i + places::CAPACITY];
+    let orderid = table::record::order_id(t, i);
     let order = table::record::load(t, i);
     let class = table::record::classification(t, i);
     let code = stored_at(t, places::CODE);
     let id = stored_at(t, places::RECORD * i);
     let account = or_stored_at(t, places::RECORD * i + places::ACCOUNT);
     Shown {
-        orderid: i as u64,
+        orderid,
         order,
         capacity,
         class,

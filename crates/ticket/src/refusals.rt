@@ -54,11 +54,12 @@ pub fn unchanged_on(
             response,
         };
     }
+    let orderid = table::record::order_id(t, i);
     let o = table::record::load(t, i);
     let status = rows::status_of(o);
     Unchanged {
         id,
-        orderid: i as u64,
+        orderid,
         status,
         orig,
         reason,

@@ -73,7 +73,7 @@ fn stamp_sent(number: u64) -> Stamp
     }
 }
 
-// The order of record 7, BUY-1, with its account.
+// Order 7, BUY-1, with its account.
 fn known(order: Order) -> Shown
     requires { ⌜ Sound order × (order .mpid < 10 ^ 6) ⌝ }
     ensures { λ r. ⌜ ShownFine r ⌝ }
@@ -105,7 +105,7 @@ fn renamed(order: Order) -> Shown
     }
 }
 
-// The order of record 255, with no account.
+// Order 255, with no account.
 fn bare(order: Order) -> Shown
     requires { ⌜ Sound order × (order .mpid < 10 ^ 6) ⌝ }
     ensures { λ r. ⌜ ShownFine r ⌝ }

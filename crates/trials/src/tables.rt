@@ -33,12 +33,13 @@ fn order(side: u64, tif: u64, level: u64, qty: u64, place: u64, mpid: u64, minqt
     }
 }
 
-// Two resting orders: a sell at 0.101 and a buy at 0.102.
+// Two resting orders, with OrderIDs 1 and 2: a sell at 0.101 and a buy at 0.102.
 fn resting(t: &mut [u8])
     requires { ⌜ length (now t) ≡ 32768 ⌝ }
 {
     accept(
         t,
+        1,
         1,
         b"S1",
         b"ACC",
@@ -49,6 +50,7 @@ fn resting(t: &mut [u8])
     accept(
         t,
         2,
+        2,
         b"B1",
         b"",
         b'A',
@@ -57,12 +59,13 @@ fn resting(t: &mut [u8])
     );
 }
 
-// A buy of 70 at 0.100, which meets the sell, of this time in force and MinQty.
+// A buy of 70 at 0.100, which meets the sell, of this time in force and MinQty, with OrderID 3.
 fn meeting(t: &mut [u8], tif: u64, minqty: u64)
     requires { ⌜ (length (now t) ≡ 32768) × (tif < 256) ⌝ }
 {
     accept(
         t,
+        3,
         3,
         b"B2",
         b"",

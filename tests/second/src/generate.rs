@@ -158,22 +158,35 @@ const PROFILES: &[Profile] = &[
     },
 ];
 
-/// A market that fills up; only for long histories, because it takes many messages.
+/// A market whose table fills up with open orders, and one with more orders in its day than a table has room for; only
+/// for long histories, because they take many messages.
 const FULL: Profile = Profile {
     name: "a full table",
     yields: APART,
     quantities: SMALL,
-    messages: 460,
-    damage: 12,
-    new_orders: 88,
+    messages: 560,
+    damage: 8,
+    new_orders: 96,
     sells: 50,
-    ioc: 8,
+    ioc: 3,
     with_mpid: 80,
     first_number: (1, 0),
 };
+const DAY: Profile = Profile {
+    name: "a whole day",
+    yields: TIGHT,
+    quantities: ROUND,
+    messages: 600,
+    damage: 10,
+    new_orders: 80,
+    sells: 50,
+    ioc: 25,
+    with_mpid: 75,
+    first_number: (900, 200),
+};
 
 /// How many messages must be left to be made for a table to be filled.
-const LONG: u64 = 1_000;
+const LONG: u64 = 1_200;
 
 /// Reports, and copies, that are kept for reading.
 const KEPT: usize = 16;
@@ -250,10 +263,10 @@ impl Generator {
     /// Opens the next market; before that, sometimes one with a wrong setting.
     fn open_market(&mut self, left: u64) {
         self.markets += 1;
-        self.profile = if self.markets % 13 == 7 && left >= LONG {
-            FULL
-        } else {
-            PROFILES[(self.markets as usize - 1) % PROFILES.len()].clone()
+        self.profile = match self.markets % 13 {
+            3 if left >= LONG => DAY,
+            7 if left >= LONG => FULL,
+            _ => PROFILES[(self.markets as usize - 1) % PROFILES.len()].clone(),
         };
         self.used_ids.clear();
         self.ids = 0;
@@ -618,7 +631,7 @@ impl Generator {
     /// A yield of the profile. In a market that is to fill up, buys mostly stay above sells.
     fn yield_for(&mut self, side: &str) -> String {
         let at = self.random.pick(self.profile.yields);
-        if self.profile.name == FULL.name && side == "1" && self.random.percent(90) {
+        if self.profile.name == FULL.name && side == "1" && self.random.percent(98) {
             return format!("1{at}");
         }
         at.to_string()

@@ -82,7 +82,7 @@ pub(crate) struct Work {
     pub(crate) is_decided: bool,
 }
 
-/// One bond, one FIX port, up to 255 orders. Record numbers are places in `orders`, counted from 1.
+/// One bond, one FIX port, up to 255 orders at a time. Record numbers are places in `orders`, counted from 1.
 #[derive(Clone, Debug, PartialEq, Eq)]
 pub struct Market {
     pub(crate) venue: Vec<u8>,
@@ -208,7 +208,7 @@ impl Market {
         levels
     }
 
-    /// All orders, dead ones too, in the order of their acceptance.
+    /// All orders that have a record, dead ones too.
     pub fn orders(&self) -> &[Order] {
         &self.orders
     }
@@ -263,7 +263,7 @@ impl Market {
             Some(99)
         } else if self.position(order.cl_ord_id).is_some() {
             Some(6)
-        } else if self.orders.len() == MOST_ORDERS {
+        } else if self.free_record().is_none() {
             Some(0)
         } else {
             None
@@ -289,9 +289,19 @@ impl Market {
         }
     }
 
-    /// Takes a new order: it is in work.
+    /// Where a new order goes: behind the others while there is room, then to the first that has nothing open.
+    fn free_record(&self) -> Option<usize> {
+        if self.orders.len() < MOST_ORDERS {
+            Some(self.orders.len())
+        } else {
+            self.orders.iter().position(|order| order.open() == 0)
+        }
+    }
+
+    /// Takes a new order: it is in work. A dead one may have to go for it.
     fn accept(&mut self, message: &Message, new: &NewOrder) -> Vec<u8> {
-        self.orders.push(Order {
+        let order = Order {
+            order_id: self.next_number,
             cl_ord_id: new.cl_ord_id.to_vec(),
             account: new.account.map(<[u8]>::to_vec),
             mpid: new.mpid,
@@ -307,10 +317,14 @@ impl Market {
             canceled: 0,
             sum: 0,
             place: self.next_number,
-        });
-        let last = self.orders.len() - 1;
-        self.put_in_work(last, message.sending_time);
-        self.write(message.sending_time, |market, heading| report::accepted(heading, last + 1, &market.orders[last]))
+        };
+        let record = self.free_record().expect("a new order is taken only where there is room for it");
+        match self.orders.get_mut(record) {
+            Some(dead) => *dead = order,
+            None => self.orders.push(order),
+        }
+        self.put_in_work(record, message.sending_time);
+        self.write(message.sending_time, |market, heading| report::accepted(heading, &market.orders[record]))
     }
 
     /// Does what an F or a G asks, once it has been found good.
@@ -398,9 +412,11 @@ impl Market {
                 is_resting: own == resting,
                 match_number,
             };
-            reports.push(self.write(&work.sending_time, |market, heading| {
-                report::trade(heading, own + 1, &market.orders[own], execution)
-            }));
+            reports.push(
+                self.write(&work.sending_time, |market, heading| {
+                    report::trade(heading, &market.orders[own], execution)
+                }),
+            );
         }
         reports
     }
@@ -417,13 +433,11 @@ impl Market {
     }
 
     fn write_canceled(&mut self, time: &[u8], order: usize, cause: CancelCause) -> Vec<u8> {
-        self.write(time, |market, heading| report::canceled(heading, order + 1, &market.orders[order], cause))
+        self.write(time, |market, heading| report::canceled(heading, &market.orders[order], cause))
     }
 
     fn write_replaced(&mut self, time: &[u8], order: usize, orig: &[u8], restatement: Option<Restatement>) -> Vec<u8> {
-        self.write(time, |market, heading| {
-            report::replaced(heading, order + 1, &market.orders[order], orig, restatement)
-        })
+        self.write(time, |market, heading| report::replaced(heading, &market.orders[order], orig, restatement))
     }
 
     fn session_reject(&mut self, message: &Message, reject: SessionReject) -> Vec<u8> {
@@ -453,7 +467,7 @@ impl Market {
             let reject = CancelReject {
                 cl_ord_id: change.cl_ord_id,
                 orig_cl_ord_id: change.orig_cl_ord_id,
-                order: position.map(|position| (position + 1, &market.orders[position])),
+                order: position.map(|position| &market.orders[position]),
                 reason,
                 response_to: if change.replacement.is_some() { b'2' } else { b'1' },
             };

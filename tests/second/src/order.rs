@@ -61,11 +61,12 @@ impl TimeInForce {
     }
 }
 
-/// One order, alive or dead. `sum` is the sum of quantity times yield in thousandths over its executions.
-/// `place` is the number of its Accepted report, or of the last requested Replaced that did not keep the place.
-/// `min_qty` is its 110, if it was sent with one.
+/// One order, alive or dead. `order_id` is the number of its Accepted report; so is `place`, unless a requested Replaced
+/// did not keep it: then it is the number of the last such. `sum` is the sum of quantity times yield in thousandths over
+/// its executions. `min_qty` is its 110, if it was sent with one.
 #[derive(Clone, Debug, PartialEq, Eq)]
 pub struct Order {
+    pub order_id: u64,
     pub cl_ord_id: Vec<u8>,
     pub account: Option<Vec<u8>>,
     pub mpid: Option<u64>,

@@ -49,10 +49,8 @@ enum Shape {
     /// 1 to 9 digits, leading zeros kept.
     Code,
     Time,
-    /// A record number.
-    OrderId,
-    /// A record number, or NONE.
-    OrderIdOrNone,
+    /// The number of a report, or NONE.
+    NumberOrNone,
 }
 
 /// One place in a kind's row.
@@ -86,7 +84,7 @@ const EXEC_ID: Slot = needs(17, REPORT_NUMBER);
 const EXEC_TRANS_TYPE: Slot = needs(20, Shape::OneOf(&["0"]));
 const LAST_PX: Slot = needs(31, YIELD);
 const LAST_SHARES: Slot = needs(32, QUANTITY);
-const ORDER_ID: Slot = needs(37, Shape::OrderId);
+const ORDER_ID: Slot = needs(37, REPORT_NUMBER);
 const ORDER_QTY: Slot = needs(38, QUANTITY);
 const ORD_TYPE: Slot = needs(40, Shape::OneOf(&["2"]));
 const PRICE: Slot = needs(44, YIELD);
@@ -252,7 +250,7 @@ const REJECTED: &[Slot] = &[
 
 const CANCEL_REJECT: &[Slot] = &[
     ID,
-    needs(37, Shape::OrderIdOrNone),
+    needs(37, Shape::NumberOrNone),
     status(&["0", "1", "2", "4", "8"]),
     needs(41, CL_ORD_ID),
     needs(102, Shape::OneOf(&["0", "1", "2"])),
@@ -375,8 +373,7 @@ fn has_shape(value: &[u8], shape: Shape) -> bool {
         Shape::Id(most) => (1..=most).contains(&value.len()) && value.iter().all(|&byte| is_id_character(byte)),
         Shape::Code => is_digits(value, 9),
         Shape::Time => is_time(value),
-        Shape::OrderId => plain_number(value).is_some_and(|record| (1..=255).contains(&record)),
-        Shape::OrderIdOrNone => value == b"NONE" || has_shape(value, Shape::OrderId),
+        Shape::NumberOrNone => value == b"NONE" || has_shape(value, REPORT_NUMBER),
     }
 }
 

@@ -65,12 +65,12 @@ pub struct RejectedOrder<'a> {
     pub reason: u64,
 }
 
-/// What Cancel reject says; `order` is the record number and the order that has ClOrdID 41.
+/// What Cancel reject says; `order` is the one that has ClOrdID 41.
 #[derive(Clone, Copy, Debug)]
 pub struct CancelReject<'a> {
     pub cl_ord_id: &'a [u8],
     pub orig_cl_ord_id: &'a [u8],
-    pub order: Option<(usize, &'a Order)>,
+    pub order: Option<&'a Order>,
     pub reason: u64,
     pub response_to: u8,
 }
@@ -120,21 +120,15 @@ pub fn yield_text(thousandths: i64) -> String {
 }
 
 /// Accepted (7.5.1).
-pub fn accepted(heading: Heading, record: usize, order: &Order) -> Vec<u8> {
-    let mut body = of_order(heading, record, order);
+pub fn accepted(heading: Heading, order: &Order) -> Vec<u8> {
+    let mut body = of_order(heading, order);
     body.char(39, b'0').char(150, b'0');
     framed(heading, b"8", body)
 }
 
 /// Replaced (7.5.2), requested by a G (`orig_cl_ord_id` is its 41) or a decrement.
-pub fn replaced(
-    heading: Heading,
-    record: usize,
-    order: &Order,
-    orig_cl_ord_id: &[u8],
-    restatement: Option<Restatement>,
-) -> Vec<u8> {
-    let mut body = of_order(heading, record, order);
+pub fn replaced(heading: Heading, order: &Order, orig_cl_ord_id: &[u8], restatement: Option<Restatement>) -> Vec<u8> {
+    let mut body = of_order(heading, order);
     body.char(39, if order.executed > 0 { b'1' } else { b'5' }).char(150, b'5').text(41, orig_cl_ord_id);
     if let Some(restatement) = restatement {
         body.number(378, restatement.code());
@@ -143,8 +137,8 @@ pub fn replaced(
 }
 
 /// Canceled (7.5.3).
-pub fn canceled(heading: Heading, record: usize, order: &Order, cause: CancelCause) -> Vec<u8> {
-    let mut body = of_order(heading, record, order);
+pub fn canceled(heading: Heading, order: &Order, cause: CancelCause) -> Vec<u8> {
+    let mut body = of_order(heading, order);
     body.char(39, b'4').char(150, b'4');
     match cause {
         CancelCause::Requested { orig_cl_ord_id } => body.text(41, orig_cl_ord_id),
@@ -154,9 +148,9 @@ pub fn canceled(heading: Heading, record: usize, order: &Order, cause: CancelCau
 }
 
 /// Trade (7.5.4), one side of it, the order being as it is after the trade.
-pub fn trade(heading: Heading, record: usize, order: &Order, execution: Execution) -> Vec<u8> {
+pub fn trade(heading: Heading, order: &Order, execution: Execution) -> Vec<u8> {
     let status = if order.open() == 0 { b'2' } else { b'1' };
-    let mut body = of_order(heading, record, order);
+    let mut body = of_order(heading, order);
     body.text(31, yield_text(execution.at).as_bytes())
         .number(32, execution.quantity)
         .char(39, status)
@@ -192,11 +186,11 @@ pub fn cancel_reject(heading: Heading, reject: CancelReject) -> Vec<u8> {
     let mut body = Body::new();
     body.text(11, reject.cl_ord_id)
         .text(41, reject.orig_cl_ord_id)
-        .char(39, reject.order.map_or(b'8', |(_, order)| status_now(order)))
+        .char(39, reject.order.map_or(b'8', status_now))
         .number(102, reject.reason)
         .char(434, reject.response_to);
     match reject.order {
-        Some((record, _)) => body.number(37, record as u64),
+        Some(order) => body.number(37, order.order_id),
         None => body.text(37, b"NONE"),
     };
     framed(heading, b"9", body)
@@ -226,14 +220,14 @@ pub fn session_reject(heading: Heading, refused: Refused) -> Vec<u8> {
 }
 
 /// The fields that the four kinds about an order share, from the order as it is after the event.
-fn of_order(heading: Heading, record: usize, order: &Order) -> Body {
+fn of_order(heading: Heading, order: &Order) -> Body {
     let mut body = Body::new();
     body.text(6, fixed_point(order.average_millionths(), 6).as_bytes())
         .text(11, &order.cl_ord_id)
         .number(14, order.executed)
         .number(17, heading.number)
         .char(20, b'0')
-        .number(37, record as u64)
+        .number(37, order.order_id)
         .number(38, order.order_qty)
         .char(40, b'2')
         .text(44, yield_text(order.yield_thousandths).as_bytes())

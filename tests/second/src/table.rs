@@ -45,6 +45,7 @@ mod record {
     pub const EXECUTED: usize = 72;
     pub const DECREMENTED: usize = 76;
     pub const CANCELED: usize = 80;
+    pub const ORDER_ID: usize = 84;
     pub const MIN_QTY: usize = 88;
 }
 
@@ -109,6 +110,7 @@ fn put_order(record: &mut [u8], order: &Order) {
         (record::EXECUTED, order.executed),
         (record::DECREMENTED, order.decremented),
         (record::CANCELED, order.canceled),
+        (record::ORDER_ID, order.order_id),
         (record::MIN_QTY, order.min_qty.unwrap_or(0)),
     ] {
         put_number(record, at, 4, number);
@@ -164,6 +166,7 @@ fn parsed_order(record: &[u8]) -> Option<Order> {
     let four = |at| number(record, at, 4);
     let executed = four(record::EXECUTED);
     Some(Order {
+        order_id: four(record::ORDER_ID),
         cl_ord_id: text(record, record::CL_ORD_ID, 32)?,
         account: text(record, record::ACCOUNT, 10).map(|account| Some(account).filter(|text| !text.is_empty()))?,
         mpid: Some(four(record::MPID)).filter(|&mpid| mpid != 0),
@@ -200,6 +203,7 @@ fn is_market(market: &Market) -> bool {
         && market.orders.iter().all(|order| is_order(market, order))
         && are_distinct(market.orders.iter().map(|order| order.cl_ord_id.as_slice()))
         && are_distinct(market.orders.iter().map(|order| order.place))
+        && are_distinct(market.orders.iter().map(|order| order.order_id))
         && market.work.as_ref().is_none_or(|work| is_work(market, work))
         && is_settled(market)
 }
@@ -227,6 +231,7 @@ fn is_order(market: &Market, order: &Order) -> bool {
         && (order.canceled == 0 || gone == order.order_qty)
         && order.sum.abs() <= i128::from(order.executed) * 999_999_999
         && (1..market.next_number).contains(&order.place)
+        && (1..market.next_number).contains(&order.order_id)
         && has_good_minimum(order)
 }
 

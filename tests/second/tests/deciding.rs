@@ -7,6 +7,7 @@ use second::random::Random;
 /// An order of some side at one of four yields, of 1 to 20 bonds, without an MPID or with 10 or 11.
 fn some_order(random: &mut Random, side: Side, place: u64) -> Order {
     Order {
+        order_id: place,
         cl_ord_id: place.to_string().into_bytes(),
         account: None,
         mpid: random.pick(&[None, Some(10), Some(10), Some(11)]),

@@ -40,6 +40,11 @@ fn number(report: &Report, tag: u32) -> u64 {
     std::str::from_utf8(value).unwrap().parse().unwrap_or_else(|_| panic!("{tag} is a number"))
 }
 
+/// The place among the orders of the one with this OrderID.
+fn record_of(market: &Market, order_id: u64) -> Option<usize> {
+    market.orders().iter().position(|order| order.order_id == order_id)
+}
+
 impl Book {
     /// Takes one report into the tallies.
     fn tell(&mut self, report: &Report) {
@@ -69,13 +74,14 @@ impl Book {
         tally.leaves = leaves;
     }
 
-    /// Accepted = executions + decrements + cancels + open for every order, and bought = sold.
+    /// Accepted = executions + decrements + cancels + open for every order, gone ones included, which have nothing
+    /// open, and bought = sold.
     fn assert_conserved(&self, market: &Market) {
-        assert_eq!(self.tallies.len(), market.orders().len());
-        for (record, tally) in &self.tallies {
-            let open = market.orders()[*record as usize - 1].open();
-            assert_eq!(tally.accepted, tally.executed + tally.decremented + tally.canceled + open, "order {record}");
-            assert_eq!(tally.leaves, open, "order {record}");
+        assert!(market.orders().iter().all(|order| self.tallies.contains_key(&order.order_id)));
+        for (&order_id, tally) in &self.tallies {
+            let open = record_of(market, order_id).map_or(0, |record| market.orders()[record].open());
+            assert_eq!(tally.accepted, tally.executed + tally.decremented + tally.canceled + open, "order {order_id}");
+            assert_eq!(tally.leaves, open, "order {order_id}");
         }
         assert_eq!(self.bought, self.sold);
     }
@@ -147,10 +153,22 @@ fn assert_no_self_trade(reports: &[Report]) {
 /// An order that was replaced as requested has kept its place if the yield stayed and 38 did not rise; else its place
 /// is the report's number.
 fn assert_place_follows(before: &Market, after: &Market, report: &Report) {
-    let record = number(report, 37) as usize - 1;
+    let record = record_of(after, number(report, 37)).expect("the order has a record");
     let (old, new) = (&before.orders()[record], &after.orders()[record]);
     let keeps = old.yield_thousandths == new.yield_thousandths && number(report, 38) <= old.order_qty;
     assert_eq!(new.place, if keeps { old.place } else { number(report, 34) });
+}
+
+/// A new order has the number of its Accepted report as OrderID and as place. It stands behind all others, or where the
+/// table was full in the lowest record that had nothing open; the others are as they were.
+fn assert_record_follows(before: &Market, after: &Market, report: &Report) {
+    let dead = before.orders().iter().position(|order| order.open() == 0);
+    let free = if before.orders().len() < 255 { before.orders().len() } else { dead.expect("there is room") };
+    let new = &after.orders()[free];
+    assert_eq!((new.order_id, new.place, number(report, 37)), [number(report, 34); 3].into());
+    assert_eq!(after.in_work(), Some(free + 1));
+    assert_eq!(after.orders()[..free], before.orders()[..free]);
+    assert_eq!(after.orders()[free + 1..], before.orders()[(free + 1).min(before.orders().len())..]);
 }
 
 fn open_orders(market: &Market, side: Side) -> Vec<&Order> {
@@ -188,6 +206,7 @@ fn assert_is_market(market: &Market) {
         assert!(order.sum.abs() <= i128::from(order.executed) * 999_999_999);
         assert!(order.mpid.is_none_or(|mpid| market.mpids().contains(&mpid)));
         assert!((1..market.next_number()).contains(&order.place));
+        assert!((1..market.next_number()).contains(&order.order_id));
         assert!(order.min_qty.is_none_or(|minimum| (1..=order.order_qty).contains(&minimum)));
         assert!(order.min_qty.is_none() || order.time_in_force == TimeInForce::ImmediateOrCancel);
     }
@@ -195,6 +214,7 @@ fn assert_is_market(market: &Market) {
     assert!(!market.is_decided() || in_work.is_some_and(|order| order.minimum() > 0));
     assert_eq!(orders.iter().map(|order| &order.cl_ord_id).collect::<BTreeSet<_>>().len(), orders.len());
     assert_eq!(orders.iter().map(|order| order.place).collect::<BTreeSet<_>>().len(), orders.len());
+    assert_eq!(orders.iter().map(|order| order.order_id).collect::<BTreeSet<_>>().len(), orders.len());
     assert_uncrossed(market);
     assert_numbers_suffice(market);
 }
@@ -302,6 +322,8 @@ impl History {
             let report = read(&submitted.report).expect("what is written can be read");
             if report.kind == Kind::Replaced {
                 assert_place_follows(before.expect("a market is open"), self.market(), &report);
+            } else {
+                assert_record_follows(before.expect("a market is open"), self.market(), &report);
             }
         }
     }
@@ -474,6 +496,23 @@ fn generated_minimums_are_reached_and_missed_in_all_three_modes() {
             assert!(count >= 5, "mode {mode}, killed {is_killed}: {count}");
         }
     }
+}
+
+#[test]
+fn generated_days_have_more_orders_than_a_table_has_room_for() {
+    let (mut taken_over, mut gone_before) = (0, BTreeSet::new());
+    let mut desk = Desk::new();
+    for command in commands(HISTORIES[1].0, HISTORIES[1].1) {
+        let before = desk.market().map_or(Vec::new(), |market| market.orders().to_vec());
+        let is_new = desk.answer(&command).starts_with("s 0") && before.len() == 255;
+        let after = desk.market().map_or(&[][..], Market::orders);
+        for (old, new) in before.iter().zip(after).filter(|(old, new)| is_new && old.order_id != new.order_id) {
+            taken_over += 1;
+            gone_before.insert((old.executed > 0, old.canceled > 0, old.decremented > 0));
+            assert_eq!((old.open(), new.open()), (0, new.order_qty));
+        }
+    }
+    assert!(taken_over >= 100 && gone_before.len() >= 4, "{taken_over} taken over: {gone_before:?}");
 }
 
 /// Whether an open order of the same side and yield stands behind this one.

@@ -19,17 +19,45 @@ fn play(market: &mut Market, draft: &Draft) -> u64 {
     number
 }
 
+/// The 103 that a message gets.
+fn reason(market: &mut Market, draft: &Draft) -> Vec<u8> {
+    let submitted = market.submit(&draft.bytes(), 1024);
+    assert_eq!(submitted.number, Refusal::OrderRejected.number());
+    read(&submitted.report).expect("Rejected can be read").value(103).expect("Rejected has 103").to_vec()
+}
+
 #[test]
-fn dead_orders_count_as_in_the_table() {
+fn a_day_has_any_number_of_orders() {
     let mut market = market_from(1);
-    for record in 1..=255 {
-        assert_eq!(play(&mut market, &new_order(&format!("a{record}"))), 0);
-        assert_eq!(play(&mut market, &cancel(&format!("a{record}"), &format!("b{record}"), "1")), 0);
+    for id in 1..=1_000 {
+        assert_eq!(play(&mut market, &new_order(&format!("a{id}"))), 0);
+        assert_eq!(play(&mut market, &cancel(&format!("a{id}"), &format!("b{id}"), "1")), 0);
     }
-    assert!(market.orders().iter().all(|order| order.open() == 0));
-    let late = market.submit(&new_order("a1").bytes(), 1024);
-    let report = read(&late.report).expect("Rejected can be read");
-    assert_eq!((late.number, report.value(103)), (7, Some(&b"0"[..])));
+    assert_eq!(market.orders().len(), 255);
+    let ids: Vec<&[u8]> = market.orders().iter().map(|order| order.cl_ord_id.as_slice()).collect();
+    assert_eq!(
+        (ids[0], ids[1], ids[254]),
+        (&b"b1000"[..], &b"b2"[..], &b"b255"[..]),
+        "the lowest record goes each time"
+    );
+}
+
+#[test]
+fn there_is_no_room_exactly_while_255_orders_are_open() {
+    let mut market = market_from(1);
+    for id in 1..=255 {
+        assert_eq!(play(&mut market, &new_order(&format!("a{id}"))), 0);
+    }
+    assert_eq!(reason(&mut market, &new_order("late")), b"0");
+    assert_eq!(reason(&mut market, &new_order("a7")), b"6");
+    for id in [255, 1, 128] {
+        let (old, new) = (format!("a{id}"), format!("b{id}"));
+        assert_eq!(play(&mut market, &cancel(&old, &new, "1")), 0);
+        assert_eq!(reason(&mut market, &new_order(&new)), b"6", "a dead order's ClOrdID counts until it goes");
+        assert_eq!(play(&mut market, &new_order(&old)), 0);
+        assert_eq!(market.orders()[id - 1].order_id, market.next_number() - 1);
+        assert_eq!(reason(&mut market, &new_order("late")), b"0");
+    }
 }
 
 #[test]
@@ -81,27 +109,27 @@ fn longest_reports() -> [Vec<u8>; 2] {
         "35=8|34=999999999|49=12345678|50=DJGB|52=20261116-09:00:00.000|56=12345678|1=0123456789|6=-999999.999999|";
     let tail = "47=A|54=1|55=123456789|59=0|60=20261116-09:00:00.000|109=999999|110=999999999|";
     let trade = format!(
-        "{head}11={id}|14=999999999|17=999999999|20=0|31=-999999.999|32=999999999|37=255|38=999999999|39=1|40=2|\
+        "{head}11={id}|14=999999999|17=999999999|20=0|31=-999999.999|32=999999999|37=999999999|38=999999999|39=1|40=2|\
          44=-999999.999|{tail}150=1|151=999999999|375=999999|382=1|423=9|851=1|880=999999999|8060=1|"
     );
     let replaced = format!(
-        "{head}11={id}|14=999999999|17=999999999|20=0|37=255|38=999999999|39=1|40=2|41={id}|44=-999999.999|{tail}\
+        "{head}11={id}|14=999999999|17=999999999|20=0|37=999999999|38=999999999|39=1|40=2|41={id}|44=-999999.999|{tail}\
          150=5|151=999999999|378=100|423=9|8060=1|"
     );
     [trade, replaced].map(|text| Draft::of_text(&text).bytes())
 }
 
 #[test]
-fn the_longest_reports_are_416_bytes() {
+fn the_longest_reports_are_422_bytes() {
     let reports = longest_reports();
     assert!(reports.iter().all(|report| read(report).is_some()));
-    assert_eq!(reports.map(|report| report.len()).into_iter().max(), Some(416));
+    assert_eq!(reports.map(|report| report.len()).into_iter().max(), Some(422));
 }
 
 #[test]
-fn the_longest_copies_are_446_bytes() {
+fn the_longest_copies_are_452_bytes() {
     let feed = Feed { subscription: 2, shows: 3, port: vec![b'p'; 15], group: vec![b'g'; 14], next: 999_999_999 };
     let copies = longest_reports().map(|report| copy(&feed, 1024, &report).copy);
     assert!(copies.iter().all(|copy| read_copy(copy).is_some()));
-    assert_eq!(copies.map(|copy| copy.len()).into_iter().max(), Some(446));
+    assert_eq!(copies.map(|copy| copy.len()).into_iter().max(), Some(452));
 }

@@ -101,7 +101,7 @@ fn fields_stand_at_their_places() {
     assert_eq!(numbers(48, 4), [1_000_000_100, 1_200, 5, 10]);
     assert_eq!(u64::from_le_bytes(buy[64..72].try_into().unwrap()), 100 * 1_000_000_101);
     assert_eq!(numbers(72, 3), [100, 0, 0]);
-    assert_eq!(numbers(84, 11), [0, 800, 0, 0, 0, 0, 0, 0, 0, 0, 0]);
+    assert_eq!(numbers(84, 11), [5, 800, 0, 0, 0, 0, 0, 0, 0, 0, 0]);
 }
 
 #[test]
@@ -160,7 +160,7 @@ fn a_minimum_out_of_its_rules_is_no_market() {
         assert_eq!(is_market(&without), [0, 3, 4].contains(&time_in_force), "{time_in_force}");
     }
     assert!(!is_market(&forged(&table, place(1, 88), &[1])), "a Day order with a minimum");
-    for at in (84..88).chain(92..RECORD) {
+    for at in 92..RECORD {
         assert!(!is_market(&forged(&table, place(5, at), &[1])), "byte {at} is unused");
     }
     for at in (97..RECORD).chain([55]) {
@@ -281,6 +281,9 @@ fn rules_of_a_market_one_by_one() {
         (&idle, place(1, 68), four(2), "a sum too high"),
         (&idle, place(1, 80), four(1), "canceled and still open"),
         (&idle, place(1, 80), four(7), "canceled more than was open"),
+        (&idle, place(1, 84), four(0), "OrderID 0"),
+        (&idle, place(1, 84), four(2), "an OrderID twice"),
+        (&idle, place(1, 84), four(6), "an OrderID that is not below the next number"),
         (&idle, place(4, 100), vec![1], "a byte in an empty record"),
         (&idle, TABLE - 1, vec![1], "the last byte"),
         (&in_work, 28, four(999_999_998), "too few numbers left"),
@@ -295,6 +298,8 @@ fn rules_of_a_market_one_by_one() {
         (&idle, place(1, 80), four(6), "all that was open canceled"),
         (&idle, place(1, 76), four(6), "all that was open decremented"),
         (&idle, place(1, 60), four(14), "another MPID that is listed"),
+        (&idle, place(1, 84), four(3), "another OrderID, of no Accepted report"),
+        (&idle, place(1, 56), four(4), "a place that is not the OrderID"),
         (&in_work, 32, vec![1], "another order in work"),
     ] {
         assert!(is_market(&forged(table, at, &with)), "{what}");

@@ -15,6 +15,9 @@ add-capacity c = search needs
 shared-slice-read-capacity : tie.Need-shared-slice-read-capacity
 shared-slice-read-capacity c = search needs
 
+order-id-requires : tie.Need-order-id-requires
+order-id-requires c κs = search needs
+
 load-requires : tie.Need-load-requires
 load-requires c κs = search needs
 
@@ -42,8 +45,8 @@ or-stored-at-requires c κs = search needs
 returns : tie.Need-returns
 unfolding shownOn
 returns c =
-    let a = c .before .before .before .before .before .before .before .args in
-    λ j. record { orderid = a .i; order = c .before .before .before .before .load .ensures j; capacity = getD (a .t .now) (128 * a .i + 46) 0; class = c .before .before .before .classification .ensures .0 j; code = c .before .before .stored-at .ensures j; id = c .before .stored-at2 .ensures j; account = c .or-stored-at .ensures j }
+    let a = c .before .before .before .before .before .before .before .before .args in
+    λ j. record { orderid = c .before .before .before .before .before .order-id .ensures .0 j; order = c .before .before .before .before .load .ensures j; capacity = getD (a .t .now) (128 * a .i + 46) 0; class = c .before .before .before .classification .ensures .0 j; code = c .before .before .stored-at .ensures j; id = c .before .stored-at2 .ensures j; account = c .or-stored-at .ensures j }
 
 pub shown-on-spec : {M : Type 1} → statement M
 shown-on-spec =
@@ -52,6 +55,7 @@ shown-on-spec =
     mul-capacity
     add-capacity
     shared-slice-read-capacity
+    order-id-requires
     load-requires
     classification-requires
     stored-at-requires

@@ -1,9 +1,9 @@
 //! The twelve rehearsed cases, with the figures that the paper prints.
 
-use crate::compose::{cancel, new_order, order, order_of};
+use crate::compose::{new_order, order, order_of};
 use crate::script::Script;
 
-/// Book R: four sells, records 1 to 4, A's being record 3.
+/// Book R: four sells, OrderIDs 1 to 4, A's being 3.
 pub(super) fn book_r(script: &mut Script, mode: u64) {
     script.open(mode);
     script.rests(&order_of("11", "s1", "2", "100", "0.101"));
@@ -14,7 +14,7 @@ pub(super) fn book_r(script: &mut Script, mode: u64) {
     script.level(2, 1, 100, 900, 3);
 }
 
-/// A's buy of 1,200, record 5.
+/// A's buy of 1,200, OrderID 5.
 fn buy_of_a(script: &mut Script) {
     script.taken(
         &order_of("10", "b", "1", "1200", "0.100"),
@@ -216,7 +216,7 @@ pub fn mirror_of_case_11_is_rounded_away_from_zero(script: &mut Script) {
     );
 }
 
-pub fn case_12_limits_of_quantity_area_and_table(script: &mut Script) {
+pub fn case_12_limits_of_quantity_and_area(script: &mut Script) {
     script.say("Case 12: 38=0 is 373=5, 999999999 is taken, ten digits are 373=6");
     script.open(2);
     script.session_reject(&new_order("a").with("38", "0"), 5, 38);
@@ -229,50 +229,4 @@ pub fn case_12_limits_of_quantity_area_and_table(script: &mut Script) {
     script.submit_in(1024, &new_order("a"), 0, &["34=1"]);
     script.run_refused(1023, 9, 1);
     script.run_in(1024, 9, 1, &[]);
-    fill_to_254(script);
-    script.say("Case 12: the 255th order is taken; in mode 2 it meets 254 orders of its own, so 255 steps");
-    script.taken(&order_of("10", "buy", "1", "7", "0").with("59", "3"), &["37=255", "34=255"]);
-    sweep(script);
-    script.say("Case 12: the 256th order is 103=0: dead orders count, and a known id is 6 even now");
-    script.rejected(&new_order("late"), 0);
-    script.rejected(&new_order("buy"), 6);
-    script.rejected(&new_order("1"), 6);
-    script.rejected(&new_order("late").with("109", "15"), 99);
-    script.rejected(&new_order("late").with("55", "35"), 1);
-    script.cancel_reject(&cancel("buy", "late", "1"), 0, &["37=255", "39=4"]);
-    script.no_level(1, 0);
-    script.no_level(2, 0);
-}
-
-/// The level, in tenths, of the sell with this record number.
-fn tenths(record: usize) -> usize {
-    record % 7 + 1
-}
-
-/// 254 sells of 1 bond by MPID 10, on seven levels from 0.1 to 0.7.
-fn fill_to_254(script: &mut Script) {
-    script.open(2);
-    for record in 1..=254 {
-        script.rests(&order_of("10", &record.to_string(), "2", "1", &format!("0.{}", tenths(record))));
-    }
-    for k in 0..7 {
-        let level = 7 - k as usize;
-        let orders = (1..=254).filter(|&record| tenths(record) == level).count() as u64;
-        script.level(2, k, level as i64 * 100, orders, orders);
-    }
-    script.no_level(2, 7);
-}
-
-/// Runs the buy against the 254 sells, 25 steps at a time: each is canceled, from the highest yield down and by place
-/// within a yield; the last run ends the work and cancels the IOC's rest.
-fn sweep(script: &mut Script) {
-    let mut met: Vec<usize> = (1..=254).collect();
-    met.sort_by_key(|&record| (7 - tenths(record), record));
-    let ids: Vec<String> = met.iter().map(|record| format!("37={record}")).collect();
-    let mut reports: Vec<[&str; 3]> = ids.iter().map(|id| [id.as_str(), "39=4", "378=100"]).collect();
-    reports.push(["37=255", "39=4", "378=99"]);
-    for chunk in reports.chunks(25) {
-        let fields: Vec<&[&str]> = chunk.iter().map(|fields| &fields[..]).collect();
-        script.run_in(65_536, 25, chunk.len() as u64, &fields);
-    }
 }

@@ -12,7 +12,7 @@ pub fn mpids_are_compared_as_numbers(script: &mut Script) {
     script.rejected(&order_of("000001", "b", "1", "5", "0.1"), 99);
     script.rejected(&order_of("999999", "b", "1", "5", "0.1"), 99);
     script.taken(&order_of("10", "b", "1", "5", "0.1"), &["109=10"]);
-    script.run(2, &[&["37=2", "378=100"]]);
+    script.run(2, &[&["37=5", "378=100"]]);
 }
 
 pub fn codes_are_compared_as_text(script: &mut Script) {
@@ -44,13 +44,13 @@ pub fn an_id_given_up_is_free_again(script: &mut Script) {
     script.rests(&order("a", "1", "10", "0.5"));
     script.rests(&replace("a", "b", "1", "10", "0.5"));
     script.cancel_reject(&cancel("a", "c", "1"), 1, &["37=NONE", "39=8", "41=a"]);
-    script.taken(&order("a", "1", "20", "0.6"), &["37=2"]);
+    script.taken(&order("a", "1", "20", "0.6"), &["37=4"]);
     script.run(1, &[]);
     script.rejected(&new_order("b"), 6);
     script.say("Order checks: after F the order keeps the id that F gave it, for good");
     script.taken(&cancel("b", "c", "1"), &["37=1", "11=c", "41=b"]);
     script.rejected(&new_order("c"), 6);
-    script.taken(&order("b", "1", "30", "0.7"), &["37=3"]);
+    script.taken(&order("b", "1", "30", "0.7"), &["37=8"]);
     script.run(1, &[]);
     script.cancel_reject(&cancel("c", "d", "1"), 0, &["37=1", "39=4"]);
 }
@@ -107,21 +107,21 @@ pub fn status_of_a_cancel_reject(script: &mut Script) {
     script.rests(&replace("a", "a1", "2", "200", "0.5"));
     script.cancel_reject(&cancel("a1", "a1", "2"), 2, &["37=1", "39=0"]);
     script.say("Order checks: decremented and not executed is 0");
-    script.taken(&order_of("10", "b", "1", "50", "0.5"), &["37=2"]);
-    script.run(2, &[&["37=2", "39=4"], &["37=1", "150=5", "151=150"]]);
+    script.taken(&order_of("10", "b", "1", "50", "0.5"), &["37=5"]);
+    script.run(2, &[&["37=5", "39=4"], &["37=1", "150=5", "151=150"]]);
     script.cancel_reject(&cancel("a1", "a1", "2"), 2, &["37=1", "39=0"]);
-    script.cancel_reject(&cancel("b", "x", "1"), 0, &["37=2", "39=4"]);
+    script.cancel_reject(&cancel("b", "x", "1"), 0, &["37=5", "39=4"]);
     script.say("Order checks: partly executed is 1");
-    script.taken(&order("c", "1", "100", "0.5"), &["37=3"]);
-    script.run(2, &[&["37=1", "151=50"], &["37=3", "39=2"]]);
+    script.taken(&order("c", "1", "100", "0.5"), &["37=10"]);
+    script.run(2, &[&["37=1", "151=50"], &["37=10", "39=2"]]);
     script.cancel_reject(&cancel("a1", "a1", "2"), 2, &["37=1", "39=1"]);
     script.say("Order checks: nothing open without a cancel is 2, also after a decrement");
-    script.taken(&order("d", "1", "60", "0.5"), &["37=4"]);
-    script.run(2, &[&["37=1", "39=2", "14=150", "38=200"], &["37=4", "39=1", "151=10"]]);
+    script.taken(&order("d", "1", "60", "0.5"), &["37=14"]);
+    script.run(2, &[&["37=1", "39=2", "14=150", "38=200"], &["37=14", "39=1", "151=10"]]);
     script.cancel_reject(&cancel("a1", "x", "2"), 0, &["37=1", "39=2"]);
     script.say("Order checks: canceled after a partial fill is 4");
-    script.taken(&cancel("d", "e", "1"), &["37=4", "14=50", "151=0"]);
-    script.cancel_reject(&cancel("e", "x", "1"), 0, &["37=4", "39=4"]);
+    script.taken(&cancel("d", "e", "1"), &["37=14", "14=50", "151=0"]);
+    script.cancel_reject(&cancel("e", "x", "1"), 0, &["37=14", "39=4"]);
     script.cancel_reject(&cancel("nobody", "x", "1"), 1, &["37=NONE", "39=8"]);
 }
 
@@ -170,9 +170,9 @@ pub fn replace_quantity_against_executed_and_decremented(script: &mut Script) {
     script.run(1, &[]);
     script.say("Order checks: 30 executed and 20 decremented: 50 is not above, 51 leaves 1 open");
     script.taken(&order("b", "1", "30", "0.5"), &[]);
-    script.run(2, &[&["37=1", "14=30"], &["37=2"]]);
+    script.run(2, &[&["37=1", "14=30"], &["37=4"]]);
     script.taken(&order_of("10", "c", "1", "20", "0.5"), &[]);
-    script.run(2, &[&["37=3", "39=4"], &["37=1", "150=5", "39=1", "38=999999999", "14=30", "151=999999949"]]);
+    script.run(2, &[&["37=7", "39=4"], &["37=1", "150=5", "39=1", "38=999999999", "14=30", "151=999999949"]]);
     script.cancel_reject(&replace("a2", "a3", "2", "50", "0.5"), 2, &["37=1", "39=1"]);
     script.cancel_reject(&replace("a2", "a3", "2", "1", "0.5"), 2, &["37=1", "39=1"]);
     script.taken(&replace("a2", "a3", "2", "51", "0.5"), &["38=51", "14=30", "151=1", "39=1"]);

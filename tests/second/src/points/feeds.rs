@@ -255,7 +255,7 @@ pub fn what_is_no_report_is_not_copied(script: &mut Script) {
     }
     script.say("Feed: neither 41 nor 378 on Canceled, a field out of its range, two in each other's place");
     script.copy_refused(&feed(PORT, 1), &canceled_by_request().without("41"), 11);
-    script.copy_refused(&feed(PORT, 1), &trade().with("37", "256"), 11);
+    script.copy_refused(&feed(PORT, 1), &trade().with("37", "0"), 11);
     script.copy_refused(&feed(PORT, 1), &trade().with("109", "x"), 11);
     script.copy_refused(&feed(PORT, 1), &trade().swapping("851", "880"), 11);
     script.say("Feed: a copy is no report");
@@ -339,7 +339,7 @@ pub fn the_longest_copies(script: &mut Script) {
             .with("6", "-999999.999999")
             .with("11", &id)
             .with("14", "999999999")
-            .with("37", "255")
+            .with("37", "999999999")
             .with("38", "999999999")
             .with("44", "-999999.999")
             .with("55", "123456789")

@@ -14,7 +14,7 @@ fn at_least(minimum: &str, draft: Draft) -> Draft {
     draft.with("59", "3").with("110", minimum)
 }
 
-/// A's buy into book R, record 5.
+/// A's buy into book R, OrderID 5.
 fn buy_of_a(quantity: &str) -> Draft {
     order_of("10", "b", "1", quantity, "0.100")
 }
@@ -31,17 +31,17 @@ fn is_book_r(script: &mut Script) {
 fn killed_in_book_r(script: &mut Script, mode: u64, drafts: &[Draft]) {
     book_r(script, mode);
     for (at, draft) in drafts.iter().enumerate() {
-        let fields = [format!("37={}", 5 + at), format!("34={}", 5 + 2 * at), format!("34={}", 6 + 2 * at)];
-        let [record, accepted, canceled] = fields.each_ref().map(String::as_str);
-        script.taken(&draft.clone().with("11", &format!("k{at}")), &[record, accepted, "14=0"]);
-        script.run(1, &[&[record, canceled, "39=4", "150=4", "378=99", "14=0", "151=0", "no 41", "no 32"]]);
+        let fields = [format!("37={}", 5 + 2 * at), format!("34={}", 5 + 2 * at), format!("34={}", 6 + 2 * at)];
+        let [order_id, accepted, canceled] = fields.each_ref().map(String::as_str);
+        script.taken(&draft.clone().with("11", &format!("k{at}")), &[order_id, accepted, "14=0"]);
+        script.run(1, &[&[order_id, canceled, "39=4", "150=4", "378=99", "14=0", "151=0", "no 41", "no 32"]]);
     }
     is_book_r(script);
 }
 
-/// One side of a trade in book R: the resting order's record, and what was traded in all with it.
-fn trade_with(record: &'static str, quantity: &'static str) -> [Vec<&'static str>; 2] {
-    [vec![record, quantity, "851=1"], vec!["37=5", quantity, "851=2"]]
+/// Both sides of a trade in book R, by the resting order's OrderID.
+fn trade_with(order_id: &'static str, quantity: &'static str) -> [Vec<&'static str>; 2] {
+    [vec![order_id, quantity, "851=1"], vec!["37=5", quantity, "851=2"]]
 }
 
 /// The order is taken into book R and runs: so many steps, and these reports.
@@ -95,7 +95,7 @@ pub fn a_minimum_in_mode_1_ends_at_the_first_order_of_ones_own(script: &mut Scri
     script.say("Minimum: without an MPID nothing is one's own");
     script.rests(&order("s3", "2", "5", "0.2"));
     script.taken(&fill_or_kill(order("c", "1", "15", "0.1")), &[]);
-    script.run(4, &[&["37=1"], &["37=5"], &["37=4"], &["37=5"], &["37=2"], &["37=5", "39=2", "14=15"]]);
+    script.run(4, &[&["37=1"], &["37=6"], &["37=5"], &["37=6"], &["37=2"], &["37=6", "39=2", "14=15"]]);
 }
 
 pub fn a_minimum_in_mode_2_passes_over_ones_own(script: &mut Script) {
@@ -142,7 +142,7 @@ pub fn a_minimum_in_mode_3_is_used_up_by_ones_own(script: &mut Script) {
     runs_in_book_r(script, 3, &fill_or_kill(buy_of_a("300")), 3, &before_own());
 }
 
-/// Book R mirrored: four buys, records 1 to 4, A's being record 3.
+/// Book R mirrored: four buys, OrderIDs 1 to 4, A's being 3.
 fn mirrored_book(script: &mut Script, mode: u64) {
     script.open(mode);
     script.rests(&order_of("11", "b1", "1", "100", "-0.101"));
@@ -160,14 +160,14 @@ pub fn a_sell_has_a_minimum_like_a_buy(script: &mut Script) {
         script.run(1, &[&["34=6", "37=5", "39=4", "378=99", "14=0"]]);
         script.level(1, 0, -101, 100, 1);
         script.level(1, 1, -100, 900, 3);
-        script.taken(&at_least(reached, sell.clone().with("11", "t")), &["34=7", "37=6"]);
-        script.run_in(4096, 2, 2, &[&["37=1"], &["37=6"], &["37=2"], &["37=6", "14=300"]]);
+        script.taken(&at_least(reached, sell.clone().with("11", "t")), &["34=7", "37=7"]);
+        script.run_in(4096, 2, 2, &[&["37=1"], &["37=7"], &["37=2"], &["37=7", "14=300"]]);
         match mode {
-            1 => script.run(2, &[&["37=6", "378=100", "39=4"]]),
-            2 => script.run(3, &[&["37=3", "378=100"], &["37=4"], &["37=6", "14=800"], &["37=6", "378=99"]]),
+            1 => script.run(2, &[&["37=7", "378=100", "39=4"]]),
+            2 => script.run(3, &[&["37=3", "378=100"], &["37=4"], &["37=7", "14=800"], &["37=7", "378=99"]]),
             _ => {
-                let own: [&[&str]; 2] = [&["37=3", "378=100", "39=4"], &["37=6", "378=100", "150=5"]];
-                script.run(3, &[own[0], own[1], &["37=4"], &["37=6", "14=800"], &["37=6", "378=99"]]);
+                let own: [&[&str]; 2] = [&["37=3", "378=100", "39=4"], &["37=7", "378=100", "150=5"]];
+                script.run(3, &[own[0], own[1], &["37=4"], &["37=7", "14=800"], &["37=7", "378=99"]]);
             }
         }
     }
@@ -176,7 +176,7 @@ pub fn a_sell_has_a_minimum_like_a_buy(script: &mut Script) {
     script.taken(&fill_or_kill(order_of("14", "s", "2", "100", "-0.101")), &[]);
     script.run(2, &[&["37=1", "39=2"], &["37=5", "39=2", "31=-0.101"]]);
     script.taken(&fill_or_kill(order_of("14", "t", "2", "1", "-0.101")), &[]);
-    script.run(1, &[&["37=6", "39=4", "378=99"]]);
+    script.run(1, &[&["37=8", "39=4", "378=99"]]);
 }
 
 pub fn deciding_is_part_of_the_first_step(script: &mut Script) {
@@ -214,9 +214,9 @@ pub fn deciding_is_part_of_the_first_step(script: &mut Script) {
     script.say("Minimum: the next order is decided anew");
     script.rests(&order("s", "2", "5", "0.1"));
     script.taken(&fill_or_kill(order("c", "1", "6", "0.1")), &[]);
-    script.run(1, &[&["37=7", "378=99", "14=0"]]);
+    script.run(1, &[&["37=15", "378=99", "14=0"]]);
     script.taken(&order("d", "1", "6", "0.1").with("59", "3"), &[]);
-    script.run(2, &[&["37=6", "39=2"], &["37=8", "14=5"], &["37=8", "378=99"]]);
+    script.run(2, &[&["37=14", "39=2"], &["37=17", "14=5"], &["37=17", "378=99"]]);
 }
 
 pub fn a_killed_order_is_canceled_like_any_other(script: &mut Script) {
@@ -230,11 +230,11 @@ pub fn a_killed_order_is_canceled_like_any_other(script: &mut Script) {
     script.say("Minimum: a filled Fill or Kill is 39=2; an IOC that reached its minimum and expired is 39=4");
     script.rests(&order("s", "2", "10", "0.1"));
     script.taken(&fill_or_kill(order("c", "1", "4", "0.1")), &[]);
-    script.run(2, &[&["37=2", "32=4"], &["37=3", "39=2"]]);
-    script.cancel_reject(&cancel("c", "d", "1"), 0, &["37=3", "39=2"]);
+    script.run(2, &[&["37=6", "32=4"], &["37=7", "39=2"]]);
+    script.cancel_reject(&cancel("c", "d", "1"), 0, &["37=7", "39=2"]);
     script.taken(&at_least("6", order("e", "1", "9", "0.1")), &[]);
-    script.run(2, &[&["37=2", "39=2"], &["37=4", "14=6"], &["37=4", "378=99"]]);
-    script.cancel_reject(&cancel("e", "d", "1"), 0, &["37=4", "39=4"]);
+    script.run(2, &[&["37=6", "39=2"], &["37=11", "14=6"], &["37=11", "378=99"]]);
+    script.cancel_reject(&cancel("e", "d", "1"), 0, &["37=11", "39=4"]);
 }
 
 pub fn shape_and_values_of_a_minimum(script: &mut Script) {
@@ -371,9 +371,9 @@ pub fn whole_bytes_with_minimums(script: &mut Script) {
     script.submit_whole(
         &fill_or_kill(order_of("14", "f", "1", "100", "0.101")),
         0,
-        "8=FIX.4.2|9=188|35=8|34=7|49=V|50=DJGB|52=20261116-09:00:00|56=P|6=0.000000|11=f|14=0|17=7|20=0|37=6|38=100|39=0|40=2|44=0.101|47=A|54=1|55=350|59=4|60=20261116-09:00:00|109=14|150=0|151=100|423=9|8060=1|10=082|",
+        "8=FIX.4.2|9=188|35=8|34=7|49=V|50=DJGB|52=20261116-09:00:00|56=P|6=0.000000|11=f|14=0|17=7|20=0|37=7|38=100|39=0|40=2|44=0.101|47=A|54=1|55=350|59=4|60=20261116-09:00:00|109=14|150=0|151=100|423=9|8060=1|10=083|",
     );
-    script.run_whole(2, &["8=FIX.4.2|9=230|35=8|34=8|49=V|50=DJGB|52=20261116-09:00:00|56=P|6=0.101000|11=s1|14=100|17=8|20=0|31=0.101|32=100|37=1|38=100|39=2|40=2|44=0.101|47=A|54=2|55=350|59=0|60=20261116-09:00:00|109=11|150=2|151=0|375=14|382=1|423=9|851=1|880=8|8060=1|10=184|", "8=FIX.4.2|9=229|35=8|34=9|49=V|50=DJGB|52=20261116-09:00:00|56=P|6=0.101000|11=f|14=100|17=9|20=0|31=0.101|32=100|37=6|38=100|39=2|40=2|44=0.101|47=A|54=1|55=350|59=4|60=20261116-09:00:00|109=14|150=2|151=0|375=11|382=1|423=9|851=2|880=8|8060=1|10=141|"]);
+    script.run_whole(2, &["8=FIX.4.2|9=230|35=8|34=8|49=V|50=DJGB|52=20261116-09:00:00|56=P|6=0.101000|11=s1|14=100|17=8|20=0|31=0.101|32=100|37=1|38=100|39=2|40=2|44=0.101|47=A|54=2|55=350|59=0|60=20261116-09:00:00|109=11|150=2|151=0|375=14|382=1|423=9|851=1|880=8|8060=1|10=184|", "8=FIX.4.2|9=229|35=8|34=9|49=V|50=DJGB|52=20261116-09:00:00|56=P|6=0.101000|11=f|14=100|17=9|20=0|31=0.101|32=100|37=7|38=100|39=2|40=2|44=0.101|47=A|54=1|55=350|59=4|60=20261116-09:00:00|109=14|150=2|151=0|375=11|382=1|423=9|851=2|880=8|8060=1|10=142|"]);
     script.submit_whole(
         &new_order("g").with("110", "1"),
         6,

@@ -15,6 +15,8 @@ pub mod clock;
 
 pub mod copies;
 
+pub mod day;
+
 pub mod feeds;
 
 pub mod messages;
@@ -72,7 +74,11 @@ points! {
         case_10_level_total_above_32_bits
         case_11_average_is_rounded
         mirror_of_case_11_is_rounded_away_from_zero
-        case_12_limits_of_quantity_area_and_table
+        case_12_limits_of_quantity_and_area
+    }
+    day {
+        case_12_the_table_fills_up_and_goes_on
+        an_order_id_is_the_number_of_its_accepted_report
     }
     messages {
         leading_zeros_in_34_are_taken

@@ -228,15 +228,15 @@ pub fn read_quantities_of_zero(script: &mut Script) {
 }
 
 pub fn read_order_ids(script: &mut Script) {
-    script.say("Read: 37 is 1 to 255; NONE alone on Rejected, either on Cancel reject, never elsewhere");
-    all_read(script, &trade(), TRADE, "37", &["1", "255"]);
-    none_read(script, &trade(), "37", &["0", "256", "01", "NONE", "", "1000000000000000000000"]);
+    script.say("Read: 37 is 1 to 999,999,999; NONE alone on Rejected, either on Cancel reject, never elsewhere");
+    all_read(script, &trade(), TRADE, "37", &["1", "255", "256", "999999999"]);
+    none_read(script, &trade(), "37", &["0", "1000000000", "01", "NONE", "", "1000000000000000000000"]);
     none_read(script, &accepted(), "37", &["NONE"]);
     none_read(script, &replaced(), "37", &["NONE"]);
     none_read(script, &canceled_by_request(), "37", &["NONE"]);
     none_read(script, &rejected(), "37", &["1", "none", "NON", "NONE "]);
-    all_read(script, &cancel_reject(), CANCEL_REJECT, "37", &["NONE", "1", "255"]);
-    none_read(script, &cancel_reject(), "37", &["0", "256", "none"]);
+    all_read(script, &cancel_reject(), CANCEL_REJECT, "37", &["NONE", "1", "256", "999999999"]);
+    none_read(script, &cancel_reject(), "37", &["0", "1000000000", "none"]);
 }
 
 pub fn read_39_on_replaced(script: &mut Script) {
@@ -363,7 +363,7 @@ pub fn read_one_report_and_nothing_after_it(script: &mut Script) {
         .with("151", "999999999")
         .with("44", "-999999.999")
         .with("55", "123456789")
-        .with("37", "255")
+        .with("37", "999999999")
         .with("52", "20261116-09:00:00.123")
         .with("60", "20261116-09:00:00.123")
         .inserting("150", "109", "999999")
@@ -385,7 +385,7 @@ pub fn read_one_report_and_nothing_after_it(script: &mut Script) {
         .with("151", "999999999")
         .with("44", "-999999.999")
         .with("55", "123456789")
-        .with("37", "255")
+        .with("37", "999999999")
         .with("52", "20261116-09:00:00.123")
         .with("60", "20261116-09:00:00.123")
         .with("109", "999999")

@@ -80,7 +80,7 @@ pub fn a_decrement_keeps_the_place(script: &mut Script) {
     script.taken(&order_of("10", "b", "1", "50", "0.1"), &[]);
     script.run(2, &[&["37=3", "39=4"], &["37=1", "150=5", "151=150"]]);
     script.taken(&order_of("12", "c", "1", "150", "0.1"), &[]);
-    script.run(2, &[&["37=1", "32=150", "39=2"], &["37=4"]]);
+    script.run(2, &[&["37=1", "32=150", "39=2"], &["37=6"]]);
     script.level(2, 0, 100, 100, 1);
 }
 
@@ -192,7 +192,7 @@ pub fn one_mpid_alone_does_not_prevent(script: &mut Script) {
     script.say("Run: and two different ones trade");
     script.rests(&order_of("10", "s2", "2", "5", "0.1"));
     script.taken(&order_of("11", "b2", "1", "5", "0.1"), &[]);
-    script.run(2, &[&["37=3", "375=11", "109=10"], &["37=4", "375=10", "109=11"]]);
+    script.run(2, &[&["37=5", "375=11", "109=10"], &["37=6", "375=10", "109=11"]]);
 }
 
 pub fn cancel_oldest_goes_on_to_the_next(script: &mut Script) {
@@ -216,19 +216,19 @@ pub fn the_mode_is_that_of_the_mpid(script: &mut Script) {
     }
     script.taken(&order_of("1", "b1", "1", "4", "0.1"), &["37=4"]);
     script.run(2, &[&["37=4", "39=4", "378=100"]]);
-    script.taken(&order_of("999999", "b2", "1", "14", "0.1"), &["37=5"]);
+    script.taken(&order_of("999999", "b2", "1", "14", "0.1"), &["37=6"]);
     script.run(
         4,
         &[
             &["37=1", "32=10"],
-            &["37=5", "151=4"],
+            &["37=6", "151=4"],
             &["37=2", "39=4", "378=100", "109=999999"],
             &["37=3", "32=4", "375=999999"],
-            &["37=5", "39=2"],
+            &["37=6", "39=2"],
         ],
     );
-    script.taken(&order_of("3", "b3", "1", "5", "0.1"), &["37=6"]);
-    script.run(2, &[&["37=6", "39=4", "378=100"], &["37=3", "150=5", "39=1", "151=1", "14=4"]]);
+    script.taken(&order_of("3", "b3", "1", "5", "0.1"), &["37=12"]);
+    script.run(2, &[&["37=12", "39=4", "378=100"], &["37=3", "150=5", "39=1", "151=1", "14=4"]]);
 }
 
 pub fn best_is_by_yield_then_by_place(script: &mut Script) {

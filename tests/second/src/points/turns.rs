@@ -4,7 +4,7 @@
 use crate::compose::{cancel, order, order_of, replace};
 use crate::script::Script;
 
-/// Venue V with these sells at 0.500 in this order, each of 10; `a` is record 1.
+/// Venue V with these sells at 0.500 in this order, each of 10; `a` is OrderID 1.
 fn sells_of_10(script: &mut Script, ids: &[&str]) {
     script.open(3);
     for id in ids {
@@ -12,13 +12,13 @@ fn sells_of_10(script: &mut Script, ids: &[&str]) {
     }
 }
 
-/// An IOC of the other side that takes what rests: these record numbers in this order, each with what it trades.
+/// An IOC of the other side that takes what rests: these OrderIDs in this order, each with what it trades.
 fn swept(script: &mut Script, side: &str, at: &str, turns: &[(&str, &str)]) {
     let quantity: u64 = turns.iter().map(|turn| turn.1.parse::<u64>().expect("a quantity")).sum();
     script.taken(&order("sweep", side, &quantity.to_string(), at).with("59", "3"), &[]);
     let fields: Vec<[String; 3]> = turns
         .iter()
-        .map(|(record, traded)| [format!("37={record}"), format!("32={traded}"), "851=1".to_string()])
+        .map(|(order_id, traded)| [format!("37={order_id}"), format!("32={traded}"), "851=1".to_string()])
         .collect();
     let resting: Vec<Vec<&str>> = fields.iter().map(|turn| turn.iter().map(String::as_str).collect()).collect();
     let in_work: &[&str] = &["851=2"];
@@ -56,7 +56,7 @@ pub fn a_raised_order_trades_behind_the_one_that_came_after_it(script: &mut Scri
     sells_of_10(script, &["a", "b"]);
     script.rests(&replace("a", "a1", "2", "11", "0.5"));
     script.rests(&order("c", "2", "10", "0.5"));
-    swept(script, "1", "0.5", &[("2", "10"), ("1", "11"), ("3", "10")]);
+    swept(script, "1", "0.5", &[("2", "10"), ("1", "11"), ("4", "10")]);
 }
 
 pub fn a_replacement_that_changes_nothing_keeps_its_place(script: &mut Script) {
@@ -103,18 +103,18 @@ pub fn quantity_is_compared_with_the_one_in_force_not_with_what_is_open(script: 
     script.taken(&replace("a", "a1", "2", "8", "0.5"), &["38=8", "14=4", "151=4", "39=1"]);
     script.run(1, &[]);
     script.taken(&order("x", "1", "5", "0.5"), &[]);
-    script.run(3, &[&["37=1", "32=4", "39=2"], &["37=4"], &["37=2", "32=1"], &["37=4"]]);
+    script.run(3, &[&["37=1", "32=4", "39=2"], &["37=7"], &["37=2", "32=1"], &["37=7"]]);
     script.say("Turns: 38=5 leaves 1 open in its old place; 38=11 would go behind");
     sells_of_10(script, &["a", "b"]);
     swept(script, "1", "0.5", &[("1", "4")]);
     script.rests(&replace("a", "a1", "2", "5", "0.5"));
     script.taken(&order("x", "1", "2", "0.5"), &[]);
-    script.run(3, &[&["37=1", "32=1", "39=2"], &["37=4"], &["37=2", "32=1"], &["37=4"]]);
+    script.run(3, &[&["37=1", "32=1", "39=2"], &["37=7"], &["37=2", "32=1"], &["37=7"]]);
     sells_of_10(script, &["a", "b"]);
     swept(script, "1", "0.5", &[("1", "4")]);
     script.rests(&replace("a", "a1", "2", "11", "0.5"));
     script.taken(&order("x", "1", "11", "0.5"), &[]);
-    script.run(3, &[&["37=2", "32=10", "39=2"], &["37=4"], &["37=1", "32=1"], &["37=4"]]);
+    script.run(3, &[&["37=2", "32=10", "39=2"], &["37=7"], &["37=1", "32=1"], &["37=7"]]);
 }
 
 pub fn quantity_in_force_is_not_lowered_by_a_decrement(script: &mut Script) {
@@ -170,6 +170,6 @@ pub fn places_kept_and_taken_among_many(script: &mut Script) {
     script.rests(&order("f", "2", "1", "0.5"));
     script.rests(&replace("a1", "a2", "2", "2", "0.5"));
     script.level(2, 0, 500, 26, 5);
-    swept(script, "1", "0.5", &[("2", "3"), ("4", "10"), ("5", "10"), ("1", "2"), ("6", "1")]);
+    swept(script, "1", "0.5", &[("2", "3"), ("4", "10"), ("5", "10"), ("1", "2"), ("10", "1")]);
     script.no_level(2, 0);
 }

@@ -22,11 +22,8 @@ add-is-account c = search needs
 is-account-requires : tie.Need-is-account-requires
 is-account-requires c κs = search needs
 
-add-zeros-at : tie.Need-add-zeros-at
-add-zeros-at c = search needs
-
-zeros-at-requires : tie.Need-zeros-at-requires
-zeros-at-requires c κs = search needs
+order-id-requires : tie.Need-order-id-requires
+order-id-requires c κs = search needs
 
 add-is-unused : tie.Need-add-is-unused
 add-is-unused c = search needs
@@ -48,8 +45,7 @@ is-record-spec =
     is-text-requires
     add-is-account
     is-account-requires
-    add-zeros-at
-    zeros-at-requires
+    order-id-requires
     add-is-unused
     is-unused-requires
     returns)

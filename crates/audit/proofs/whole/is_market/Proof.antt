@@ -40,6 +40,9 @@ has-orders-requires c κs = search needs
 has-ids-requires : tie.Need-has-ids-requires
 has-ids-requires c κs = search needs
 
+has-order-ids-requires : tie.Need-has-order-ids-requires
+has-order-ids-requires c κs = search needs
+
 has-book-requires : tie.Need-has-book-requires
 has-book-requires c κs = search needs
 
@@ -62,5 +65,6 @@ is-market-spec =
     rest-zero-requires
     has-orders-requires
     has-ids-requires
+    has-order-ids-requires
     has-book-requires
     returns-2)

@@ -25,8 +25,8 @@ holder-of-requires c κs = search needs
 returns-3 : tie.Need-returns-3
 returns-3 c = search (needs, new-known)
 
-filled-requires : tie.Need-filled-requires
-filled-requires c κs = search needs
+record-for-requires : tie.Need-record-for-requires
+record-for-requires c κs = search needs
 
 returns-4 : tie.Need-returns-4
 returns-4 c = search (needs, new-full)
@@ -45,6 +45,6 @@ new-stands-spec =
     returns-2
     holder-of-requires
     returns-3
-    filled-requires
+    record-for-requires
     returns-4
     returns-5)

@@ -1,5 +1,5 @@
 -- `intake::takes::enter` meets its contract: the record, its report, the next number and the work.
-use Rattle.intake.proofs.Doing.{record-small, order-new, new-stamp-short, enter-told, accepted-long}
+use Rattle.intake.proofs.Doing.{order-new, new-stamp-short, enter-told, accepted-long}
 use Rattle.intake.proofs.Leaving.{enter-left}
 use borrow.Author.Needs.{needs}
 use Rattle.intake.proofs.takes.enter.Statement.{statement}
@@ -8,17 +8,14 @@ use Rattle.intake.proofs.takes.enter.Tie as tie
 next-requires : tie.Need-next-requires
 next-requires c κs = search needs
 
-filled-requires : tie.Need-filled-requires
-filled-requires c κs = search needs
-
-add-k : tie.Need-add-k
-add-k c = search needs
+record-for-requires : tie.Need-record-for-requires
+record-for-requires c κs = search needs
 
 new-order-requires : tie.Need-new-order-requires
 new-order-requires c κs = search needs
 
 write-new-requires : tie.Need-write-new-requires
-write-new-requires c κs = (search needs, search (needs, record-small), search (needs, order-new))
+write-new-requires c κs = (search needs, search needs, search (needs, order-new))
 
 cause-alone-requires : tie.Need-cause-alone-requires
 cause-alone-requires c κs = search needs
@@ -29,10 +26,9 @@ tell-requires c κs = (search (needs, enter-told), search needs)
 raise-and-work-requires : tie.Need-raise-and-work-requires
 raise-and-work-requires c κs =
     let wrote = c .before .before .before .before .before .before .before .before .before in
-    let held = wrote .before .before .before in
-    let p = held .before .before .before .before .before .before .before .pre in (
-      accepted-long _ _ _ _ _ _ _ _ (p .0 .market .long) (wrote .write-new .ensures),
-      record-small _ _ _ (p .0) (p .1) _ (held .filled .ensures .0),
+    let p = wrote .before .before .before .before .before .before .before .before .before .before .pre in (
+      accepted-long _ _ _ _ _ _ _ _ _ (p .0 .market .long) (wrote .write-new .ensures),
+      search needs,
       new-stamp-short _ _ _ (p .0),
     )
 
@@ -50,8 +46,7 @@ enter-spec =
     tie.close
     (tie.spec
     next-requires
-    filled-requires
-    add-k
+    record-for-requires
     new-order-requires
     write-new-requires
     cause-alone-requires

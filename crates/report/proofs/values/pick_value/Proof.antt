@@ -41,8 +41,8 @@ pick-word-requires c κs = search needs
 enum-told-2 : tie.Need-enum-told-2
 enum-told-2 c = search needs
 
-pick-record-requires : tie.Need-pick-record-requires
-pick-record-requires c κs = search needs
+pick-order-id-requires : tie.Need-pick-order-id-requires
+pick-order-id-requires c κs = search needs
 
 enum-known-shape-5 : tie.Need-enum-known-shape-5
 enum-known-shape-5 c = search needs
@@ -99,7 +99,7 @@ returns-5 : tie.Need-returns-5
 returns-5 c = rw (c .before .before .shape4 .given .1) (c .pick-word .ensures)
 
 returns-6 : tie.Need-returns-6
-returns-6 c = rw (c .before .enum-told2 .given .1) (c .pick-record .ensures)
+returns-6 c = rw (c .before .enum-told2 .given .1) (c .pick-order-id .ensures)
 
 returns-7 : tie.Need-returns-7
 returns-7 c = rw (c .before .before .shape5 .given .1) (c .pick-text .ensures)
@@ -132,7 +132,7 @@ pick-value-spec =
     enum-known-shape-4
     pick-word-requires
     enum-told-2
-    pick-record-requires
+    pick-order-id-requires
     enum-known-shape-5
     pick-text-requires
     enum-told-3

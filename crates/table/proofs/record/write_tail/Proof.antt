@@ -1,4 +1,4 @@
--- `table::record::write_tail` meets its contract: the amounts, four zeros, then MinQty.
+-- `table::record::write_tail` meets its contract: the amounts, the OrderID, MinQty, then zeros.
 use Rattle.table.proofs.Writes.{tail-written}
 use borrow.Author.Needs.{needs}
 use Rattle.table.proofs.record.write_tail.Statement.{statement}
@@ -19,6 +19,12 @@ add-put-le-2 c = search needs
 put-le-requires-2 : tie.Need-put-le-requires-2
 put-le-requires-2 c κs = search needs
 
+add-put-zeros : tie.Need-add-put-zeros
+add-put-zeros c = search needs
+
+put-zeros-requires : tie.Need-put-zeros-requires
+put-zeros-requires c κs = search needs
+
 same-length : tie.Need-same-length
 same-length c = search needs
 
@@ -27,4 +33,14 @@ returns c = search (needs, tail-written)
 
 pub write-tail-spec : {M : Type 1} → statement M
 write-tail-spec =
-    tie.close (tie.spec write-amounts-requires add-put-le put-le-requires add-put-le-2 put-le-requires-2 same-length returns)
+    tie.close
+    (tie.spec
+    write-amounts-requires
+    add-put-le
+    put-le-requires
+    add-put-le-2
+    put-le-requires-2
+    add-put-zeros
+    put-zeros-requires
+    same-length
+    returns)

@@ -5,7 +5,7 @@ use mathlib.Core.Path.{_≡_, ap, _∙_}
 use mathlib.Core.List.{List}
 use Rattle.matching.specs.declared.Order.{Order}
 use Rattle.matching.specs.Held.{Covered}
-use Rattle.table.specs.Orders.{orderAt}
+use Rattle.table.specs.Orders.{orderIdAt, orderAt}
 use Rattle.report.specs.declared.Place.{Place}
 use Rattle.rows.specs.declared.Unchanged.{Unchanged}
 use Rattle.rows.specs.Rows.{statusOf}
@@ -27,13 +27,17 @@ unfolding unchangedOn
 nobody t i id orig reason response e = rw (eq-eqb i 0 e)
 
 -- record i has it
-somebody : (t : List ℕ) (i : ℕ) (id orig : Place) (reason response : ℕ) (o : Order) (status : ℕ) → (i ≡ 0 → ⊥) → o ≡ orderAt t i → status ≡ statusOf o
-    → _≡_ {A = Unchanged} (record { id = id; orderid = i; status = status; orig = orig; reason = reason; response = response }) (unchangedOn t i id orig reason response)
+somebody : (t : List ℕ) (i : ℕ) (id orig : Place) (reason response : ℕ) (orderid : ℕ) (o : Order) (status : ℕ) → (i ≡ 0 → ⊥) → orderid ≡ orderIdAt t i
+    → o ≡ orderAt t i → status ≡ statusOf o
+    → _≡_ {A = Unchanged} (record { id = id; orderid = orderid; status = status; orig = orig; reason = reason; response = response }) (unchangedOn t i id orig reason response)
 unfolding unchangedOn
-somebody t i id orig reason response o status n e s = rw (ne-eqb i 0 n, s, e)
+somebody t i id orig reason response orderid o status n d e s = rw (ne-eqb i 0 n, d, s, e)
 
 returns : tie.Need-returns
 returns c = let a = c .before .before .args in nobody (a .t .now) (a .i) (a .id) (a .orig) (a .reason) (a .response) (c .if1 .taken)
+
+order-id-requires : tie.Need-order-id-requires
+order-id-requires c κs = search needs
 
 load-requires : tie.Need-load-requires
 load-requires c κs = search needs
@@ -43,8 +47,9 @@ status-of-requires c κs = search (needs, held-covered)
 
 returns-2 : tie.Need-returns-2
 returns-2 c =
-    let a = c .before .before .before .before .args in
-    somebody (a .t .now) (a .i) (a .id) (a .orig) (a .reason) (a .response) (c .before .load .result) (c .status-of .result) (c .before .before .if1 .left) (c .before .load .ensures) (c .status-of .ensures)
+    let a = c .before .before .before .before .before .args in
+    somebody (a .t .now) (a .i) (a .id) (a .orig) (a .reason) (a .response) (c .before .before .order-id .result) (c .before .load .result) (c .status-of .result)
+    (c .before .before .before .if1 .left) (c .before .before .order-id .ensures .0) (c .before .load .ensures) (c .status-of .ensures)
 
 pub unchanged-on-spec : {M : Type 1} → statement M
-unchanged-on-spec = tie.close (tie.spec returns load-requires status-of-requires returns-2)
+unchanged-on-spec = tie.close (tie.spec returns order-id-requires load-requires status-of-requires returns-2)

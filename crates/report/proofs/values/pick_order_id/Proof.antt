@@ -1,9 +1,9 @@
--- `values::pick_record` meets its contract.
+-- `values::pick_order_id` meets its contract.
 use mathlib.Core.Path.{sym, ap, _∙_}
-use Rattle.report.specs.Shapes.{numberIn, recordIn}
+use Rattle.report.specs.Shapes.{numberIn, orderIdIn}
 use borrow.Author.Needs.{needs}
-use Rattle.report.proofs.values.pick_record.Statement.{statement}
-use Rattle.report.proofs.values.pick_record.Tie as tie
+use Rattle.report.proofs.values.pick_order_id.Statement.{statement}
+use Rattle.report.proofs.values.pick_order_id.Tie as tie
 
 slice-aggregate-same : tie.Need-slice-aggregate-same
 slice-aggregate-same c = search needs
@@ -12,7 +12,7 @@ same-requires : tie.Need-same-requires
 same-requires c κs = search needs
 
 returns : tie.Need-returns
-unfolding recordIn
+unfolding orderIdIn
 returns c = rw (sym (c .before .same .ensures) ∙ c .if1 .taken)
 
 read-within-requires : tie.Need-read-within-requires
@@ -22,11 +22,11 @@ pick-number-requires : tie.Need-pick-number-requires
 pick-number-requires c κs = search needs
 
 returns-2 : tie.Need-returns-2
-unfolding recordIn
+unfolding orderIdIn
 returns-2 c = rw (sym (c .before .before .before .same .ensures) ∙ c .before .before .if1 .left) (c .pick-number .ensures ∙ ap numberIn (c .before .read-within .ensures))
 
-pub pick-record-spec : {M : Type 1} → statement M
-pick-record-spec =
+pub pick-order-id-spec : {M : Type 1} → statement M
+pick-order-id-spec =
     tie.close
     (tie.spec
     slice-aggregate-same
