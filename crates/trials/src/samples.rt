@@ -73,13 +73,13 @@ fn stamp_sent(number: u64) -> Stamp
     }
 }
 
-// Order 7, BUY-1, with its account.
-fn known(order: Order) -> Shown
-    requires { ⌜ Sound order × (order .mpid < 10 ^ 6) ⌝ }
+// An order of the client, BUY-1, with its account. Its OrderID is the number of the report that accepted it.
+fn known(orderid: u64, order: Order) -> Shown
+    requires { ⌜ (orderid < 10 ^ 9) × Sound order × (order .mpid < 10 ^ 6) ⌝ }
     ensures { λ r. ⌜ ShownFine r ⌝ }
 {
     Shown {
-        orderid: 7,
+        orderid,
         order,
         capacity: b'A',
         class: 1,
@@ -89,13 +89,13 @@ fn known(order: Order) -> Shown
     }
 }
 
-// The same under its new ClOrdID, BUY-2.
+// Order 1 under its new ClOrdID, BUY-2.
 fn renamed(order: Order) -> Shown
     requires { ⌜ Sound order × (order .mpid < 10 ^ 6) ⌝ }
     ensures { λ r. ⌜ ShownFine r ⌝ }
 {
     Shown {
-        orderid: 7,
+        orderid: 1,
         order,
         capacity: b'A',
         class: 1,
@@ -105,13 +105,13 @@ fn renamed(order: Order) -> Shown
     }
 }
 
-// Order 255, with no account.
+// Order 2, with no account.
 fn bare(order: Order) -> Shown
     requires { ⌜ Sound order × (order .mpid < 10 ^ 6) ⌝ }
     ensures { λ r. ⌜ ShownFine r ⌝ }
 {
     Shown {
-        orderid: 255,
+        orderid: 2,
         order,
         capacity: b'P',
         class: 6,
@@ -136,6 +136,44 @@ fn buy(executed: u64, decremented: u64, canceled: u64, sum: u64) -> Order
         canceled,
         sum,
         place: 5,
+        mpid: 10,
+        minqty: 0,
+    }
+}
+
+// The same buy as an IOC with a MinQty of 300, of which nothing has executed.
+fn least() -> Order
+    ensures { λ r. ⌜ Sound r × (r .mpid < 10 ^ 6) ⌝ }
+{
+    Order {
+        side: 1,
+        tif: 3,
+        level: 1_000_000_100,
+        qty: 1200,
+        executed: 0,
+        decremented: 0,
+        canceled: 0,
+        sum: 0,
+        place: 7,
+        mpid: 10,
+        minqty: 300,
+    }
+}
+
+// The same buy as a Fill or Kill, canceled whole.
+fn kill() -> Order
+    ensures { λ r. ⌜ Sound r × (r .mpid < 10 ^ 6) ⌝ }
+{
+    Order {
+        side: 1,
+        tif: 4,
+        level: 1_000_000_100,
+        qty: 1200,
+        executed: 0,
+        decremented: 0,
+        canceled: 1200,
+        sum: 0,
+        place: 8,
         mpid: 10,
         minqty: 0,
     }
@@ -242,8 +280,8 @@ fn expired() -> Ground
 
 // Orders that enter the book and are replaced.
 fn book_samples() {
-    accepted(stamp_sent(1), known(buy(0, 0, 0, 0)));
-    accepted(stamp_sent(999_999_999), bare(sell(999_999_995, 0, 0, 0)));
+    accepted(stamp_sent(1), known(1, buy(0, 0, 0, 0)));
+    accepted(stamp_sent(2), bare(sell(999_999_995, 0, 0, 0)));
     replaced(stamp_sent(3), renamed(buy(0, 0, 0, 0)), requested());
     replaced(
         stamp_sent(4),
@@ -252,7 +290,7 @@ fn book_samples() {
     );
     replaced(
         stamp(5),
-        known(buy(300, 200, 0, 300_000_030_200)),
+        known(1, buy(300, 200, 0, 300_000_030_200)),
         decremented(),
     );
 }
@@ -266,7 +304,7 @@ fn cancel_samples() {
     );
     canceled(
         stamp(7),
-        known(buy(300, 0, 900, 300_000_030_200)),
+        known(1, buy(300, 0, 900, 300_000_030_200)),
         prevented(),
     );
     canceled(
@@ -280,7 +318,7 @@ fn cancel_samples() {
 fn trade_samples() {
     trade(
         stamp(9),
-        known(buy(300, 0, 0, 300_000_030_200)),
+        known(1, buy(300, 0, 0, 300_000_030_200)),
         Fill {
             quantity: 200,
             level: 1_000_000_100,
@@ -360,7 +398,7 @@ fn refusal_samples() {
         stamp_sent(15),
         Unchanged {
             id,
-            orderid: 7,
+            orderid: 1,
             status: 1,
             orig,
             reason: 2,
@@ -378,10 +416,17 @@ fn refusal_samples() {
     );
 }
 
+// Orders that trade at once at least so much or nothing: one with a minimum enters, and one is killed, with the largest number.
+fn minimum_samples() {
+    accepted(stamp_sent(17), known(17, least()));
+    canceled(stamp(999_999_999), known(18, kill()), expired());
+}
+
 // All samples.
 pub fn all() {
     book_samples();
     cancel_samples();
     trade_samples();
     refusal_samples();
+    minimum_samples();
 }
