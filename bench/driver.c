@@ -129,14 +129,34 @@ static void deciding(unsigned n, uint64_t mode, unsigned long least, int calls)
         must(run_steps(1) == 0 && steps == 1 && reports == 2);
 }
 
-static void depth(uint64_t k, int calls)
+/* 128 sells and 127 buys. */
+static void enter_both(void)
 {
-    uint64_t found, total, orders;
-    int64_t yield;
     must(open_market() == 0);
     enter_sells(1, 128);
     for (unsigned i = 129; i <= 255; i++)
         enter(nth(i, KAMURJESH_BUY));
+}
+
+/* The best level of a side, from the heading. */
+static void topping(unsigned n, int calls)
+{
+    uint64_t found, total, orders;
+    int64_t yield;
+    if (n == 0)
+        must(open_market() == 0);
+    else
+        enter_both();
+    if (calls)
+        must(kamurjesh_top(table, sizeof table, KAMURJESH_BUY, &found, &yield, &total, &orders) == 0 && found == (n > 0) &&
+             orders == (n > 0));
+}
+
+static void depth(uint64_t k, int calls)
+{
+    uint64_t found, total, orders;
+    int64_t yield;
+    enter_both();
     if (calls)
         must(kamurjesh_depth(table, sizeof table, KAMURJESH_BUY, k, &found, &yield, &total, &orders) == 0 && found == 1 &&
              total == 100 && orders == 1);
@@ -261,6 +281,8 @@ int main(int count, char **words)
         deciding(n, 2, 50 * (n / 2), calls);
     else if (sscanf(name, "decide-lowered-%u%c", &n, &rest) == 1 && n >= 2 && n <= 254)
         deciding(n, 3, 50 * (n / 2), calls);
+    else if (sscanf(name, "top-%u%c", &n, &rest) == 1 && (n == 0 || n == 255))
+        topping(n, calls);
     else if (sscanf(name, "depth-%u%c", &n, &rest) == 1 && n <= 126)
         depth(n, calls);
     else if (sscanf(name, "garbled-%u%c", &n, &rest) == 1 && n >= 64 && n <= 1024)

@@ -1,5 +1,6 @@
 /* A small host of the market. Under each of the three self-trade modes it opens a market, sends book R (four sells) and then A's
- * buy of 1,200 at 0.100, and prints every report, with | for SOH, and the book after each order. */
+ * buy of 1,200 at 0.100, and prints every report, with | for SOH, the top of the book after each call, as a dashboard would repaint
+ * it, and the whole book after each order. */
 #include <inttypes.h>
 #include <stdio.h>
 #include <stdlib.h>
@@ -82,6 +83,12 @@ static void print_reports(const uint8_t *bytes, size_t length)
     }
 }
 
+static void print_level(int64_t yield, uint64_t total, uint64_t orders)
+{
+    int64_t size = yield < 0 ? -yield : yield;
+    printf("%s%" PRId64 ".%03" PRId64 " %" PRIu64 " %" PRIu64, yield < 0 ? "-" : "", size / 1000, size % 1000, total, orders);
+}
+
 static void print_side(uint64_t side)
 {
     for (uint64_t k = 0;; k++) {
@@ -90,9 +97,29 @@ static void print_side(uint64_t side)
         take("Depth", kamurjesh_depth(table, sizeof table, side, k, &found, &yield, &total, &orders));
         if (!found)
             return;
-        printf("  %" PRIu64 " %s%" PRId64 ".%03" PRId64 " %" PRIu64 " %" PRIu64 "\n", side, yield < 0 ? "-" : "",
-               (yield < 0 ? -yield : yield) / 1000, (yield < 0 ? -yield : yield) % 1000, total, orders);
+        printf("  %" PRIu64 " ", side);
+        print_level(yield, total, orders);
+        putchar('\n');
     }
+}
+
+/* Repaints the best level of each side, which costs no look at the orders. While an order is in work there is none to show. */
+static void repaint(void)
+{
+    printf(" top");
+    for (uint64_t side = KAMURJESH_BUY; side <= KAMURJESH_SELL; side++) {
+        uint64_t found, total, orders;
+        int64_t yield;
+        uint64_t refusal = kamurjesh_top(table, sizeof table, side, &found, &yield, &total, &orders);
+        if (refusal != KAMURJESH_IN_WORK)
+            take("Top of book", refusal);
+        printf(" | %" PRIu64 " ", side);
+        if (found)
+            print_level(yield, total, orders);
+        else
+            printf(refusal == KAMURJESH_IN_WORK ? ".." : "-");
+    }
+    putchar('\n');
 }
 
 /* Submits an order and runs it to its end, four steps at a time. */
@@ -104,9 +131,11 @@ static void trade(const struct order *o)
     printf(" %s\n", o->cl_ord_id);
     take("Submit", kamurjesh_submit(table, sizeof table, message, n, area, sizeof area, &length));
     print_reports(area, length);
+    repaint();
     do {
         take("Run", kamurjesh_run(table, sizeof table, area, sizeof area, 4, &bytes, &reports, &steps));
         print_reports(area, bytes);
+        repaint();
         all_steps += steps;
     } while (steps > 0);
     printf(" steps %" PRIu64 "; the book: side yield quantity orders\n", all_steps);

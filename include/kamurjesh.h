@@ -37,15 +37,15 @@ enum {
 enum kamurjesh_refusal {
     KAMURJESH_TAKEN = 0,          /* not refused */
     KAMURJESH_NO_ROOM = 1,        /* Submit, Run, a feed: the area is shorter than KAMURJESH_LEAST_AREA */
-    KAMURJESH_NO_MARKET = 2,      /* Submit, Run, Depth: the table is no market */
-    KAMURJESH_IN_WORK = 3,        /* Submit, Depth: an order is in work; Run first */
+    KAMURJESH_NO_MARKET = 2,      /* Submit, Run, Depth: the table is no market; top of book: its length or its heading is none */
+    KAMURJESH_IN_WORK = 3,        /* Submit, Depth, top of book: an order is in work; Run first */
     KAMURJESH_NUMBERS_SPENT = 4,  /* Submit: the next report number is above 999,998,976; a feed: its next number is 0 or above 999,999,999 */
     KAMURJESH_GARBLED = 5,        /* Submit: the message is garbled */
     KAMURJESH_SESSION_REJECT = 6, /* Submit: a Session Reject is written, the next number goes up by 1 */
     KAMURJESH_ORDER_REJECT = 7,   /* Submit: a Rejected is written, the next number goes up by 1 */
     KAMURJESH_CHANGE_REJECT = 8,  /* Submit: a Cancel reject is written, the next number goes up by 1 */
     KAMURJESH_BAD_SETTING = 9,    /* Open: the table's length or a setting is wrong */
-    KAMURJESH_BAD_SIDE = 10,      /* Depth: the side is neither 1 nor 2 */
+    KAMURJESH_BAD_SIDE = 10,      /* Depth, top of book: the side is neither 1 nor 2 */
     KAMURJESH_NO_REPORT = 11,     /* Read, a feed: the bytes are no report; reading a copy: they are no copy */
     KAMURJESH_BAD_FEED = 17       /* a feed: an identifier that it shows, or a number that sets it up, is wrong */
 };
@@ -113,6 +113,14 @@ uint64_t kamurjesh_run(uint8_t *table, size_t table_length,
 uint64_t kamurjesh_depth(const uint8_t *table, size_t table_length,
                          uint64_t side, uint64_t k,
                          uint64_t *found, int64_t *yield_thousandths, uint64_t *total, uint64_t *orders);
+
+/* The best level of a side, as the heading of the table keeps it: on every market what kamurjesh_depth gives for k = 0, and it takes
+ * the same time whatever is open. It looks at the table's length and its first 128 bytes alone: where those of a market stand in front
+ * of other bytes, it gives what they say. Nothing is changed. The out values are those of kamurjesh_depth.
+ * Refusals: 2, 3, 10. */
+uint64_t kamurjesh_top(const uint8_t *table, size_t table_length,
+                       uint64_t side,
+                       uint64_t *found, int64_t *yield_thousandths, uint64_t *total, uint64_t *orders);
 
 /* Whether the bytes are one report, whole and nothing behind it, written as this market writes; its kind as in kamurjesh_kind,
  * 0 if refused. Nothing is changed.

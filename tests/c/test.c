@@ -215,12 +215,15 @@ static struct {
     uint64_t total, orders;
 } level;
 
-static uint64_t depth_in(size_t table_length, uint64_t side, uint64_t k)
+/* What Depth answers, or where no k is given what top of book does. */
+static uint64_t level_in(size_t table_length, uint64_t side, const uint64_t *k)
 {
     struct out found = fresh, total = fresh, orders = fresh;
     int64_t yield[3] = {-7777, INT64_MIN, -7777};
     keep_table();
-    uint64_t number = kamurjesh_depth(table, table_length, side, k, &found.value, &yield[1], &total.value, &orders.value);
+    uint64_t number =
+        k != NULL ? kamurjesh_depth(table, table_length, side, *k, &found.value, &yield[1], &total.value, &orders.value)
+                  : kamurjesh_top(table, table_length, side, &found.value, &yield[1], &total.value, &orders.value);
     EXPECT(is_fine(&found) && is_fine(&total) && is_fine(&orders));
     EXPECT(yield[0] == -7777 && yield[2] == -7777 && yield[1] != INT64_MIN);
     EXPECT(table_is_kept());
@@ -234,15 +237,32 @@ static uint64_t depth_in(size_t table_length, uint64_t side, uint64_t k)
     return number;
 }
 
+static uint64_t depth_in(size_t table_length, uint64_t side, uint64_t k)
+{
+    return level_in(table_length, side, &k);
+}
+
+static uint64_t top_in(size_t table_length, uint64_t side)
+{
+    return level_in(table_length, side, NULL);
+}
+
+/* Whether top of book gives this level. */
+static int top_is(uint64_t side, int64_t yield, uint64_t total, uint64_t orders)
+{
+    return top_in(TABLE, side) == 0 && level.found == 1 && level.yield == yield && level.total == total && level.orders == orders;
+}
+
+/* Whether Depth gives this level, or none, and for k = 0 top of book does too. */
 static int level_is(uint64_t side, uint64_t k, int64_t yield, uint64_t total, uint64_t orders)
 {
     return depth_in(TABLE, side, k) == 0 && level.found == 1 && level.yield == yield && level.total == total &&
-           level.orders == orders;
+           level.orders == orders && (k > 0 || top_is(side, yield, total, orders));
 }
 
 static int no_level(uint64_t side, uint64_t k)
 {
-    return depth_in(TABLE, side, k) == 0 && level.found == 0;
+    return depth_in(TABLE, side, k) == 0 && level.found == 0 && (k > 0 || (top_in(TABLE, side) == 0 && level.found == 0));
 }
 
 /* The kind of a report, 0 if it is refused. */
@@ -652,6 +672,76 @@ static void test_depth(void)
     EXPECT(is_fine(&found) && is_fine(&total) && is_fine(&orders) && yield == 0);
 }
 
+/* ---- top of book */
+
+static void test_top(void)
+{
+    const uint64_t sides[] = {0, 3, 256 + 1, UINT64_MAX};
+    enter_book_r(1);
+    for (size_t i = 0; i < 4; i++)
+        EXPECT(top_in(TABLE, sides[i]) == 10);
+    EXPECT(top_in(TABLE - 1, 2) == 2);
+    EXPECT(top_in(128, 2) == 2);
+    EXPECT(top_in(0, 2) == 2);
+    EXPECT(top_in(TABLE - 1, 9) == 2); /* 2 before 10 */
+    /* a requested cancel leaves the level behind it, and a refused one the same */
+    EXPECT(submit(cancellation("C-1", "S-1", 2)) == 0 && level_is(2, 0, 100, 900, 3));
+    EXPECT(submit(cancellation("C-2", "S-1", 2)) == 8 && level_is(2, 0, 100, 900, 3));
+    /* in work, and with nothing in work again */
+    EXPECT(submit(new_order("B-1", 1, 300, "0.100", 14, '0')) == 0);
+    EXPECT(top_in(TABLE, 1) == 3 && top_in(TABLE, 2) == 3);
+    EXPECT(top_in(TABLE, 9) == 3); /* 3 before 10 */
+    EXPECT(run_in(TABLE, AREA, 1) == 0 && top_in(TABLE, 2) == 3);
+    EXPECT(run() == 0 && level_is(2, 0, 100, 600, 2) && no_level(1, 0));
+    struct out found = fresh, total = fresh, orders = fresh;
+    int64_t yield = INT64_MIN;
+    EXPECT(kamurjesh_top(NULL, 0, 1, &found.value, &yield, &total.value, &orders.value) == 2);
+    EXPECT(is_fine(&found) && is_fine(&total) && is_fine(&orders) && yield == 0);
+}
+
+/* A total of more than 32 bits. */
+static void test_top_total(void)
+{
+    const char *const ids[] = {"B-1", "B-2", "B-3", "B-4", "B-5"};
+    EXPECT(open_usual(1) == 0);
+    for (size_t i = 0; i < 5; i++)
+        enter(new_order(ids[i], 1, 999999999, "-0.005", 10, '0'));
+    EXPECT(level_is(1, 0, -5, 4999999995, 5) && no_level(2, 0));
+}
+
+/* Whether a table with another byte at a place is refused by top of book with this number; the byte is put back. */
+static int top_with(size_t place, uint8_t byte, uint64_t number)
+{
+    uint8_t was = table[place];
+    table[place] = byte;
+    int so = top_in(TABLE, 2) == number;
+    table[place] = was;
+    return so;
+}
+
+/* It looks at the heading alone, and no other call takes a table whose heading says something else than the orders. Places:
+ * docs/TABLE.md. */
+static void test_top_forged(void)
+{
+    enter_book_r(1);
+    /* a heading out of range */
+    EXPECT(top_with(0, 0, 2) && top_with(28, 0, 2) && top_with(31, 255, 2) && top_with(55, 1, 2) && top_with(88, 4, 2));
+    EXPECT(top_with(32, 1, 2)); /* 2 before 3: in work without a time */
+    EXPECT(top_with(96, 1, 2) && top_with(99, 1, 2) && top_with(108, 1, 2) && top_with(111, 1, 2));
+    EXPECT(top_with(98, 0, 2));                          /* a level without orders */
+    EXPECT(top_with(98, 101, 2) && top_with(97, 1, 2)); /* more orders than the total; orders without a level */
+    EXPECT(top_with(107, 255, 2));                       /* a level above 1,999,999,999 */
+    EXPECT(top_with(120, 0, 2) && top_with(127, 1, 2));  /* a total of 0; one that so many orders cannot have */
+    /* within its ranges it is believed here, and elsewhere found out */
+    table[120] = 99;
+    EXPECT(top_is(2, 101, 99, 1) && depth_in(TABLE, 2, 0) == 2 && run_in(TABLE, AREA, 1) == 2);
+    table[120] = 100;
+    EXPECT(level_is(2, 0, 101, 100, 1));
+    /* the records are not looked at */
+    memset(table + 128, 0xff, TABLE - 128);
+    EXPECT(top_is(2, 101, 100, 1) && depth_in(TABLE, 2, 0) == 2);
+}
+
 /* ---- Read and fields */
 
 static void test_read(void)
@@ -1048,6 +1138,9 @@ int main(void)
     test_minimums();
     test_run_stops();
     test_depth();
+    test_top();
+    test_top_total();
+    test_top_forged();
     test_read();
     take_samples();
     test_copies();

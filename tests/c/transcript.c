@@ -201,6 +201,29 @@ static void depth(const char *at)
     printf("d %" PRIu64 " %" PRIu64 " %" PRId64 " %" PRIu64 " %" PRIu64 "\n", number, found, yield, total, orders);
 }
 
+static void top(const char *at)
+{
+    uint64_t side = take_number(&at);
+    take_end(&at);
+    uint64_t found = UINT64_MAX, total = UINT64_MAX, orders = UINT64_MAX;
+    int64_t yield = INT64_MIN;
+    uint64_t number = kamurjesh_top(table, sizeof table, side, &found, &yield, &total, &orders);
+    printf("t %" PRIu64 " %" PRIu64 " %" PRId64 " %" PRIu64 " %" PRIu64 "\n", number, found, yield, total, orders);
+}
+
+/* Puts a byte into the table and says which one was there. */
+static void put_byte(const char *at)
+{
+    uint64_t place = take_number(&at);
+    take_mark(&at, ';');
+    uint64_t byte = take_number(&at);
+    take_end(&at);
+    if (place >= sizeof table || byte > 255)
+        fail("no such place, or no byte");
+    printf("b %u\n", (unsigned)table[place]);
+    table[place] = (uint8_t)byte;
+}
+
 /* The field of a report that begins at a place, as kamurjesh_field gives it; returns the place behind it. */
 static size_t say_field(const struct text *report, size_t at)
 {
@@ -278,6 +301,8 @@ static void answer(const char *line)
     case 's': submit(line + 2); break;
     case 'r': run(line + 2); break;
     case 'd': depth(line + 2); break;
+    case 't': top(line + 2); break;
+    case 'b': put_byte(line + 2); break;
     case 'x': read_by(kamurjesh_read, 'x', line + 2); break;
     case 'c': copy(line + 2); break;
     case 'y': read_by(kamurjesh_copy_read, 'y', line + 2); break;

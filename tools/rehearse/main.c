@@ -1,4 +1,8 @@
-/* rehearse [FILE]: takes a file of messages into a market and says of each line what the market answers, and why. */
+/* rehearse [OPTION].. [FILE]: takes a file of messages into a market and says of each line what the market answers, and why. */
+#include <errno.h>
+#include <string.h>
+
+#include "chart.h"
 #include "feed.h"
 #include "lines.h"
 #include "market.h"
@@ -32,6 +36,10 @@ int main(int count, char **words)
     print_depth();
     if (fflush(stdout) != 0 || ferror(stdout)) {
         perror("rehearse: cannot write");
+        return 1;
+    }
+    if (options.chart != NULL && !write_chart(options.chart)) {
+        fprintf(stderr, "rehearse: cannot write %s: %s\n", options.chart, strerror(errno));
         return 1;
     }
     return 0;

@@ -70,21 +70,32 @@ void take_message(const struct message *message)
     run_to_the_end();
 }
 
-static void print_level(uint64_t side, int64_t yield, uint64_t total, uint64_t orders)
+size_t take_levels(uint64_t side, struct level *levels)
+{
+    size_t count = 0;
+    uint64_t found = 1;
+    while (count < MOST_LEVELS && found) {
+        struct level *level = &levels[count];
+        expect_taken("Depth", kamurjesh_depth(table, sizeof table, side, count, &found, &level->yield, &level->total, &level->orders));
+        count += found;
+    }
+    return count;
+}
+
+void print_yield(FILE *out, int64_t yield)
 {
     int64_t size = yield < 0 ? -yield : yield;
-    printf("%" PRIu64 " %s%" PRId64 ".%03" PRId64 " %" PRIu64 " %" PRIu64 "\n", side, yield < 0 ? "-" : "", size / 1000,
-           size % 1000, total, orders);
+    fprintf(out, "%s%" PRId64 ".%03" PRId64, yield < 0 ? "-" : "", size / 1000, size % 1000);
 }
 
 static void print_side(uint64_t side)
 {
-    uint64_t found = 1, total, orders;
-    int64_t yield;
-    for (uint64_t k = 0; found; k++) {
-        expect_taken("Depth", kamurjesh_depth(table, sizeof table, side, k, &found, &yield, &total, &orders));
-        if (found)
-            print_level(side, yield, total, orders);
+    static struct level levels[MOST_LEVELS];
+    size_t count = take_levels(side, levels);
+    for (size_t k = 0; k < count; k++) {
+        printf("%" PRIu64 " ", side);
+        print_yield(stdout, levels[k].yield);
+        printf(" %" PRIu64 " %" PRIu64 "\n", levels[k].total, levels[k].orders);
     }
 }
 

@@ -13,6 +13,20 @@ void open_market(void);
 /* Takes a message to its end and prints the answer in words behind what stands in the line already, then the reports. */
 void take_message(const struct message *message);
 
+/* A level of the book; its yield in thousandths. */
+struct level {
+    int64_t yield;
+    uint64_t total, orders;
+};
+
+enum { MOST_LEVELS = 255 };
+
+/* The levels of a side, best first, into room for MOST_LEVELS; gives how many they are. */
+size_t take_levels(uint64_t side, struct level *levels);
+
+/* Prints a yield with its three decimals. */
+void print_yield(FILE *out, int64_t yield);
+
 /* Prints the depth as ./book prints it. */
 void print_depth(void);
 

@@ -12,6 +12,7 @@ static const char help_before[] =
     "Takes the messages of FILE into a market, one a line with | for SOH, and says of each line what the market answers:\n"
     "taken, or why not. The reports follow, with | for SOH, and in the end the depth, buys then sells, best first.\n"
     "With no FILE, or with -, it reads standard input. With --feed, each report that the feed copies has its copy behind it.\n"
+    "With --chart, the levels of the depth are drawn as bars, by yield with the best in the middle, in the ratio of their totals.\n"
     "\n";
 static const char help_after[] =
     "\n"
@@ -19,7 +20,8 @@ static const char help_after[] =
     "A line ends with LF. Every other byte belongs to its message: a CR at the end makes it garbled, as ./book takes it, and\n"
     "the answer says so. A last line needs no LF.\n"
     "109 of the copies shows what is given of --port and --group, with a hyphen between; copies are numbered from 1.\n"
-    "Exit status: 0, whatever the market answers; 1 if the output cannot be written; 2 for bad usage or an unreadable input.\n";
+    "Exit status: 0, whatever the market answers; 1 if the output or the chart cannot be written; 2 for bad usage or an\n"
+    "unreadable input.\n";
 
 /* Takes an option, words[0], and its values, if it has any, behind it (the list ends with NULL). Gives how many words that were, or
  * 0 after saying on standard error what is wrong. */
@@ -65,6 +67,11 @@ static int take_group(struct options *options, char **words)
     return take_value(&options->feed.group, words);
 }
 
+static int take_chart(struct options *options, char **words)
+{
+    return take_value(&options->chart, words);
+}
+
 static int take_help(struct options *options, char **words)
 {
     (void)words;
@@ -80,6 +87,7 @@ static const struct row {
     {"--feed SUBSCRIPTION", "print the copies of a feed: full, or reconciliation for trades alone", take_feed},
     {"--port ID", "the order entry port that 109 of the copies shows", take_port},
     {"--group ID", "the trade group that it shows", take_group},
+    {"--chart FILE", "draw the book that is left into this file, an SVG picture", take_chart},
     {"--help", "print this", take_help},
 };
 enum { ROWS = sizeof rows / sizeof *rows };

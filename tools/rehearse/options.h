@@ -10,7 +10,8 @@
 struct options {
     bool help;
     struct feed feed;
-    const char *file; /* NULL, or -, for standard input */
+    const char *chart; /* NULL for none */
+    const char *file;  /* NULL, or -, for standard input */
     FILE *input;
 };
 

@@ -16,7 +16,7 @@ use Rattle.octets.proofs.Zeros.{zero-append}
 use Rattle.decimal.specs.Reading.{isTime}
 use Rattle.table.specs.Heading.{workOf, stampOf}
 use Rattle.table.specs.Orders.{filled}
-use Rattle.table.specs.Market.{every, isPadded, isText, hasWork}
+use Rattle.table.specs.Market.{every, isPadded, isText, hasStamp, hasWork}
 
 -- ---- two numbers that were read are the same, or differ
 pub differ-not : (a b x y : ℕ) → x ≡ a → y ≡ b → x ≡ y → not (eqb a b) ≡ false
@@ -142,17 +142,21 @@ module _ (f : ℕ → Bool) (least room : ℕ) (t : List ℕ) (p n : ℕ) (e : n
   unfolding isText isPadded
   text-whole xs ys a b l m x y g h = rw (g, h, x, y, ← e, le-leb least n l, le-leb n room m)
 
--- ---- the heading: zeros in the unused bytes; the order in work
-module _ (t : List ℕ) (w n : ℕ) (e : w ≡ workOf t) where
-  pub work-none : (xs : List ℕ) (r : Bool) → w ≡ 0 → xs ≡ partAt t 33 22 → r ≡ allZero xs → r ≡ hasWork t
-  unfolding hasWork
-  work-none xs r z x h =
+-- ---- the heading: the order in work and its 52
+module _ (t : List ℕ) (w : ℕ) (e : w ≡ workOf t) where
+  pub stamp-none : (xs : List ℕ) (r : Bool) → w ≡ 0 → xs ≡ partAt t 33 22 → r ≡ allZero xs → r ≡ hasStamp t
+  unfolding hasStamp
+  stamp-none xs r z x h =
       let g : workOf t ≡ 0 = sym e ∙ z in
-      h ∙ rw (x, g, le-leb 0 (filled t) zero-le)
+      h ∙ rw (x, g)
 
-  pub work-some : (m k : ℕ) (s ys : List ℕ) (a z : Bool) → (w ≡ 0 → ⊥) → n ≡ filled t → m ≡ getD t 33 0 → k ≡ 21 - m → s ≡ stampOf t
-      → ys ≡ partAt t (34 + m) k → a ≡ isTime s → z ≡ allZero ys → (leb w n && a && z) ≡ hasWork t
-  unfolding hasWork isPadded
-  work-some m k s ys a z some d f g x y h i =
+  pub stamp-some : (m k : ℕ) (s ys : List ℕ) (a z : Bool) → (w ≡ 0 → ⊥) → m ≡ getD t 33 0 → k ≡ 21 - m → s ≡ stampOf t
+      → ys ≡ partAt t (34 + m) k → a ≡ isTime s → z ≡ allZero ys → (a && z) ≡ hasStamp t
+  unfolding hasStamp isPadded
+  stamp-some m k s ys a z some f g x y h i =
       let b : eqb (workOf t) 0 ≡ false = rw e at (ne-eqb w 0 some) in
-      rw (h, i, x, y, g, f, d, e, b, and-assoc)
+      rw (h, i, x, y, g, f, b)
+
+  pub work-is : (n : ℕ) (a : Bool) → n ≡ filled t → a ≡ hasStamp t → (leb w n && a) ≡ hasWork t
+  unfolding hasWork
+  work-is n a d f = rw (f, d, e)

@@ -1,5 +1,5 @@
 -- What the passes over the book come to, in the words of Market and of matching: one order more, and at the end.
-use mathlib.Core.Path.{_≡_, refl, sym, _∙_}
+use mathlib.Core.Path.{_≡_, refl, sym, ap, _∙_}
 use mathlib.Core.Bool.{Bool, true, false, not, cond, _&&_, _||_, and-assoc}
 use mathlib.Core.List.{List}
 use mathlib.Core.Logic.{⊎-elim}
@@ -8,17 +8,23 @@ use native.Mathlib.Numerals.{add-one}
 use native.Mathlib.Omega.{arith}
 use borrow.Author.Tests.{eq-eqb, ne-eqb}
 use lib.Dec.{eqb, leb, ltb}
-use lib.ListN.{length, getD, drop, List·getD-eq-default}
-use Rattle.octets.specs.Octets.{allZero, Bytes}
+use lib.ListN.{length, getD, drop, replicate, List·getD-eq-default}
+use lib.Seq.{take-all}
+use Rattle.octets.specs.Octets.{put, partAt, sameBytes, allZero, Bytes}
 use Rattle.octets.specs.Tests.{allUpTo}
 use Rattle.octets.proofs.Bools.{both-not-r}
-use Rattle.octets.proofs.Places.{below-or}
+use Rattle.octets.proofs.Places.{below-or, length-put}
+use Rattle.octets.proofs.Parts.{part-in}
 use Rattle.matching.specs.declared.Order.{Order}
 use Rattle.matching.specs.Matching.{none, at, openOf, isOpen, isBuy, isImmediate, minimumOf, opposite, opposed, opposedTo, sumOver, countOf}
 use Rattle.table.specs.Heading.{nextOf, workOf, decidedOf}
+use Rattle.table.specs.declared.best.BestLevel.{BestLevel}
 use Rattle.table.specs.Orders.{orderAt, filled, bookOf}
-use Rattle.table.specs.Market.{hasLength, hasSettings, hasNext, hasWork, hasSpare, restZero, hasOrders, hasIds, hasOrderIds, isDone, noIoc, noCross, hasNumbers, isBook, hasDecision, isMarket}
+use Rattle.table.specs.Best.{bestOn, bestRow, bookRow}
+use Rattle.table.specs.Market.{hasLength, hasSettings, hasNext, hasWork, hasSpare, restZero, hasOrders, hasIds, hasOrderIds, isDone, noIoc, noCross, hasNumbers, isBook, hasDecision, hasBest, isMarket}
+use Rattle.table.proofs.Stores.{length-row}
 use Rattle.table.proofs.Books.{length-book, at-book}
+use Rattle.table.proofs.Bests.{due-idle, due-busy}
 use Rattle.audit.specs.Checking.{top, lowWith, highWith, lowBuy, highSell}
 use Rattle.audit.proofs.Amounts.{narrow-order}
 use Rattle.audit.proofs.Marked.{at-record, book-length}
@@ -214,10 +220,31 @@ module _ (t : List ℕ) (n w d : ℕ) (e : n ≡ filled t) where
       let h : at (bookOf t) w ≡ o = at-book t w (omega (arith, x)) (omega arith) ∙ sym f in
       rw (ne-eqb d 0 z, h, g)
 
+-- ---- the best levels: the row that the heading is to have is compared
+put-all : (t vs : List ℕ) (n : ℕ) → length t ≡ n → length vs ≡ n → put t 0 vs ≡ vs
+unfolding partAt
+put-all t vs n k l =
+    let p : partAt (put t 0 vs) 0 n ≡ partAt vs 0 n = part-in t 0 vs 0 n (omega arith) (omega arith) in
+    let q : partAt (put t 0 vs) 0 n ≡ put t 0 vs = take-all n (put t 0 vs) (omega (arith, length-put t 0 vs)) in
+    sym q ∙ p ∙ take-all n vs (omega arith)
+
+module _ (t kept : List ℕ) (w : ℕ) (e : kept ≡ partAt t 97 31) (f : w ≡ workOf t) (x : Bool) where
+  pub best-busy : (w ≡ 0 → ⊥) → x ≡ sameBytes kept (replicate 31 0) → x ≡ hasBest t
+  unfolding hasBest
+  best-busy z h = h ∙ rw (e, ← due-busy t (omega (arith, z)))
+
+  pub best-idle : w ≡ 0 → (buy sell : BestLevel) → buy ≡ bestOn (bookOf t) 1 → sell ≡ bestOn (bookOf t) 2 → (row : List ℕ)
+      → row ≡ put (replicate 31 0) 0 (bestRow buy sell) → x ≡ sameBytes kept row → x ≡ hasBest t
+  unfolding hasBest bookRow
+  best-idle z buy sell p q row r h =
+      let d : row ≡ bestRow buy sell = r ∙ put-all (replicate 31 0) (bestRow buy sell) 31 refl (length-row buy sell) in
+      h ∙ rw (e, d, p, q, due-idle t (sym f ∙ z))
+
 -- ---- a market, by its clauses
-pub book-with : (t : List ℕ) (w next d : ℕ) (a b : Bool) → w ≡ workOf t → next ≡ nextOf t → d ≡ decidedOf t → a ≡ isBook (bookOf t) w next
-    → b ≡ hasDecision (bookOf t) w d → (a && b) ≡ (isBook (bookOf t) (workOf t) (nextOf t) && hasDecision (bookOf t) (workOf t) (decidedOf t))
-book-with t w next d a b e f g h i = rw (h, i, e, f, g)
+pub book-with : (t : List ℕ) (w next d : ℕ) (a b c : Bool) → w ≡ workOf t → next ≡ nextOf t → d ≡ decidedOf t → a ≡ isBook (bookOf t) w next
+    → b ≡ hasDecision (bookOf t) w d → c ≡ hasBest t
+    → (a && b && c) ≡ (isBook (bookOf t) (workOf t) (nextOf t) && hasDecision (bookOf t) (workOf t) (decidedOf t) && hasBest t)
+book-with t w next d a b c e f g h i j = rw (h, i, j, e, f, g)
 
 pub not-long : (t : List ℕ) → (length t ≡ 32768 → ⊥) → false ≡ isMarket t
 unfolding isMarket hasLength
@@ -225,9 +252,13 @@ not-long t h = rw (ne-eqb (length t) 32768 h)
 
 pub market-is : (t : List ℕ) (n : ℕ) (a b c d e f g o h : Bool) → length t ≡ 32768 → n ≡ filled t
     → a ≡ hasSettings t → b ≡ hasNext t → c ≡ hasWork t → d ≡ hasSpare t → e ≡ allZero (drop (128 * (n + 1)) t) → f ≡ hasOrders t
-    → g ≡ hasIds t → o ≡ hasOrderIds t → h ≡ (isBook (bookOf t) (workOf t) (nextOf t) && hasDecision (bookOf t) (workOf t) (decidedOf t)) → (a && b && c && d && e && f && g && o && h) ≡ isMarket t
+    → g ≡ hasIds t → o ≡ hasOrderIds t → h ≡ (isBook (bookOf t) (workOf t) (nextOf t) && hasDecision (bookOf t) (workOf t) (decidedOf t) && hasBest t)
+    → (a && b && c && d && e && f && g && o && h) ≡ isMarket t
 unfolding isMarket hasLength restZero
 market-is t n a b c d e f g o h l pn pa pb pc pd pe pf pg po ph =
     rw (eq-eqb (length t) 32768 l, pa, pb, pc, pd, pe, pf, pg, po, ph, pn)
-    (sym (and-assoc (hasSettings t && hasNext t && hasWork t && hasSpare t && allZero (drop (128 * (filled t + 1)) t) && hasOrders t && hasIds t && hasOrderIds t)
-    (isBook (bookOf t) (workOf t) (nextOf t)) (hasDecision (bookOf t) (workOf t) (decidedOf t))))
+    (regroup (hasSettings t && hasNext t && hasWork t && hasSpare t && allZero (drop (128 * (filled t + 1)) t) && hasOrders t && hasIds t && hasOrderIds t)
+    (isBook (bookOf t) (workOf t) (nextOf t)) (hasDecision (bookOf t) (workOf t) (decidedOf t)) (hasBest t))
+  where
+    regroup : (x y z v : Bool) → (x && (y && z && v)) ≡ (x && y && z && v)
+    regroup x y z v = sym (and-assoc x (y && z) v) ∙ ap (λ (u : Bool). u && v) (sym (and-assoc x y z))

@@ -7,11 +7,14 @@ ghost use Rattle.matching.specs.Matching.{countOf, opposed};
 ghost use Rattle.table.specs.Places.{tableBytes};
 ghost use Rattle.table.specs.Orders.{orderAt, filled, bookOf};
 ghost use Rattle.audit.specs.Widths.{Narrow};
-ghost use Rattle.table.specs.Market.{isDone, noIoc, noCross, hasNumbers, isBook, hasDecision};
+ghost use Rattle.table.specs.Market.{isDone, noIoc, noCross, hasNumbers, isBook, hasDecision, hasBest};
 ghost use Rattle.audit.specs.Checking.{lowWith, highWith};
 use crate::marks::has_places;
 use crate::sound::has_open;
 use matching::Order;
+use table::best::best_of;
+use table::best::write_best;
+use table::heading::work;
 use table::places;
 use table::record::buys_at;
 use table::record::level_at;
@@ -153,6 +156,22 @@ pub fn has_decision(t: &[u8], n: usize, w: usize, d: u64) -> bool
         return false;
     }
     (d == 1) & (0 < load(t, w).minimum_of())
+}
+
+// Whether the heading keeps the best levels of the n filled records, or zeros while an order is in work.
+pub fn has_best(t: &[u8], n: usize) -> bool
+    requires { ⌜ (length (now t) ≡ tableBytes) × (n ≡ filled (now t)) ⌝ }
+    ensures { λ r. ⌜ r ≡ hasBest (now (t .entry)) ⌝ }
+{
+    let kept = octets::part_at(t, places::BEST, places::BEST_BYTES);
+    let mut row = [0u8; 31];
+    if work(t) != 0 {
+        return octets::same(kept, &row);
+    }
+    let buy = best_of(t, n, 1);
+    let sell = best_of(t, n, 2);
+    write_best(&mut row, 0, buy, sell);
+    octets::same(kept, &row)
 }
 
 // Whether the book of the n filled records is one of a market, with order w in work and this next number.

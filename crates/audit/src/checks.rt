@@ -9,7 +9,7 @@ ghost use Rattle.octets.specs.Tests.{allUpTo};
 ghost use Rattle.table.specs.Places.{tableBytes};
 ghost use Rattle.table.specs.Heading.{mpidAt, entries};
 ghost use Rattle.table.specs.Orders.{filled};
-ghost use Rattle.table.specs.Market.{every, isText, hasNames, isEntry, hasList, hasSettings, hasNext, hasWork, hasSpare};
+ghost use Rattle.table.specs.Market.{every, isText, hasNames, isEntry, hasList, hasSettings, hasNext, hasStamp, hasWork, hasSpare};
 use table::entries::mode_at;
 use table::entries::mpid_at;
 use table::heading::next;
@@ -151,18 +151,16 @@ pub fn has_next(t: &[u8]) -> bool
     (1 <= n) & (n <= 1000000000)
 }
 
-// Whether nothing is in work, or one of the n filled records with a time.
-pub fn has_work(t: &[u8], n: usize) -> bool
-    requires { ⌜ (length (now t) ≡ tableBytes) × (n ≡ filled (now t)) ⌝ }
-    ensures { λ r. ⌜ r ≡ hasWork (now (t .entry)) ⌝ }
+// Whether the 52 of the order in work is a time, and that of none zeros.
+pub fn has_stamp(t: &[u8]) -> bool
+    requires { ⌜ length (now t) ≡ tableBytes ⌝ }
+    ensures { λ r. ⌜ r ≡ hasStamp (now (t .entry)) ⌝ }
 {
-    let w = work(t);
-    if w == 0 {
+    if work(t) == 0 {
         return octets::all_zero(octets::part_at(t, places::STAMP, places::STAMP_BYTES));
     }
     let m = octets::wide(t[places::STAMP]) as usize;
-    (w <= n)
-        & decimal::read::is_time(stamp(t))
+    decimal::read::is_time(stamp(t))
         & octets::all_zero(octets::part_at(
             t,
             places::STAMP_TEXT + m,
@@ -170,11 +168,18 @@ pub fn has_work(t: &[u8], n: usize) -> bool
         ))
 }
 
-// Whether the bytes of the heading that nothing uses are zero.
+// Whether nothing is in work, or one of the n filled records with its 52.
+pub fn has_work(t: &[u8], n: usize) -> bool
+    requires { ⌜ (length (now t) ≡ tableBytes) × (n ≡ filled (now t)) ⌝ }
+    ensures { λ r. ⌜ r ≡ hasWork (now (t .entry)) ⌝ }
+{
+    (work(t) <= n) & has_stamp(t)
+}
+
+// Whether the byte of the heading that nothing uses is zero.
 pub fn has_spare(t: &[u8]) -> bool
     requires { ⌜ length (now t) ≡ tableBytes ⌝ }
     ensures { λ r. ⌜ r ≡ hasSpare (now (t .entry)) ⌝ }
 {
     octets::all_zero(octets::part_at(t, places::SPARE, 1))
-        & octets::all_zero(octets::part_at(t, places::HEADING_END, places::HEADING_SPARE))
 }

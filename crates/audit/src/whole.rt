@@ -6,7 +6,8 @@ ghost use lib.ListN.{length};
 ghost use Rattle.table.specs.Places.{tableBytes};
 ghost use Rattle.table.specs.Heading.{nextOf, workOf, decidedOf};
 ghost use Rattle.table.specs.Orders.{filled, bookOf};
-ghost use Rattle.table.specs.Market.{isBook, hasDecision, isMarket};
+ghost use Rattle.table.specs.Market.{isBook, hasDecision, hasBest, isMarket};
+use crate::book::has_best;
 use crate::book::has_decision;
 use crate::book::is_book;
 use crate::checks::has_next;
@@ -23,13 +24,14 @@ use table::heading::next;
 use table::heading::work;
 use table::places;
 
-// Whether the book of the n filled records is one of a market, and the decision one that the order in work can have.
+// Whether the book of the n filled records is one of a market, the decision one that the order in work can have, and the best levels
+// those of the book.
 fn has_book(t: &[u8], n: usize) -> bool
     requires { ⌜ (length (now t) ≡ tableBytes) × (n ≡ filled (now t)) × (n ≤ 255) ⌝ }
-    ensures { λ r. ⌜ r ≡ (isBook (bookOf (now (t .entry))) (workOf (now (t .entry))) (nextOf (now (t .entry))) && hasDecision (bookOf (now (t .entry))) (workOf (now (t .entry))) (decidedOf (now (t .entry)))) ⌝ }
+    ensures { λ r. ⌜ r ≡ (isBook (bookOf (now (t .entry))) (workOf (now (t .entry))) (nextOf (now (t .entry))) && hasDecision (bookOf (now (t .entry))) (workOf (now (t .entry))) (decidedOf (now (t .entry))) && hasBest (now (t .entry))) ⌝ }
 {
     let w = work(t);
-    is_book(t, n, w, next(t)) & has_decision(t, n, w, decided(t))
+    is_book(t, n, w, next(t)) & has_decision(t, n, w, decided(t)) & has_best(t, n)
 }
 
 // Whether these bytes are a market.

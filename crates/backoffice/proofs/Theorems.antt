@@ -16,7 +16,7 @@ use Rattle.table.proofs.Facts.{market-facts}
 use Rattle.table.proofs.Theorems.{opening-makes-a-market}
 use Rattle.turns.proofs.Running.{ran-next}
 use Rattle.intake.proofs.Theorems.{submit-numbers}
-use Rattle.promises.specs.History.{Call, Submit, Run, Depth, Read, tableOf, reportsOf, tableAfter, reportsAfter}
+use Rattle.promises.specs.History.{Call, Submit, Run, Depth, Top, Read, tableOf, reportsOf, tableAfter, reportsAfter}
 use Rattle.promises.specs.Tallies.{blank, accountOf}
 use Rattle.promises.proofs.Histories.{call-keeps, history-keeps}
 use Rattle.promises.proofs.Theorems.{all-read, balanced}
@@ -40,6 +40,7 @@ call-next : (t : List ℕ) (c : Call) → isMarket t ≡ true → nextOf (tableO
 call-next t (Submit message room) m = submit-numbers t message room
 call-next t (Run room budget) m = ran-next t room budget m
 call-next t (Depth side k) m = omega arith
+call-next t (Top side) m = omega arith
 call-next t (Read report) m = omega arith
 
 history-next : (cs : List Call) (t : List ℕ) → isMarket t ≡ true → nextOf (tableAfter t cs) ≡ nextOf t + length (reportsAfter t cs)

@@ -6,7 +6,7 @@ use Prim.Native.Nat.{ℕ, _+_, _*_, _≤_}
 use native.Mathlib.Nat.{add-zero}
 use native.Mathlib.Omega.{arith}
 use lib.Dec.{lit≤}
-use lib.ListN.{length}
+use lib.ListN.{length, replicate}
 use Rattle.octets.specs.Octets.{textBytes}
 use Rattle.octets.proofs.Bools.{not-both}
 use Rattle.request.specs.declared.Refusal.{Refusal}
@@ -23,6 +23,7 @@ use Rattle.matching.specs.Matching.{openOf, who, change}
 use Rattle.table.specs.Places.{tableBytes}
 use Rattle.table.specs.Heading.{venueOf, portOf, nextOf, putWork}
 use Rattle.table.specs.Orders.{orderAt, recordFor, termBytes, amountBytes, recordOf, putId, accepted, replaced, withdrawn}
+use Rattle.table.specs.Best.{bookRow, putBest, clearBest}
 use Rattle.table.specs.Market.{isMarket}
 use Rattle.table.specs.Changes.{numbered, entered, renewed, taken}
 use Rattle.table.proofs.Same.{put-below, next-same}
@@ -69,9 +70,13 @@ unfolding numbered
 next-numbered t u long e h = next-got u (nextOf u + 1) (omega arith) (omega arith) ∙ ap (λ (n : ℕ). n + 1) e
 
 next-worked : (t u stamp : List ℕ) (w : ℕ) → length u ≡ tableBytes → nextOf u ≡ nextOf t → nextOf t ≤ 999998976
-    → nextOf (putWork (numbered u 1) w stamp) ≡ nextOf t + 1
+    → nextOf (clearBest (putWork (numbered u 1) w stamp)) ≡ nextOf t + 1
 next-worked t u stamp w long e h =
-    next-same (put-below (numbered u 1) 32 (w ∷ textBytes 21 stamp) 28 32 (lit≤ tt)) ∙ next-numbered t u long e h
+    next-same (put-below (putWork (numbered u 1) w stamp) 97 (replicate 31 0) 28 32 (lit≤ tt))
+    ∙ next-same (put-below (numbered u 1) 32 (w ∷ textBytes 21 stamp) 28 32 (lit≤ tt)) ∙ next-numbered t u long e h
+
+next-told : (t u : List ℕ) → length u ≡ tableBytes → nextOf u ≡ nextOf t → nextOf t ≤ 999998976 → nextOf (putBest (numbered u 1)) ≡ nextOf t + 1
+next-told t u long e h = next-same (put-below (numbered u 1) 97 (bookRow (numbered u 1)) 28 32 (lit≤ tt)) ∙ next-numbered t u long e h
 
 next-accepted : (t : List ℕ) (k orderid : ℕ) (id account : List ℕ) (capacity class : ℕ) (x : Order) → 1 ≤ k
     → nextOf (accepted t k orderid id account capacity class x) ≡ nextOf t
@@ -158,7 +163,7 @@ module _ (t message : List ℕ) where
       record {
         reports-are = refl;
         next-is =
-            next-numbered t u (withdrawn-long t u id v (a .market .long) refl) (next-withdrawn t id v (cancel-in t message o a k refl e .low)) (a .numbers);
+            next-told t u (withdrawn-long t u id v (a .market .long) refl) (next-withdrawn t id v (cancel-in t message o a k refl e .low)) (a .numbers);
         short = ticket-short u message _ _ _ (cancel-legible t message o a k refl e);
       }
 

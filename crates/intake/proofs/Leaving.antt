@@ -16,6 +16,7 @@ use Rattle.matching.specs.declared.Event.the-variants.{Accepted, Replaced, With
 use Rattle.matching.specs.Matching.{openOf}
 use Rattle.table.specs.Heading.{nextOf, putNext, putWork}
 use Rattle.table.specs.Orders.{orderAt, recordFor, accepted, replaced, withdrawn}
+use Rattle.table.specs.Best.{putBest, clearBest}
 use Rattle.table.specs.Changes.{numbered, entered, renewed, taken}
 use Rattle.report.specs.declared.Place.{Place}
 use Rattle.report.specs.declared.Field.{Field}
@@ -50,8 +51,11 @@ unfolding numbered
 raised t u n e q = rw (← e) q
 
 pub raised-worked : (t u v message stamp : List ℕ) (w : ℕ) (time : Part) → u ≡ numbered t 1 → stamp ≡ textOf message time → v ≡ putWork u w stamp
-    → v ≡ putWork (numbered t 1) w (textOf message time)
-raised-worked t u v message stamp w time e s q = rw (← e, ← s) q
+    → (z : List ℕ) → z ≡ clearBest v → z ≡ clearBest (putWork (numbered t 1) w (textOf message time))
+raised-worked t u v message stamp w time e s q z c = c ∙ ap clearBest (q ∙ rw (e, s))
+
+pub raised-told : (t u v : List ℕ) → u ≡ numbered t 1 → v ≡ putBest u → v ≡ putBest (numbered t 1)
+raised-told t u v e q = q ∙ ap putBest e
 
 pub stamp-short : (message stamp : List ℕ) (time : Part) → stamp ≡ textOf message time → length (textOf message time) ≤ 21 → length stamp ≤ 21
 stamp-short message stamp time e h = rw e h
@@ -120,7 +124,7 @@ module _ (t message area after : List ℕ) (len n : ℕ) (q : n ≡ nextOf t) (c
     after-is = z ∙ rw (g, q, order-is)
 
     pub enter-left : Wrote area 0 (ticketOf u message n c (Accepted k x)) len after → (v : List ℕ)
-        → v ≡ putWork (numbered u 1) k (textOf message (o .time)) → Left (newTaken t message o) area (answer.Taken len) v after
+        → v ≡ clearBest (putWork (numbered u 1) k (textOf message (o .time))) → Left (newTaken t message o) area (answer.Taken len) v after
     unfolding newTaken entered
     enter-left w v h = reported-left _ _ area after len (λ r. answer.Taken r) v (rw (after-is, q, b, g, order-is) at w) (rw (after-is, g) at h)
 
@@ -128,7 +132,7 @@ module _ (t message area after : List ℕ) (len n : ℕ) (q : n ≡ nextOf t) (c
   module _ (o : Replacement) (k : ℕ) (b : c ≡ causeOf (o .time) (sentAt (o .original))) (id : List ℕ) (i : id ≡ textOf message (o .id)) (u : List ℕ)
       (z : u ≡ replaced t id (Replaced k (o .level) (o .quantity) n)) where
     pub renew-left : Wrote area 0 (ticketOf u message n c (Replaced k (o .level) (o .quantity) n)) len after → (v : List ℕ)
-        → v ≡ putWork (numbered u 1) k (textOf message (o .time)) → Left (replacementTaken t message o k) area (answer.Taken len) v after
+        → v ≡ clearBest (putWork (numbered u 1) k (textOf message (o .time))) → Left (replacementTaken t message o k) area (answer.Taken len) v after
     unfolding replacementTaken renewed
     renew-left w v h =
         reported-left _ _ area after len (λ r. answer.Taken r) v (rw (z, i, b, q) at w) (rw (z, i, q) at h)
@@ -137,7 +141,7 @@ module _ (t message area after : List ℕ) (len n : ℕ) (q : n ≡ nextOf t) (c
   module _ (o : Cancellation) (k : ℕ) (b : c ≡ causeOf (o .time) (sentAt (o .original))) (x : ℕ) (y : x ≡ openOf (orderAt t k))
       (id : List ℕ) (i : id ≡ textOf message (o .id)) (u : List ℕ) (z : u ≡ withdrawn t id (Withdrawn k x)) where
     pub withdraw-left : Wrote area 0 (ticketOf u message n c (Withdrawn k x)) len after → (v : List ℕ)
-        → v ≡ numbered u 1 → Left (cancelTaken t message o k) area (answer.Taken len) v after
+        → v ≡ putBest (numbered u 1) → Left (cancelTaken t message o k) area (answer.Taken len) v after
     unfolding cancelTaken taken
     withdraw-left w v h =
         reported-left _ _ area after len (λ r. answer.Taken r) v (rw (z, y, i, b, q) at w) (rw (z, y, i) at h)

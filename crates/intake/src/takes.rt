@@ -1,4 +1,5 @@
-// Requests that are taken: the record changes, the report is written from the table after that, and the next number goes up.
+// Requests that are taken: the record changes, the report is written from the table after that, the next number goes up, and the
+// best levels in the heading follow: none while an order is in work.
 ghost use mathlib.Core.Path.{_≡_};
 ghost use Prim.Native.Nat.{_≤_, _<_};
 ghost use lib.ListN.{length};
@@ -8,6 +9,7 @@ ghost use Rattle.table.specs.Places.{tableBytes};
 ghost use Rattle.table.specs.Heading.{putWork};
 ghost use Rattle.table.specs.Orders.{orderAt, accepted};
 ghost use Rattle.table.specs.Orders.{filled as Orders·filled};
+ghost use Rattle.table.specs.Best.{putBest, clearBest};
 ghost use Rattle.table.specs.Facts.{Market};
 ghost use Rattle.table.specs.Changes.{numbered};
 ghost use Rattle.calls.specs.declared.Standing.the-variants.{Stands};
@@ -25,6 +27,8 @@ use request::Cancellation;
 use request::NewOrder;
 use request::Replacement;
 use request::Terms;
+use table::best::clear_best;
+use table::best::put_best;
 use table::heading::next;
 use table::heading::put_next;
 use table::heading::put_work;
@@ -75,13 +79,23 @@ pub fn raise(t: &mut [u8])
     put_next(t, n + 1);
 }
 
-// The next report number goes up by one, and record w is in work with the 52 of its message.
+// The next report number goes up by one, and record w is in work with the 52 of its message and no best levels.
 fn raise_and_work(t: &mut [u8], w: usize, message: &[u8], time: Part)
     requires { ⌜ (length (now t) ≡ tableBytes) × (w < 256) × (length (textOf (now message) time) ≤ 21) ⌝ }
-    ensures { λ _. ⌜ now (t .exit) ≡ putWork (numbered (now (t .entry)) 1) w (textOf (now (message .entry)) time) ⌝ }
+    ensures { λ _. ⌜ now (t .exit) ≡ clearBest (putWork (numbered (now (t .entry)) 1) w (textOf (now (message .entry)) time)) ⌝ }
 {
     raise(t);
     put_work(t, w as u8, text_of(message, time));
+    clear_best(t);
+}
+
+// The next report number goes up by one, and the best levels are those of the book.
+fn raise_and_best(t: &mut [u8])
+    requires { ⌜ length (now t) ≡ tableBytes ⌝ }
+    ensures { λ _. ⌜ now (t .exit) ≡ putBest (numbered (now (t .entry)) 1) ⌝ }
+{
+    raise(t);
+    put_best(t);
 }
 
 // A new order of these terms and this place.
@@ -193,6 +207,6 @@ pub fn withdraw(
     };
     table::event::withdraw(table, k, text_of(message, o.id), e);
     let len = tell(area, table, message, n, cause_with(o.time, o.original), e);
-    raise(table);
+    raise_and_best(table);
     SubmitAnswer::Taken(len)
 }

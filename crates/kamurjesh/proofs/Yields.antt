@@ -1,15 +1,17 @@
--- A level in range as a signed yield of 64 bits; and every level that Depth finds is in range.
+-- A level in range as a signed yield of 64 bits; and every level that Depth finds, or that top of book gives, is in range.
 use mathlib.Core.Path.{_≡_, refl, sym, _∙_}
 use mathlib.Core.Bool.{Bool, true, false, cond, not, _&&_, _||_}
 use mathlib.Core.List.{List}
 use Prim.Native.Nat.{ℕ, zero, suc, _≤_, _<_, _-_}
 use native.Mathlib.Omega.{arith}
 use lib.Dec.{eqb, ltb}
+use borrow.Author.Tests.{eqb-true, leb-true, not-false}
 use lib.IntN.{ℤ, pos, negsuc, subℕ, _-ℤ_}
 use lib.ListN.{length}
 use mir.Syntax.{w64}
 use mir.Val.{SFits, toZ, ofZ}
 use mir.Facts.{toZ-ofZ}
+use Rattle.octets.proofs.Bools.{split, both-l, both-r, or-r}
 use Rattle.matching.specs.declared.Order.{Order}
 use Rattle.matching.specs.declared.Depth.{Depth}
 use Rattle.matching.specs.declared.Depth.the-variants.{Level, NoLevel}
@@ -18,12 +20,15 @@ use Rattle.matching.specs.Held.{Sound, In}
 use Rattle.matching.specs.Depth.{stands, behind, nearer, next, levelAt, depth}
 use Rattle.table.specs.Heading.{workOf}
 use Rattle.table.specs.Orders.{bookOf}
-use Rattle.table.specs.Market.{isMarket}
+use Rattle.table.specs.declared.best.BestLevel.{BestLevel}
+use Rattle.table.specs.Best.{bestAt, inWords}
+use Rattle.table.specs.Market.{hasLength, isMarket}
 use Rattle.table.specs.Facts.{Market}
 use Rattle.table.proofs.Facts.{market-facts}
 use Rattle.market.specs.declared.DepthAnswer.{DepthAnswer}
 use Rattle.market.specs.declared.DepthAnswer.the-variants.{NoMarket, InWork, BadSide, Found}
 use Rattle.market.specs.Depth.{isSide, depthAnswer, levelIs}
+use Rattle.market.specs.Top.{isNone, isBest, hasLevels, hasHeading, topAnswer}
 use Rattle.kamurjesh.specs.Numbers.{levelIn, yieldOf}
 
 -- ---- the numbers
@@ -80,17 +85,54 @@ depth-low : (t : List ℕ) (side k : ℕ) → Market t → levelIs (depth (bookO
 unfolding depth
 depth-low t side k m = there (eqb (levelAt (bookOf t) side k) 0) _ _ _ _ (level-low (bookOf t) side (m .held .sound) k)
 
-chosen : (m w s : Bool) (d : Depth) (most : ℕ) → (m ≡ true → levelIs d ≤ most)
+chosen : (m w s : Bool) (d : Depth) (most : ℕ) → (m ≡ true → w ≡ false → s ≡ false → levelIs d ≤ most)
     → levelIs (levelIn (cond (not m) NoMarket (cond w InWork (cond s BadSide (Found d))))) ≤ most
 chosen true true s d most f = omega arith
 chosen true false true d most f = omega arith
-chosen true false false d most f = f refl
+chosen true false false d most f = f refl refl refl
 chosen false w s d most f = omega arith
 
 answer-low : (t : List ℕ) (side k : ℕ) → levelIs (levelIn (depthAnswer t side k)) ≤ 1_999_999_999
 unfolding depthAnswer
 answer-low t side k =
-    chosen (isMarket t) (not (eqb (workOf t) 0)) (not (isSide side)) _ _ (λ e. depth-low t side k (market-facts t e))
+    chosen (isMarket t) (not (eqb (workOf t) 0)) (not (isSide side)) _ _ (λ e w s. depth-low t side k (market-facts t e))
 
 pub found-low : (t : List ℕ) (side k : ℕ) (a : DepthAnswer) (d : Depth) → a ≡ depthAnswer t side k → d ≡ levelIn a → levelIs d ≤ 1_999_999_999
 found-low t side k a d p q = rw (q, p) (answer-low t side k)
+
+-- ---- the best level of a heading in its ranges
+
+best-low : (b : BestLevel) → isBest b ≡ true → b .level ≤ 1_999_999_999
+unfolding isBest isNone
+best-low b h =
+    split (isNone b)
+    (λ n. omega (arith, eqb-true (b .level) 0 (search both-l)))
+    (λ n.
+    let r = or-r (isNone b) _ h n in
+    leb-true (b .level) 1999999999 (search (both-l, both-r)))
+
+words-low : (b : BestLevel) → isBest b ≡ true → levelIs (inWords b) ≤ 1_999_999_999
+unfolding inWords
+words-low b h = there (eqb (b .orders) 0) _ _ _ _ (best-low b h)
+
+heading-levels : (t : List ℕ) → hasHeading t ≡ true → hasLevels t ≡ true
+unfolding hasHeading
+heading-levels t h = search both-r
+
+heading-low : (t : List ℕ) (side : ℕ) → hasHeading t ≡ true → eqb (workOf t) 0 ≡ true → isSide side ≡ true → levelIs (inWords (bestAt t side)) ≤ 1_999_999_999
+unfolding hasLevels
+heading-low t side h w s =
+    let l : (isBest (bestAt t 1) && isBest (bestAt t 2)) ≡ true = rw w at (heading-levels t h) in
+    split (eqb side 1)
+    (λ e. rw (eqb-true side 1 e) (words-low (bestAt t 1) (both-l (isBest (bestAt t 1)) (isBest (bestAt t 2)) l)))
+    (λ e. rw (eqb-true side 2 (or-r (eqb side 1) (eqb side 2) s e)) (words-low (bestAt t 2) (both-r (isBest (bestAt t 1)) (isBest (bestAt t 2)) l)))
+
+top-answer-low : (t : List ℕ) (side : ℕ) → levelIs (levelIn (topAnswer t side)) ≤ 1_999_999_999
+unfolding topAnswer
+top-answer-low t side =
+    split (hasLength t)
+    (λ e. rw e (chosen (hasHeading t) (not (eqb (workOf t) 0)) (not (isSide side)) _ _ (λ h w s. heading-low t side h (not-false _ w) (not-false _ s))))
+    (λ e. rw e (omega arith))
+
+pub top-low : (t : List ℕ) (side : ℕ) (a : DepthAnswer) (d : Depth) → a ≡ topAnswer t side → d ≡ levelIn a → levelIs d ≤ 1_999_999_999
+top-low t side a d p q = rw (q, p) (top-answer-low t side)

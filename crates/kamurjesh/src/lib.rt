@@ -9,6 +9,7 @@ ghost use Rattle.calls.specs.Told.{areaAfter};
 ghost use Rattle.calls.specs.Submit.{submitted, submitNumber, submitLength};
 ghost use Rattle.calls.specs.Run.{ran, runNumber, runBytes, runReports, runSteps};
 ghost use Rattle.market.specs.Depth.{depthAnswer, depthNumber, hasLevel};
+ghost use Rattle.market.specs.Top.{topAnswer};
 ghost use Rattle.report.specs.Reports.{readOf, partOf};
 ghost use Rattle.calls.specs.Read.{readNumber, kindNumber};
 ghost use Rattle.octets.specs.Octets.{put};
@@ -45,6 +46,7 @@ use market::open;
 use market::read;
 use market::run;
 use market::submit;
+use market::top;
 use report::read::field;
 
 // Opens a market in the table: 0, or refusal 9 with nothing changed.
@@ -124,6 +126,31 @@ pub extern "C" fn kamurjesh_depth(
         × (now (orders .exit) ≡ ordersOf (levelIn (depthAnswer (now (table .entry)) side k))) ⌝ }
 {
     let answer = depth(table, side, k);
+    let level = level_in(answer);
+    *found = has_level(level);
+    *yield_thousandths = yield_of(level);
+    *total = total_of(level);
+    *orders = orders_of(level);
+    depth_number(answer)
+}
+
+// The best level of a side, from the heading: 0 with whether there is one, its yield, total and number of orders; or a refusal.
+#[no_mangle]
+pub extern "C" fn kamurjesh_top(
+    table: &[u8],
+    side: u64,
+    found: &mut u64,
+    yield_thousandths: &mut i64,
+    total: &mut u64,
+    orders: &mut u64,
+) -> u64
+    ensures { λ r. ⌜ (r ≡ depthNumber (topAnswer (now (table .entry)) side))
+        × (now (found .exit) ≡ hasLevel (levelIn (topAnswer (now (table .entry)) side)))
+        × (now («yield_thousandths» .exit) ≡ yieldOf (levelIn (topAnswer (now (table .entry)) side)))
+        × (now (total .exit) ≡ totalOf (levelIn (topAnswer (now (table .entry)) side)))
+        × (now (orders .exit) ≡ ordersOf (levelIn (topAnswer (now (table .entry)) side))) ⌝ }
+{
+    let answer = top(table, side);
     let level = level_in(answer);
     *found = has_level(level);
     *yield_thousandths = yield_of(level);

@@ -1,4 +1,4 @@
--- What holds of the five calls together: on a market each of them leaves a market, so that a table that Open made and only the calls
+-- What holds of the six calls together: on a market each of them leaves a market, so that a table that Open made and only the calls
 -- have written is never refused as none; and two results that meet the contract of a call are the same, down to every lent byte.
 use mathlib.Core.Path.{_≡_, sym, _∙_}
 use mathlib.Core.Bool.{true}
@@ -21,6 +21,8 @@ use Rattle.intake.proofs.Theorems.{submit-keeps}
 use Rattle.turns.proofs.Theorems.{run-keeps}
 use Rattle.market.specs.declared.DepthAnswer.{DepthAnswer}
 use Rattle.market.specs.Depth.{depthAnswer}
+use Rattle.market.specs.Top.{topAnswer}
+use Rattle.market.proofs.Tops.{top-is-depth}
 
 -- ---- a market stays a market
 
@@ -33,6 +35,11 @@ submit-leaves = submit-keeps
 
 pub run-leaves : (t : List ℕ) (room budget : ℕ) → isMarket t ≡ true → isMarket (ran t room budget .table) ≡ true
 run-leaves = run-keeps
+
+-- ---- on a market Top answers what Depth answers for k = 0, refusals and "no such level" included
+
+pub top-tells-depth : (t : List ℕ) (side : ℕ) → isMarket t ≡ true → topAnswer t side ≡ depthAnswer t side 0
+top-tells-depth = top-is-depth
 
 -- ---- what a call may answer and leave, by its contract: the answer r, the table u and the report area b
 
@@ -69,6 +76,9 @@ run-is-one t area budget r s u v b c p q = (same (p .answer) (q .answer), same (
 
 pub depth-is-one : (t : List ℕ) (side k : ℕ) (r s : DepthAnswer) → r ≡ depthAnswer t side k → s ≡ depthAnswer t side k → r ≡ s
 depth-is-one t side k r s p q = same p q
+
+pub top-is-one : (t : List ℕ) (side : ℕ) (r s : DepthAnswer) → r ≡ topAnswer t side → s ≡ topAnswer t side → r ≡ s
+top-is-one t side r s p q = same p q
 
 pub read-is-one : (report : List ℕ) (r s : Reading) → r ≡ readOf report → s ≡ readOf report → r ≡ s
 read-is-one report r s p q = same p q

@@ -1,2 +1,3 @@
--- What the contracts of `market` cite. A reader believes Depth: what that call answers.
+-- What the contracts of `market` cite. A reader believes Depth and Top: what these calls answer.
 pub mod Depth
+pub mod Top

@@ -1,8 +1,11 @@
-// The five calls of a market: open, submit, run, depth, read. They ask nothing of their caller: a table, a message, a report area
+// The six calls of a market: open, submit, run, depth, top, read. They ask nothing of their caller: a table, a message, a report area
 // may be any bytes of any length. Each contract says what is answered and what every lent byte is afterwards, by the
 // definitions of the crate calls.
+pub mod front;
 pub mod levels;
 
+use crate::front::has_heading;
+use crate::front::in_words;
 use crate::levels::level;
 use audit::is_market;
 use calls::OpenAnswer;
@@ -10,7 +13,9 @@ use calls::RunAnswer;
 use calls::SubmitAnswer;
 use matching::Depth;
 use report::Reading;
+use table::best::best_at;
 use table::heading::work;
+use table::places;
 ghost use mathlib.Core.Path.{_≡_};
 ghost use lib.ListN.{length};
 ghost use Rattle.table.specs.Opened.{opened};
@@ -20,8 +25,9 @@ ghost use Rattle.calls.specs.Open.{openAnswer};
 ghost use Rattle.calls.specs.Run.{ran};
 ghost use Rattle.calls.specs.Submit.{submitted};
 ghost use Rattle.market.specs.Depth.{isSide, depthAnswer};
+ghost use Rattle.market.specs.Top.{topAnswer};
 
-// What Depth answers: a refusal, or the level that there is or that there is none.
+// What Depth and Top answer: a refusal, or the level that there is or that there is none.
 pub enum DepthAnswer {
     NoMarket,
     InWork,
@@ -87,6 +93,26 @@ pub fn depth(table: &[u8], side: u64, k: u64) -> DepthAnswer
         return DepthAnswer::BadSide;
     }
     DepthAnswer::Found(level(table, side, k))
+}
+
+// The best level of a side, as the heading says. Refused if the length of the table or its heading is wrong, an order is in work, or the
+// side is none. No record is looked at; on a market the answer is that of depth for k = 0.
+pub fn top(table: &[u8], side: u64) -> DepthAnswer
+    ensures { λ r. ⌜ r ≡ topAnswer (now (table .entry)) side ⌝ }
+{
+    if table.len() != places::TABLE {
+        return DepthAnswer::NoMarket;
+    }
+    if !has_heading(table) {
+        return DepthAnswer::NoMarket;
+    }
+    if 0 < work(table) {
+        return DepthAnswer::InWork;
+    }
+    if !is_side(side) {
+        return DepthAnswer::BadSide;
+    }
+    DepthAnswer::Found(in_words(best_at(table, side)))
 }
 
 // The kind and the fields of a report, or that the bytes are none.

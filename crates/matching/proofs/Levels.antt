@@ -9,7 +9,7 @@ use lib.Dec.{eqb}
 use borrow.Author.Tests.{ltb-true, eqb-true, eqb-false, eq-eqb, ne-eqb}
 use Rattle.octets.proofs.Bools.{split, not-both, both-l, both-r, or-r, neither-l, neither-r}
 use Rattle.matching.specs.declared.Order.{Order}
-use Rattle.matching.specs.Matching.{Book, at, openOf, buys, ahead, sumOver, countOf}
+use Rattle.matching.specs.Matching.{Book, at, openOf, isOpen, buys, ahead, sumOver, countOf}
 use Rattle.matching.specs.Held.{In, Sound}
 use Rattle.matching.specs.Depth.{stands, behind, nearer, next, levelAt, onLevel, share, total, orders, depth, totalOf, ordersOf, overLevels, openOn, ordersOn}
 use Rattle.matching.proofs.Books.{open-in, sum-same, sum-add, sum-most}
@@ -289,3 +289,47 @@ module _ (b : Book) (s : ℕ) (sound : (k : ℕ) → In b k → Sound (at b k)) 
   -- so one order more can be added, of at most 255
   pub total-room : (l n : ℕ) → n < length b → length b ≤ 255 → sumOver (share s l) b n ≤ 254 * 999_999_999
   total-room l n h m = omega (arith, total-most l n (omega arith))
+
+  -- ---- a level in numbers
+
+  -- what an order adds to its level is 1 to 999,999,999
+  share-low : (l : ℕ) (o : Order) → cond (onLevel s l o) 1 0 ≤ share s l o
+  unfolding share onLevel stands
+  share-low l o =
+      split (isOpen o)
+      (λ t. split (onLevel s l o) (λ u. rw u (ltb-true 0 (openOf o) t)) (λ u. rw u (omega arith)))
+      (λ t. rw t (omega arith))
+
+  share-high : (l k : ℕ) → In b k → share s l (at b k) ≤ cond (onLevel s l (at b k)) 1 0 * 999_999_999
+  unfolding share
+  share-high l k i =
+      split (onLevel s l (at b k))
+      (λ t. rw t (omega (arith, open-most (at b k) (sound k i))))
+      (λ t. rw t (omega arith))
+
+  -- so the total of the first n orders is at least their number, and at most as many times 999,999,999
+  pub total-least : (l n : ℕ) → countOf (onLevel s l) b n ≤ sumOver (share s l) b n
+  unfolding countOf sumOver
+  total-least l zero = omega arith
+  total-least l (suc n) = omega (arith, total-least l n, share-low l (at b (suc n)))
+
+  pub total-each : (l n : ℕ) → n ≤ length b → sumOver (share s l) b n ≤ countOf (onLevel s l) b n * 999_999_999
+  unfolding countOf sumOver
+  total-each l zero h = omega arith
+  total-each l (suc n) h =
+      omega (arith, total-each l n (omega arith), share-high l (suc n) (record { low = omega arith; high = h }))
+
+  -- a level that there is has an order, and is at most 1,999,999,999
+  pub orders-some : (x n : ℕ) → 0 < next b s x n → 0 < countOf (onLevel s (next b s x n)) b n
+  unfolding countOf here one
+  orders-some x n p = on-some b s x n p
+
+  pub next-most : (x n : ℕ) → n ≤ length b → next b s x n ≤ 1_999_999_999
+  unfolding next nearer
+  next-most x zero h = omega arith
+  next-most x (suc n) h =
+      let c = next b s x n in
+      let o = at b (suc n) in
+      split (stands s o && behind s x (o .level) && (eqb c 0 || ahead (buys s) (o .level) c))
+      (λ t. rw t (sound (suc n) (record { low = omega arith; high = h }) .level-high))
+      (λ t. rw t (next-most x n (omega arith)))

@@ -8,7 +8,7 @@ use Rattle.table.specs.Market.{isMarket}
 use Rattle.table.specs.Facts.{Market}
 use Rattle.turns.proofs.Theorems.{run-keeps}
 use Rattle.intake.proofs.Theorems.{submit-keeps}
-use Rattle.promises.specs.History.{Call, Submit, Run, Depth, Read, tableOf, reportsOf, tableAfter, reportsAfter}
+use Rattle.promises.specs.History.{Call, Submit, Run, Depth, Top, Read, tableOf, reportsOf, tableAfter, reportsAfter}
 use Rattle.promises.proofs.Leads.{Leads, leads-then, leads-still}
 use Rattle.promises.proofs.Running.{StepTells, ran-leads}
 use Rattle.promises.proofs.Submitting.{Told, submitted-leads}
@@ -17,6 +17,7 @@ pub call-keeps : (t : List ℕ) (c : Call) → isMarket t ≡ true → isMarket 
 call-keeps t (Submit message room) m = submit-keeps t message room m
 call-keeps t (Run room budget) m = run-keeps t room budget m
 call-keeps t (Depth side k) m = m
+call-keeps t (Top side) m = m
 call-keeps t (Read report) m = m
 
 pub history-keeps : (cs : List Call) (t : List ℕ) → isMarket t ≡ true → isMarket (tableAfter t cs) ≡ true
@@ -30,6 +31,7 @@ module _ (told : Told) (tell : (t : List ℕ) → Market t → 1 ≤ workOf t �
   call-leads t (Submit message room) m = submitted-leads told t message room
   call-leads t (Run room budget) m = ran-leads tell t room budget m
   call-leads t (Depth side k) m = leads-still t
+  call-leads t (Top side) m = leads-still t
   call-leads t (Read report) m = leads-still t
 
   pub history-leads : (cs : List Call) (t : List ℕ) → isMarket t ≡ true → Leads t (tableAfter t cs) (reportsAfter t cs)

@@ -18,9 +18,11 @@ use Rattle.request.specs.Asks.{bodyOf, saidIn, lengthIn, hasIn, refusalOf, term
 use Rattle.request.specs.Session.{kindOf, oneOf, belongs, listed, shapeOf, charSays, lookAs, judge, firstFailing, firstMissing, minimumClashes, firstClashing}
 use Rattle.matching.specs.Matching.{openOf, meets, better, faces, sameOwner, sumOver, countOf, choose, best, partner, prevention, meeting, ending, outcome, preventing, causes, change, happens, workAfter, after, play, run, minimumOf, wouldTrade, misses, decidedAfter, opposed, opposedTo}
 use Rattle.matching.specs.Held.{mayMinimum}
+use Rattle.matching.specs.Depth.{stands, behind, nearer, next, levelAt, onLevel, share, total, orders, depth}
 use Rattle.table.specs.Changes.{played, missesNow, stepEvents, stepWork, numbered, stepped, entered}
 use Rattle.table.specs.Heading.{entries, entryOf, isListed, modeOf, mpidBytes}
-use Rattle.table.specs.Market.{every, isPadded, isText, hasLength, hasNames, isEntry, hasList, hasSettings, hasNext, hasWork, hasSpare, restZero, isCapacity, isClass, isRecord, isRanged, isKnown, isWithin, isShut, isPriced, isOrder, hasOrders, isFreshId, hasIds, isFresh, areFresh, hasOrderIds, hasPlaces, isDone, noIoc, isClear, noCross, hasNumbers, isBook, hasDecision, isMarket}
+use Rattle.table.specs.Best.{bestOn, ordersBytes, levelsBytes, totalsBytes, bestRow, bookRow, bestDue}
+use Rattle.table.specs.Market.{every, isPadded, isText, hasLength, hasNames, isEntry, hasList, hasSettings, hasNext, hasStamp, hasWork, hasSpare, restZero, isCapacity, isClass, isRecord, isRanged, isKnown, isWithin, isShut, isPriced, isOrder, hasOrders, isFreshId, hasIds, isFresh, areFresh, hasOrderIds, hasPlaces, isDone, noIoc, isClear, noCross, hasNumbers, isBook, hasDecision, hasBest, isMarket}
 use Rattle.table.specs.Opened.{isName, isNew, isGiven, areGiven, areNames, areSettings, namedTable, freshTable, isOpening, opened}
 use Rattle.table.specs.Orders.{orderAt, filled, ordersFrom, bookOf, firstRecord, recordWith, recordFor, termBytes, amountBytes, tailBytes, fieldBytes, recordOf, applied, accepted}
 use Rattle.calls.specs.Checks.{holder, newStands}
@@ -42,7 +44,7 @@ use Rattle.promises.specs.Tallies.{Account, noted, accountFrom, accountO
 
 -- open all definitions: those that the calls compute with, and those of reports and of what is told from them
 computes : ℕ
-unfolding leAt bytesOf put partAt textAt textBytes sameBytes allZero allUpTo firstFrom decimal places plain fixed shareOf meanOf bare bareOf exactlyOf amountOf fixedOf isDigit digitOf runOf numberAfter isNumber numOf digitAt isFraction fractionOf sizeOf levelOf isTimeLength twoAt timeShaped timeRanged isTime isFieldText startsTag leading tagOf valueFrom valueLen fieldOf fieldsAfter fieldsFrom stepOf findTag valueOf hasTag repeats cleanFields lastTagOr headedBy ordered headerRight partOf endOf tenAt lengthTrue sumOf checkSum sumTrue garbledMessage bodyPart headOf frameOf bodyOf saidIn lengthIn hasIn refusalOf termsIn requestIn completed agreed bodyAsked headAsked askedOf kindOf oneOf belongs listed shapeOf charSays lookAs judge firstFailing firstMissing minimumClashes firstClashing openOf meets better faces sameOwner sumOver countOf choose best partner prevention meeting ending outcome preventing causes change happens workAfter after play run minimumOf wouldTrade misses decidedAfter mayMinimum opposed opposedTo played missesNow stepEvents stepWork numbered stepped entered entries entryOf isListed modeOf mpidBytes every isPadded isText hasLength hasNames isEntry hasList hasSettings hasNext hasWork hasSpare restZero isCapacity isClass isRecord isRanged isKnown isWithin isShut isPriced isOrder hasOrders isFreshId hasIds isFresh areFresh hasOrderIds hasPlaces isDone noIoc isClear noCross hasNumbers isBook hasDecision isMarket isName isNew isGiven areGiven areNames areSettings namedTable freshTable isOpening opened orderAt filled ordersFrom bookOf firstRecord recordWith recordFor termBytes amountBytes tailBytes fieldBytes recordOf applied accepted holder newStands newTaken submitted joined eventReport eventReports stepReports worked ran tableAfter reportsAfter recordBy openBy
+unfolding leAt bytesOf put partAt textAt textBytes sameBytes allZero allUpTo firstFrom decimal places plain fixed shareOf meanOf bare bareOf exactlyOf amountOf fixedOf isDigit digitOf runOf numberAfter isNumber numOf digitAt isFraction fractionOf sizeOf levelOf isTimeLength twoAt timeShaped timeRanged isTime isFieldText startsTag leading tagOf valueFrom valueLen fieldOf fieldsAfter fieldsFrom stepOf findTag valueOf hasTag repeats cleanFields lastTagOr headedBy ordered headerRight partOf endOf tenAt lengthTrue sumOf checkSum sumTrue garbledMessage bodyPart headOf frameOf bodyOf saidIn lengthIn hasIn refusalOf termsIn requestIn completed agreed bodyAsked headAsked askedOf kindOf oneOf belongs listed shapeOf charSays lookAs judge firstFailing firstMissing minimumClashes firstClashing openOf meets better faces sameOwner sumOver countOf choose best partner prevention meeting ending outcome preventing causes change happens workAfter after play run minimumOf wouldTrade misses decidedAfter mayMinimum opposed opposedTo stands behind nearer next levelAt onLevel share total orders depth played missesNow stepEvents stepWork numbered stepped entered bestOn ordersBytes levelsBytes totalsBytes bestRow bookRow bestDue entries entryOf isListed modeOf mpidBytes every isPadded isText hasLength hasNames isEntry hasList hasSettings hasNext hasStamp hasWork hasSpare restZero isCapacity isClass isRecord isRanged isKnown isWithin isShut isPriced isOrder hasOrders isFreshId hasIds isFresh areFresh hasOrderIds hasPlaces isDone noIoc isClear noCross hasNumbers isBook hasDecision hasBest isMarket isName isNew isGiven areGiven areNames areSettings namedTable freshTable isOpening opened orderAt filled ordersFrom bookOf firstRecord recordWith recordFor termBytes amountBytes tailBytes fieldBytes recordOf applied accepted holder newStands newTaken submitted joined eventReport eventReports stepReports worked ran tableAfter reportsAfter recordBy openBy
 computes = 0
 
 tells : ℕ

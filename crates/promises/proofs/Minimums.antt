@@ -29,7 +29,7 @@ use Rattle.calls.specs.Told.{joined, roomAsked}
 use Rattle.calls.specs.Run.{stepReports, stops, worked, ran}
 use Rattle.turns.proofs.Stepping.{step-book, step-work, step-modes, step-decided}
 use Rattle.turns.proofs.Taking.{goes-busy}
-use Rattle.promises.specs.History.{Call, Submit, Run, Depth, Read, tableAfter, reportsAfter, noSubmit}
+use Rattle.promises.specs.History.{Call, Submit, Run, Depth, Top, Read, tableAfter, reportsAfter, noSubmit}
 use Rattle.promises.specs.Shown.{ReportsOf}
 use Rattle.promises.specs.Minimums.{CanceledWhole, Reached}
 use Rattle.promises.proofs.Agreeing.{step-reports, reports-same, reports-append}
@@ -137,6 +137,7 @@ after-steps (Run room budget ∷ cs) t m h =
     steps-then t (ran t room budget .table) _ (ran t room budget .reports) _ (ran-steps t room budget m)
     (after-steps cs (ran t room budget .table) (call-keeps t (Run room budget) m) h)
 after-steps (Depth side k ∷ cs) t m h = after-steps cs t m h
+after-steps (Top side ∷ cs) t m h = after-steps cs t m h
 after-steps (Read report ∷ cs) t m h = after-steps cs t m h
 
 -- ---- the order in work, open and not decided yet, once its work has ended

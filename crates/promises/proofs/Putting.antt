@@ -4,7 +4,7 @@ use mathlib.Core.List.{List, _∷_}
 use Prim.Native.Nat.{ℕ, _+_, _*_, _≤_, _<_}
 use native.Mathlib.Omega.{arith}
 use lib.Dec.{lit≤}
-use lib.ListN.{length}
+use lib.ListN.{length, replicate}
 use Rattle.octets.specs.Octets.{bytesOf, textBytes}
 use Rattle.octets.proofs.Places.{length-bytesOf}
 use Rattle.octets.proofs.Parts.{length-textBytes}
@@ -23,6 +23,7 @@ use Rattle.matching.proofs.Requests.{renews-renewed}
 use Rattle.table.specs.Places.{tableBytes}
 use Rattle.table.specs.Heading.{nextOf, workOf, decidedOf, isListed, putWork}
 use Rattle.table.specs.Orders.{orderAt, bookOf, recordFor, putId, putTerms, termBytes, withdrawn, replaced}
+use Rattle.table.specs.Best.{bookRow, putBest, clearBest}
 use Rattle.table.specs.Changes.{numbered, entered, renewed, taken}
 use Rattle.table.proofs.Same.{Same, same-in, put-below, put-above, work-same, decided-same}
 use Rattle.table.proofs.Stores.{work-got}
@@ -46,23 +47,34 @@ work-numbered : (t : List ℕ) (n : ℕ) → workOf (numbered t n) ≡ workOf t
 unfolding numbered
 work-numbered t n = work-same (put-above t 28 (bytesOf 4 (nextOf t + n)) 32 33 (omega (arith, length-bytesOf 4 (nextOf t + n))))
 
+work-told : (t : List ℕ) (n : ℕ) → workOf (putBest (numbered t n)) ≡ workOf t
+work-told t n = work-same (put-below (numbered t n) 97 (bookRow (numbered t n)) 32 33 (lit≤ tt)) ∙ work-numbered t n
+
 decided-numbered : (t : List ℕ) (n : ℕ) → decidedOf (numbered t n) ≡ decidedOf t
 unfolding numbered
 decided-numbered t n = decided-same (put-above t 28 (bytesOf 4 (nextOf t + n)) 96 97 (omega (arith, length-bytesOf 4 (nextOf t + n))))
 
-decided-working : (t : List ℕ) (n w : ℕ) (stamp : List ℕ) → length stamp ≤ 21 → decidedOf (putWork (numbered t n) w stamp) ≡ decidedOf t
-decided-working t n w stamp h =
-    decided-same (put-above (numbered t n) 32 (w ∷ textBytes 21 stamp) 96 97 (omega (arith, length-textBytes 21 stamp h))) ∙ decided-numbered t n
+-- an order is in work, and there are no best levels
+cleared-below : (t : List ℕ) → Same (clearBest t) t 0 97
+cleared-below t = put-below t 97 (replicate 31 0) 0 97 (lit≤ tt)
 
-work-working : (t : List ℕ) (n w : ℕ) (stamp : List ℕ) → length t ≡ tableBytes → length stamp ≤ 21 → workOf (putWork (numbered t n) w stamp) ≡ w
-work-working t n w stamp long h = work-got (numbered t n) w stamp (omega (arith, long-numbered t n long)) h
+decided-working : (t : List ℕ) (n w : ℕ) (stamp : List ℕ) → length stamp ≤ 21 → decidedOf (clearBest (putWork (numbered t n) w stamp)) ≡ decidedOf t
+decided-working t n w stamp h =
+    decided-same (same-in 96 97 (cleared-below (putWork (numbered t n) w stamp)) (lit≤ tt) (lit≤ tt))
+    ∙ decided-same (put-above (numbered t n) 32 (w ∷ textBytes 21 stamp) 96 97 (omega (arith, length-textBytes 21 stamp h))) ∙ decided-numbered t n
+
+work-working : (t : List ℕ) (n w : ℕ) (stamp : List ℕ) → length t ≡ tableBytes → length stamp ≤ 21
+    → workOf (clearBest (putWork (numbered t n) w stamp)) ≡ w
+work-working t n w stamp long h =
+    work-same (same-in 32 33 (cleared-below (putWork (numbered t n) w stamp)) (lit≤ tt) (lit≤ tt))
+    ∙ work-got (numbered t n) w stamp (omega (arith, long-numbered t n long)) h
 
 -- an order o, number w of the book of u, is put in work
 put-working : (t u : List ℕ) (w : ℕ) (stamp : List ℕ) (o : Order) → decidedOf t ≡ 0 → Same u t 0 128 → length u ≡ tableBytes → length stamp ≤ 21
-    → at (bookOf u) w ≡ o → 0 < openOf o → Put (putWork (numbered u 1) w stamp)
+    → at (bookOf u) w ≡ o → 0 < openOf o → Put (clearBest (putWork (numbered u 1) w stamp))
 put-working t u w stamp o d s long h e p =
     let x = work-working u 1 w stamp long h in
-    let b : bookOf (putWork (numbered u 1) w stamp) ≡ bookOf u = book-working u 1 w stamp long h in
+    let b : bookOf (clearBest (putWork (numbered u 1) w stamp)) ≡ bookOf u = book-working u 1 w stamp long h in
     undecided (rw (b, x, e) p) (decided-working u 1 w stamp h ∙ decided-same (same-in 96 97 s (lit≤ tt) (lit≤ tt)) ∙ d)
 
 -- ---- each request
@@ -121,7 +133,7 @@ module _ (t message : List ℕ) where
   cancel-put o Stands e a =
       let i = cancel-in t message o a (holder t (textOf message (o .original))) refl e in
       nothing
-      (work-numbered _ 1 ∙ work-same (put-below _ _ _ 32 33 (omega (arith, i .low))) ∙ work-same (put-below t _ _ 32 33 (omega (arith, i .low))) ∙ a .idle)
+      (work-told _ 1 ∙ work-same (put-below _ _ _ 32 33 (omega (arith, i .low))) ∙ work-same (put-below t _ _ 32 33 (omega (arith, i .low))) ∙ a .idle)
 
   handled-put : (x : Asked) → Asking t message x → Put (handled t message x .table)
   unfolding faulted rejecting

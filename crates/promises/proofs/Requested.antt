@@ -7,7 +7,7 @@ use mathlib.Core.Logic.{_≢_}
 use Prim.Native.Nat.{ℕ, _+_, _≤_}
 use native.Mathlib.Omega.{arith}
 use lib.Dec.{lit≤}
-use lib.ListN.{length}
+use lib.ListN.{length, replicate}
 use Rattle.octets.proofs.Places.{length-put}
 use Rattle.matching.specs.declared.Order.{Order}
 use Rattle.matching.specs.declared.Event.the-variants.{Accepted, Replaced, Withdrawn}
@@ -16,16 +16,18 @@ use Rattle.matching.specs.Held.{In, Ready, Enters, Renews}
 use Rattle.table.specs.Places.{tableBytes, recordAt}
 use Rattle.table.specs.Heading.{nextOf, isListed, putWork}
 use Rattle.table.specs.Orders.{orderIdAt, orderAt, filled, bookOf, putId, putTerms, applied, withdrawn, replaced, accepted}
+use Rattle.table.specs.Best.{bookRow, putBest, clearBest}
 use Rattle.table.specs.Market.{every, isPrintable, isCapacity, isClass}
 use Rattle.table.specs.Facts.{Market, Named}
 use Rattle.table.specs.Changes.{numbered}
 use Rattle.table.proofs.Stores.{Terms, accepted-order-id}
 use Rattle.table.proofs.Books.{length-book, at-book}
 use Rattle.table.proofs.Frames.{Formed, market-formed, framed-long}
-use Rattle.table.proofs.Applied.{book-applied, framed-applied, book-terms, framed-terms, book-next, book-work}
+use Rattle.table.proofs.Applied.{book-applied, framed-applied, book-terms, framed-terms, book-next, book-work, book-best}
+use Rattle.table.proofs.Bests.{length-book-row}
 use Rattle.table.proofs.Naming.{named-formed, named-book, named-order, named-filled}
 use Rattle.table.proofs.Kept.{renewed-terms, new-formed, new-book}
-use Rattle.table.proofs.OrderIds.{numbered-order-id, worked-order-id, accepted-others}
+use Rattle.table.proofs.OrderIds.{numbered-order-id, worked-order-id, told-order-id, cleared-order-id, accepted-others}
 
 -- ---- the heading changes, the book does not
 pub long-numbered : (t : List ℕ) (n : ℕ) → length t ≡ tableBytes → length (numbered t n) ≡ tableBytes
@@ -36,13 +38,29 @@ pub book-numbered : (t : List ℕ) (n : ℕ) → length t ≡ tableBytes → boo
 unfolding numbered
 book-numbered t n h = book-next t _ h
 
+-- with an order in work, and no best levels
+long-working : (t : List ℕ) (n w : ℕ) (stamp : List ℕ) → length t ≡ tableBytes → length (putWork (numbered t n) w stamp) ≡ tableBytes
+long-working t n w stamp h = length-put (numbered t n) _ _ ∙ long-numbered t n h
+
 pub book-working : (t : List ℕ) (n w : ℕ) (stamp : List ℕ) → length t ≡ tableBytes → length stamp ≤ 21
-    → bookOf (putWork (numbered t n) w stamp) ≡ bookOf t
-book-working t n w stamp h short = book-work (numbered t n) w stamp (long-numbered t n h) short ∙ book-numbered t n h
+    → bookOf (clearBest (putWork (numbered t n) w stamp)) ≡ bookOf t
+book-working t n w stamp h short =
+    book-best (putWork (numbered t n) w stamp) (replicate 31 0) (long-working t n w stamp h) (lit≤ tt)
+    ∙ book-work (numbered t n) w stamp (long-numbered t n h) short ∙ book-numbered t n h
+
+-- with the best levels
+pub book-told : (t : List ℕ) (n : ℕ) → length t ≡ tableBytes → bookOf (putBest (numbered t n)) ≡ bookOf t
+book-told t n h =
+    book-best (numbered t n) (bookRow (numbered t n)) (long-numbered t n h) (omega (arith, length-book-row (numbered t n))) ∙ book-numbered t n h
 
 -- nor does any OrderID
-pub ids-working : (t : List ℕ) (n w : ℕ) (stamp : List ℕ) → length stamp ≤ 21 → (i : ℕ) → orderIdAt (putWork (numbered t n) w stamp) i ≡ orderIdAt t i
-ids-working t n w stamp short i = worked-order-id (numbered t n) i w stamp short ∙ numbered-order-id t i n
+pub ids-working : (t : List ℕ) (n w : ℕ) (stamp : List ℕ) → length stamp ≤ 21
+    → (i : ℕ) → orderIdAt (clearBest (putWork (numbered t n) w stamp)) i ≡ orderIdAt t i
+ids-working t n w stamp short i =
+    cleared-order-id (putWork (numbered t n) w stamp) i ∙ worked-order-id (numbered t n) i w stamp short ∙ numbered-order-id t i n
+
+pub ids-told : (t : List ℕ) (n : ℕ) (i : ℕ) → orderIdAt (putBest (numbered t n)) i ≡ orderIdAt t i
+ids-told t n i = told-order-id (numbered t n) i ∙ numbered-order-id t i n
 
 -- ---- a new order, with the next number as its OrderID
 module _ (t : List ℕ) (k : ℕ) (clOrdId account : List ℕ) (capacity class : ℕ) (o : Order) (m : Market t) (g : Named t clOrdId) (few : length account ≤ 10)

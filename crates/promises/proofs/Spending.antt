@@ -24,7 +24,7 @@ use Rattle.calls.specs.Told.{joined, roomAsked}
 use Rattle.calls.specs.Run.{stepReports, stops, worked, ran, runSteps}
 use Rattle.turns.proofs.Stepping.{in-work, step-book, step-work}
 use Rattle.turns.proofs.Taking.{goes-busy}
-use Rattle.promises.specs.History.{Call, Submit, Run, Depth, Read, tableAfter, stepsAfter, noSubmit}
+use Rattle.promises.specs.History.{Call, Submit, Run, Depth, Top, Read, tableAfter, stepsAfter, noSubmit}
 use Rattle.promises.proofs.Histories.{call-keeps}
 
 -- the steps that order w of book b can still take: none if nothing is in work
@@ -75,6 +75,7 @@ after-less (Submit message room ∷ cs) t m h = absurd (not-both h refl)
 after-less (Run room budget ∷ cs) t m h =
     omega (arith, ran-less t room budget m, after-less cs (ran t room budget .table) (call-keeps t (Run room budget) m) h)
 after-less (Depth side k ∷ cs) t m h = omega (arith, after-less cs t m h)
+after-less (Top side ∷ cs) t m h = omega (arith, after-less cs t m h)
 after-less (Read report ∷ cs) t m h = omega (arith, after-less cs t m h)
 
 still-most : (b : Book) (w : ℕ) → still b w ≤ metBy b w + 1

@@ -32,7 +32,7 @@ use Rattle.intake.proofs.Keeping.{Comes, no-room, no-market, in-work, spent, he
 use Rattle.intake.proofs.Counting.{Counted, handled-counted}
 use Rattle.promises.proofs.Leads.{Leads, leads-still, isSilent, leads-silent}
 use Rattle.promises.proofs.Playing.{TellsOn}
-use Rattle.promises.proofs.Requested.{book-numbered, book-working, ids-working, long-accepted, book-accepted, id-accepted, ids-others, long-withdrawn, book-withdrawn, long-replaced, book-replaced}
+use Rattle.promises.proofs.Requested.{book-numbered, book-working, book-told, ids-working, ids-told, long-accepted, book-accepted, id-accepted, ids-others, long-withdrawn, book-withdrawn, long-replaced, book-replaced}
 use Rattle.promises.proofs.Asked.{changed-leads, new-order-leads}
 
 -- ---- what is asked of the reports of Submit
@@ -138,8 +138,8 @@ module _ (told : Told) (t message : List ℕ) where
       let z : openOf (orderAt t k) ≡ openOf (at (bookOf t) k) = ap (λ (x : Order). openOf x) (sym (cancel-at t message o a k refl e)) in
       changed-leads t _ _ (Withdrawn k (openOf (orderAt t k))) _ (a .market) i z refl
       (book-withdrawn t k _ (a .market) i g _ z)
-      (book-numbered _ 1 (long-withdrawn t k _ (a .market) i g _ z))
-      (λ i. withdrawn-order-id t i _ _ (g .short)) (λ i. numbered-order-id _ i 1) (omega (arith, c .next-is)) (told .cancel t message o a e) refl
+      (book-told _ 1 (long-withdrawn t k _ (a .market) i g _ z))
+      (λ i. withdrawn-order-id t i _ _ (g .short)) (ids-told _ 1) (omega (arith, c .next-is)) (told .cancel t message o a e) refl
 
   handled-leads : (x : Asked) → Asking t message x → Counted t (handled t message x) → LeadsTo t (handled t message x)
   handled-leads Garbled a c = leads-still t

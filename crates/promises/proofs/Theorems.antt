@@ -21,6 +21,8 @@ use Rattle.calls.specs.Submit.{submitted}
 use Rattle.calls.specs.Run.{ran, runSteps}
 use Rattle.market.specs.declared.DepthAnswer.the-variants as depth-answer
 use Rattle.market.specs.Depth.{depthAnswer}
+use Rattle.market.specs.Top.{topAnswer}
+use Rattle.market.proofs.Theorems.{top-tells-depth}
 use Rattle.intake.proofs.Theorems.{submit-keeps}
 use Rattle.promises.specs.History.{Call, tableAfter, reportsAfter, stepsAfter, noSubmit}
 use Rattle.promises.specs.Tallies.{blank, accountOf, bought, sold, selfTrades, unread}
@@ -54,6 +56,11 @@ module _ (before venue port code : List ℕ) (first : ℕ) (mpids modes : List �
 
   pub depth-finds-a-market : (side k : ℕ) → depthAnswer table side k ≢ depth-answer.NoMarket
   depth-finds-a-market = depth-found table a-market
+
+  -- ---- the best level that the heading keeps: Top answers what Depth answers for k = 0, of any side, refusals and "no such level"
+  -- included
+  pub top-is-depth : (side : ℕ) → topAnswer table side ≡ depthAnswer table side 0
+  top-is-depth side = top-tells-depth table side a-market
 
   -- ---- each order, by the reports that name its OrderID in 37: any number at all, so those of orders that are gone too
 

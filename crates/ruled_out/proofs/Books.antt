@@ -1,6 +1,6 @@
 -- The tables that definitions are run on: a market just opened (venue V, port P, code 350, first number 1, MPIDs 10 to 14); book R
--- with a buy in work, A being MPID 10 and having this mode, all others mode 1; a table of 255 records, and one whose record 1 an order
--- has left.
+-- with a buy in work, A being MPID 10 and having this mode, all others mode 1; book R with a buy that rests, and five large buys; a
+-- table of 255 records, and one whose record 1 an order has left.
 use mathlib.Core.List.{List, [], _∷_, _++_}
 use Prim.Native.Nat.{ℕ, zero, suc}
 use lib.ListN.{set, take}
@@ -8,23 +8,25 @@ use Rattle.matching.specs.declared.Order.{Order}
 use Rattle.matching.specs.Rehearsed.{yield, sell, buy, buyAtLeast, buyFOK}
 use Rattle.table.specs.Heading.{putWork, putNext}
 use Rattle.table.specs.Orders.{recordOf, accepted}
+use Rattle.table.specs.Best.{putBest}
 use Rattle.table.specs.Opened.{freshTable}
 use Rattle.octets.specs.Characters.{message}
 
 abbrev pub fresh : ℕ → List ℕ
 fresh mode = freshTable (message "V") (message "P") (message "350") 1 (10 ∷ 11 ∷ 12 ∷ 13 ∷ 14 ∷ []) (mode ∷ 1 ∷ 1 ∷ 1 ∷ 1 ∷ [])
 
--- sells of 100 at 0.101 (MPID 11), and at 0.100 of 200 (12), 200 (A) and 500 (13); then o is accepted
-abbrev with : ℕ → Order → List ℕ
-with mode o =
-    putWork (putNext
-    (accepted (accepted (accepted (accepted (accepted (fresh mode)
+-- sells of 100 at 0.101 (MPID 11), and at 0.100 of 200 (12), 200 (A) and 500 (13)
+abbrev sells : ℕ → List ℕ
+sells mode =
+    accepted (accepted (accepted (accepted (fresh mode)
     1 1 (message "a") [] 65 1 (sell 100 (yield 101) 1 11))
     2 2 (message "b") [] 65 1 (sell 200 (yield 100) 2 12))
     3 3 (message "c") [] 65 1 (sell 200 (yield 100) 3 10))
-    4 4 (message "d") [] 65 1 (sell 500 (yield 100) 4 13))
-    5 5 (message "e") [] 65 1 o)
-    6) 5 (message "20260105-09:00:00")
+    4 4 (message "d") [] 65 1 (sell 500 (yield 100) 4 13)
+
+-- then o is accepted and in work
+abbrev with : ℕ → Order → List ℕ
+with mode o = putWork (putNext (accepted (sells mode) 5 5 (message "e") [] 65 1 o) 6) 5 (message "20260105-09:00:00")
 
 -- A buys 1,200 at 0.100, a Day order
 abbrev pub bookR : ℕ → List ℕ
@@ -41,6 +43,27 @@ bookLeast mode least = with mode (buyAtLeast least 1200 (yield 100) 5 10)
 -- MPID 14 buys 1,200 at 0.100, Fill or Kill
 abbrev pub bookKill : List ℕ
 bookKill = with 1 (buyFOK 1200 (yield 100) 5 14)
+
+-- ---- tables with nothing in work
+
+-- the four sells, and a buy of 300 at 0.102 by MPID 14
+abbrev pub rested : List ℕ
+rested = putBest (putNext (accepted (sells 1) 5 5 (message "e") [] 65 1 (buy 300 (yield 102) 5 14)) 6)
+
+-- five buys of 999,999,999 at 0.100
+abbrev large : ℕ → Order
+large place = buy 999999999 (yield 100) place 10
+
+abbrev pub largest : List ℕ
+largest =
+    putBest (putNext
+    (accepted (accepted (accepted (accepted (accepted (fresh 1)
+    1 1 (message "a") [] 65 1 (large 1))
+    2 2 (message "b") [] 65 1 (large 2))
+    3 3 (message "c") [] 65 1 (large 3))
+    4 4 (message "d") [] 65 1 (large 4))
+    5 5 (message "e") [] 65 1 (large 5))
+    6)
 
 -- ---- records that a new order may take
 

@@ -9,17 +9,19 @@ use Rattle.octets.specs.Octets.{leAt, bytesOf, put, partAt, textAt, textBytes, 
 use Rattle.octets.specs.Tests.{allUpTo, firstFrom}
 use Rattle.decimal.specs.Reading.{isDigit, digitOf, isTime, isTimeLength, timeShaped, timeRanged, twoAt}
 use Rattle.matching.specs.Matching.{openOf, meets, opposed, opposedTo, countOf, sumOver, minimumOf}
+use Rattle.matching.specs.Depth.{stands, behind, nearer, next, levelAt, onLevel, share, total, orders, depth}
 use Rattle.matching.specs.Held.{mayMinimum}
 use Rattle.table.specs.Heading.{entries, entryOf, isListed, modeOf, mpidBytes, putNext, putDecided, endWork}
 use Rattle.table.specs.Orders.{orderAt, filled, ordersFrom, bookOf, termBytes, amountBytes, tailBytes, fieldBytes, recordOf, accepted}
-use Rattle.table.specs.Market.{every, isPadded, isText, hasLength, hasNames, isEntry, hasList, hasSettings, hasNext, hasWork, hasSpare, restZero, isCapacity, isClass, isRecord, isRanged, isKnown, isWithin, isShut, isPriced, isOrder, hasOrders, isFreshId, hasIds, isFresh, areFresh, hasOrderIds, hasPlaces, isDone, noIoc, isClear, noCross, hasNumbers, isBook, hasDecision, isMarket}
+use Rattle.table.specs.Market.{every, isPadded, isText, hasLength, hasNames, isEntry, hasList, hasSettings, hasNext, hasStamp, hasWork, hasSpare, restZero, isCapacity, isClass, isRecord, isRanged, isKnown, isWithin, isShut, isPriced, isOrder, hasOrders, isFreshId, hasIds, isFresh, areFresh, hasOrderIds, hasPlaces, isDone, noIoc, isClear, noCross, hasNumbers, isBook, hasDecision, hasBest, isMarket}
+use Rattle.table.specs.Best.{bestOn, ordersBytes, levelsBytes, totalsBytes, bestRow, bookRow, bestDue, putBest, clearBest}
 use Rattle.table.specs.Opened.{namedTable, freshTable}
 use Rattle.octets.specs.Characters.{message}
-use Rattle.ruled_out.proofs.Books.{fresh, bookR, mixed, bookLeast, bookKill}
+use Rattle.ruled_out.proofs.Books.{fresh, bookR, mixed, bookLeast, bookKill, rested, largest}
 
 -- opens all definitions
 computes : ℕ
-unfolding leAt bytesOf put partAt textAt textBytes sameBytes allZero allUpTo firstFrom isDigit digitOf isTime isTimeLength timeShaped timeRanged twoAt openOf meets opposed opposedTo countOf sumOver minimumOf mayMinimum entries entryOf isListed modeOf mpidBytes orderAt filled ordersFrom bookOf termBytes amountBytes tailBytes fieldBytes recordOf accepted every isPadded isText hasLength hasNames isEntry hasList hasSettings hasNext hasWork hasSpare restZero isCapacity isClass isRecord isRanged isKnown isWithin isShut isPriced isOrder hasOrders isFreshId hasIds isFresh areFresh hasOrderIds hasPlaces isDone noIoc isClear noCross hasNumbers isBook hasDecision isMarket namedTable freshTable
+unfolding leAt bytesOf put partAt textAt textBytes sameBytes allZero allUpTo firstFrom isDigit digitOf isTime isTimeLength timeShaped timeRanged twoAt openOf meets opposed opposedTo countOf sumOver minimumOf mayMinimum stands behind nearer next levelAt onLevel share total orders depth entries entryOf isListed modeOf mpidBytes orderAt filled ordersFrom bookOf termBytes amountBytes tailBytes fieldBytes recordOf accepted every isPadded isText hasLength hasNames isEntry hasList hasSettings hasNext hasStamp hasWork hasSpare restZero isCapacity isClass isRecord isRanged isKnown isWithin isShut isPriced isOrder hasOrders isFreshId hasIds isFresh areFresh hasOrderIds hasPlaces isDone noIoc isClear noCross hasNumbers isBook hasDecision hasBest isMarket bestOn ordersBytes levelsBytes totalsBytes bestRow bookRow bestDue namedTable freshTable
 computes = 0
 
 -- a table just opened, and book R's
@@ -48,8 +50,7 @@ mode-four : isMarket (set (bookR 1) 88 4) ≡ false
 unfolding computes
 mode-four = refl
 
--- ---- the heading: a next number of 0, an order in work that is none, a 52 without one, a 52 that is no time, the first and the last
--- unused byte
+-- ---- the heading: a next number of 0, an order in work that is none, a 52 without one, a 52 that is no time, the unused byte
 next-zero : isMarket (set (bookR 1) 28 0) ≡ false
 unfolding computes
 next-zero = refl
@@ -66,11 +67,7 @@ stamp-wrong : isMarket (set (bookR 1) 38 57) ≡ false
 unfolding computes
 stamp-wrong = refl
 
-heading-rest : isMarket (set (bookR 1) 97 1) ≡ false
-unfolding computes
-heading-rest = refl
-
-heading-unused : isMarket (set (bookR 1) 127 1) ≡ false
+heading-unused : isMarket (set (bookR 1) 55 1) ≡ false
 unfolding computes
 heading-unused = refl
 
@@ -129,7 +126,7 @@ ioc-resting : isMarket (set (bookR 1) 173 3) ≡ false
 unfolding computes
 ioc-resting = refl
 
-crossed : isMarket (endWork (bookR 1)) ≡ false
+crossed : isMarket (putBest (endWork (bookR 1))) ≡ false
 unfolding computes
 crossed = refl
 
@@ -209,3 +206,54 @@ decided-none = refl
 decision-two : isMarket (set (bookLeast 3 800) 96 2) ≡ false
 unfolding computes
 decision-two = refl
+
+-- ---- the best levels: those of the book while nothing is in work, a total of any size
+rested-is : isMarket rested ≡ true
+unfolding computes
+rested-is = refl
+
+largest-is : isMarket largest ≡ true
+unfolding computes
+largest-is = refl
+
+-- a total that is one less, one sell too many, a level of the other side, a total kept in 32 bits, unused bytes among them, none told
+best-total : isMarket (set rested 120 99) ≡ false
+unfolding computes
+best-total = refl
+
+best-orders : isMarket (set rested 98 2) ≡ false
+unfolding computes
+best-orders = refl
+
+best-level : isMarket (set rested 104 102) ≡ false
+unfolding computes
+best-level = refl
+
+best-short : isMarket (set largest 116 0) ≡ false
+unfolding computes
+best-short = refl
+
+best-unused : isMarket (set rested 99 1) ≡ false
+unfolding computes
+best-unused = refl
+
+best-between : isMarket (set rested 111 1) ≡ false
+unfolding computes
+best-between = refl
+
+best-none : isMarket (clearBest rested) ≡ false
+unfolding computes
+best-none = refl
+
+-- zeros while an order is in work: all of them told, one number of orders, the last byte
+busy-told : isMarket (putBest (bookR 1)) ≡ false
+unfolding computes
+busy-told = refl
+
+busy-orders : isMarket (set (bookR 1) 97 1) ≡ false
+unfolding computes
+busy-orders = refl
+
+busy-last : isMarket (set (bookR 1) 127 1) ≡ false
+unfolding computes
+busy-last = refl

@@ -24,7 +24,7 @@ use Rattle.table.specs.Changes.{played}
 use Rattle.table.proofs.Same.{Same, same-then, put-below, filled-few, book-same}
 use Rattle.table.proofs.Stores.{Amounts, Terms, length-amounts, length-terms, amounts-got, terms-got}
 use Rattle.table.proofs.Books.{length-book, at-book, book-changed}
-use Rattle.table.proofs.Frames.{Framed, framed-self, framed-long, framed-filled, framed-put, framed-heading, framed-decided, framed-then, order-elsewhere, order-below}
+use Rattle.table.proofs.Frames.{Framed, framed-self, framed-long, framed-filled, framed-put, framed-heading, framed-decided, framed-best, framed-then, order-elsewhere, order-below}
 
 -- ---- the heading
 
@@ -44,6 +44,11 @@ pub book-decided : (t : List ℕ) (d : ℕ) → length t ≡ tableBytes → book
 book-decided t d long =
     book-same (putDecided t d) t (framed-filled t (putDecided t d) long (framed-decided t d))
     (λ k i j. order-below t 96 (d ∷ []) k i (lit≤ tt))
+
+pub book-best : (t vs : List ℕ) → length t ≡ tableBytes → length vs ≤ 31 → bookOf (put t 97 vs) ≡ bookOf t
+book-best t vs long h =
+    book-same (put t 97 vs) t (framed-filled t (put t 97 vs) long (framed-best t vs h))
+    (λ k i j. order-below t 97 vs k i (omega arith))
 
 -- ---- amounts and terms of a filled record
 

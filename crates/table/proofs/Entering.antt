@@ -197,7 +197,7 @@ module _ (t : List ℕ) (k orderId : ℕ) (clOrdId account : List ℕ) (capacity
       record {
         long = s .size ∙ f .long;
         settings = settings-same (same-in 0 28 s (lit≤ tt) (lit≤ tt)) (same-in 56 96 s (lit≤ tt) (lit≤ tt)) ∙ f .settings;
-        spare = spare-same (same-in 55 56 s (lit≤ tt) (lit≤ tt)) (same-in 97 128 s (lit≤ tt) (lit≤ tt)) ∙ f .spare;
+        spare = spare-same (same-in 55 56 s (lit≤ tt) (lit≤ tt)) ∙ f .spare;
         rest = rest;
         records = λ i l h. entered-record i l (rw e at h);
         ids = λ i j l h m. entered-ids i j l h (rw e at m);

@@ -284,23 +284,24 @@ module _ (t : List ℕ) where
   pub market-facts : isMarket t ≡ true → Market t
   unfolding isMarket hasLength hasNext hasOrders
   market-facts h =
-      let n : hasNext t ≡ true = search (both-l, both-r) depth 12 in
-      let w : hasWork t ≡ true = search (both-l, both-r) depth 12 in
-      let o : hasOrders t ≡ true = search (both-l, both-r) depth 12 in
-      let b : isBook (bookOf t) (workOf t) (nextOf t) ≡ true = search (both-l, both-r) depth 12 in
+      let n : hasNext t ≡ true = search (both-l, both-r) depth 13 in
+      let w : hasWork t ≡ true = search (both-l, both-r) depth 13 in
+      let o : hasOrders t ≡ true = search (both-l, both-r) depth 13 in
+      let b : isBook (bookOf t) (workOf t) (nextOf t) ≡ true = search (both-l, both-r) depth 13 in
       let is : (i : ℕ) → 1 ≤ i → i ≤ filled t → isOrder t i ≡ true = record-at (isOrder t) (filled t) o in
       record {
-        long = eqb-true _ _ (search both-l depth 13);
-        settings = search (both-l, both-r) depth 12;
+        long = eqb-true _ _ (search both-l depth 14);
+        settings = search (both-l, both-r) depth 13;
         next-low = leb-true _ _ (both-l _ (leb (nextOf t) 1000000000) n);
         work = w;
-        spare = search (both-l, both-r) depth 12;
-        rest = search (both-l, both-r) depth 12;
+        spare = search (both-l, both-r) depth 13;
+        rest = search (both-l, both-r) depth 13;
         records = λ i l m. order-record i (is i l m);
-        ids = id-facts (search (both-l, both-r) depth 12);
-        order-ids = order-id-facts (search (both-l, both-r) depth 12);
-        decision = search both-r;
+        ids = id-facts (search (both-l, both-r) depth 13);
+        order-ids = order-id-facts (search (both-l, both-r) depth 13);
+        decision = search (both-l, both-r) depth 13;
         held = book-facts n w is b;
+        best = search both-r;
       }
 
   -- and back
@@ -310,7 +311,7 @@ module _ (t : List ℕ) where
       let h = m .held in
       let size : length (bookOf t) ≡ filled t = length-book t in
       let in-book : (i : ℕ) → 1 ≤ i → i ≤ filled t → In (bookOf t) i = λ i l n. record { low = l; high = omega arith } in
-      both-i (both-i (both-i (both-i (both-i (both-i (both-i (both-i (both-i (both-i
+      both-i (both-i (both-i (both-i (both-i (both-i (both-i (both-i (both-i (both-i (both-i
       (eq-eqb _ _ (m .long)) (m .settings))
       (both-i (le-leb _ _ (m .next-low)) (le-leb _ _ (h .next-high)))) (m .work)) (m .spare)) (m .rest))
       (record-from (isOrder t) (filled t) (λ i l n.
@@ -320,4 +321,4 @@ module _ (t : List ℕ) where
       (facts-id (m .ids)))
       (facts-order-id (m .order-ids)))
       (facts-book h))
-      (m .decision)
+      (m .decision)) (m .best)

@@ -1,5 +1,5 @@
--- The frame of a table: all of it but the next number, what is in work, and the sides, terms and amounts of its filled
--- records. A table with a market's frame is a market once its book is held and its work is in order.
+-- The frame of a table: all of it but the next number, what is in work, the best levels, and the sides, terms and amounts of its
+-- filled records. A table with a market's frame is a market once its book is held, its work in order and its best levels are told.
 use mathlib.Core.Path.{_≡_, refl, sym, _∙_}
 use mathlib.Core.Bool.{true, false}
 use mathlib.Core.List.{List, [], _∷_}
@@ -16,7 +16,7 @@ use Rattle.matching.specs.Held.{Held}
 use Rattle.table.specs.Places.{tableBytes, recordAt}
 use Rattle.table.specs.Heading.{nextOf, workOf, decidedOf, isListed, putDecided}
 use Rattle.table.specs.Orders.{clOrdIdAt, orderIdAt, orderAt, isFree, filled, bookOf}
-use Rattle.table.specs.Market.{isText, hasSettings, hasWork, hasSpare, restZero, isRecord, hasDecision}
+use Rattle.table.specs.Market.{isText, hasSettings, hasWork, hasSpare, restZero, isRecord, hasDecision, hasBest}
 use Rattle.table.specs.Facts.{FreshNumbers, Market}
 use Rattle.octets.proofs.Searches.{first-before, first-is, first-holds}
 use Rattle.table.proofs.Same.{Same, same-in, same-then, put-below, put-above, order-same, record-parts, rest-same, id-same, order-id-same, settings-same, spare-same, listed-same, filled-few}
@@ -25,7 +25,6 @@ use Rattle.table.proofs.Fresh.{fresh-same}
 pub record Framed (t u : List ℕ) : Type 0 where
   pub names : Same u t 0 28
   pub lists : Same u t 55 96
-  pub unused : Same u t 97 128
   pub texts : (i : ℕ) → 1 ≤ i → i ≤ filled t → Same u t (recordAt i) (recordAt i + 44)
   pub kinds : (i : ℕ) → 1 ≤ i → i ≤ filled t → Same u t (recordAt i + 46) (recordAt i + 48)
   pub spares : (i : ℕ) → 1 ≤ i → i ≤ filled t → Same u t (recordAt i + 84) (recordAt i + 128)
@@ -44,7 +43,7 @@ pub market-formed : (t : List ℕ) → Market t → Formed t
 market-formed t m =
     record { long = m .long; settings = m .settings; spare = m .spare; rest = m .rest; records = m .records; ids = m .ids }
 
--- all that it asks but for the decision
+-- all that it asks but for the decision and the best levels
 pub record Unnoted (t : List ℕ) : Type 0 where
   pub formed : Formed t
   pub work : hasWork t ≡ true
@@ -52,8 +51,14 @@ pub record Unnoted (t : List ℕ) : Type 0 where
   pub order-ids : FreshNumbers (orderIdAt t) (nextOf t) (filled t)
   pub held : Held (isListed t) (nextOf t) (bookOf t) (workOf t)
 
-pub noted-market : (t : List ℕ) → Unnoted t → hasDecision (bookOf t) (workOf t) (decidedOf t) ≡ true → Market t
-noted-market t u d =
+-- and all but for the best levels
+pub record Untopped (t : List ℕ) : Type 0 where
+  pub unnoted : Unnoted t
+  pub decision : hasDecision (bookOf t) (workOf t) (decidedOf t) ≡ true
+
+pub topped-market : (t : List ℕ) → Untopped t → hasBest t ≡ true → Market t
+topped-market t v b =
+    let u = v .unnoted in
     record {
       long = u .formed .long;
       settings = u .formed .settings;
@@ -64,8 +69,9 @@ noted-market t u d =
       records = u .formed .records;
       ids = u .formed .ids;
       order-ids = u .order-ids;
-      decision = d;
+      decision = v .decision;
       held = u .held;
+      best = b;
     }
 
 -- ---- filled records
@@ -120,7 +126,7 @@ module _ (t u : List ℕ) (long : length t ≡ tableBytes) (f : Framed t u) wher
   framed-settings = settings-same (f .names) (same-in 56 96 (f .lists) (lit≤ tt) (lit≤ tt))
 
   pub framed-spare : hasSpare u ≡ hasSpare t
-  framed-spare = spare-same (same-in 55 56 (f .lists) (lit≤ tt) (lit≤ tt)) (f .unused)
+  framed-spare = spare-same (same-in 55 56 (f .lists) (lit≤ tt) (lit≤ tt))
 
   pub framed-listed : isListed u ≡ isListed t
   framed-listed = λ j m. listed-same (same-in 56 96 (f .lists) (lit≤ tt) (lit≤ tt)) m j
@@ -156,7 +162,7 @@ module _ (t u : List ℕ) (long : length t ≡ tableBytes) (f : Framed t u) wher
 pub framed-self : (t : List ℕ) → Framed t t
 framed-self t =
     let s : (p e : ℕ) → Same t t p e = λ p e. record { size = refl; byte = λ k l h. refl } in
-    record { names = s 0 28; lists = s 55 96; unused = s 97 128; texts = λ i l h. s _ _; kinds = λ i l h. s _ _; spares = λ i l h. s _ _; behind = s _ _ }
+    record { names = s 0 28; lists = s 55 96; texts = λ i l h. s _ _; kinds = λ i l h. s _ _; spares = λ i l h. s _ _; behind = s _ _ }
 
 pub framed-then : (t u v : List ℕ) → length t ≡ tableBytes → Framed t u → Framed u v → Framed t v
 framed-then t u v long f g =
@@ -165,7 +171,6 @@ framed-then t u v long f g =
     record {
       names = same-then (g .names) (f .names);
       lists = same-then (g .lists) (f .lists);
-      unused = same-then (g .unused) (f .unused);
       texts = λ i l h. same-then (g .texts i l (omega arith)) (f .texts i l h);
       kinds = λ i l h. same-then (g .kinds i l (omega arith)) (f .kinds i l h);
       spares = λ i l h. same-then (g .spares i l (omega arith)) (f .spares i l h);
@@ -179,7 +184,6 @@ framed-put t k a vs low high l h =
     record {
       names = put-below t p vs 0 28 (omega arith);
       lists = put-below t p vs 55 96 (omega arith);
-      unused = put-below t p vs 97 128 (omega arith);
       texts = λ i j m.
           ⊎-elim (λ (x : k < i). put-above t p vs (128 * i) (128 * i + 44) (omega arith))
           (λ (x : i ≤ k). put-below t p vs (128 * i) (128 * i + 44) (omega arith)) (below-or k i);
@@ -198,7 +202,6 @@ framed-heading t a vs l h =
     record {
       names = put-below t a vs 0 28 (omega arith);
       lists = put-above t a vs 55 96 (omega arith);
-      unused = put-above t a vs 97 128 (omega arith);
       texts = λ i j m. put-above t a vs (128 * i) (128 * i + 44) (omega arith);
       kinds = λ i j m. put-above t a vs (128 * i + 46) (128 * i + 48) (omega arith);
       spares = λ i j m. put-above t a vs (128 * i + 84) (128 * i + 128) (omega arith);
@@ -211,11 +214,22 @@ framed-decided t d =
     record {
       names = put-below t 96 (d ∷ []) 0 28 (lit≤ tt);
       lists = put-below t 96 (d ∷ []) 55 96 (lit≤ tt);
-      unused = put-above t 96 (d ∷ []) 97 128 (lit≤ tt);
       texts = λ i j m. put-above t 96 (d ∷ []) (128 * i) (128 * i + 44) (omega arith);
       kinds = λ i j m. put-above t 96 (d ∷ []) (128 * i + 46) (128 * i + 48) (omega arith);
       spares = λ i j m. put-above t 96 (d ∷ []) (128 * i + 84) (128 * i + 128) (omega arith);
       behind = put-above t 96 (d ∷ []) (128 * (filled t + 1)) (length t) (omega arith);
+    }
+
+-- a put of the best levels
+pub framed-best : (t vs : List ℕ) → length vs ≤ 31 → Framed t (put t 97 vs)
+framed-best t vs h =
+    record {
+      names = put-below t 97 vs 0 28 (lit≤ tt);
+      lists = put-below t 97 vs 55 96 (lit≤ tt);
+      texts = λ i j m. put-above t 97 vs (128 * i) (128 * i + 44) (omega arith);
+      kinds = λ i j m. put-above t 97 vs (128 * i + 46) (128 * i + 48) (omega arith);
+      spares = λ i j m. put-above t 97 vs (128 * i + 84) (128 * i + 128) (omega arith);
+      behind = put-above t 97 vs (128 * (filled t + 1)) (length t) (omega arith);
     }
 
 -- the orders of the other records, and all orders where the heading was put

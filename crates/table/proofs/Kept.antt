@@ -8,7 +8,7 @@ use native.Mathlib.Omega.{arith}
 use lib.Dec.{eqb, lit≤}
 use lib.ListN.{length}
 use borrow.Author.Tests.{eqb-true, eqb-false, leb-true, ltb-true}
-use Rattle.octets.specs.Octets.{bytesOf, textBytes}
+use Rattle.octets.specs.Octets.{bytesOf, put, textBytes}
 use Rattle.octets.specs.Tests.{allUpTo}
 use Rattle.octets.proofs.Bools.{split, both-l, both-r, or-r}
 use Rattle.octets.proofs.Ranges.{all-at}
@@ -31,17 +31,19 @@ use Rattle.matching.proofs.Requests.{later-held, takes-in, accepted-held, repla
 use Rattle.table.specs.Places.{tableBytes}
 use Rattle.table.specs.Heading.{nextOf, workOf, decidedOf, mpidAt, entries, entryOf, modeOf, isListed, putNext, putWork, putDecided}
 use Rattle.table.specs.Orders.{orderIdAt, orderAt, filled, bookOf, termBytes, putId, putTerms, putAmounts, applied, withdrawn, replaced, accepted}
-use Rattle.table.specs.Market.{every, isPrintable, isEntry, hasList, hasSettings, hasWork, isCapacity, isClass, hasDecision}
+use Rattle.table.specs.Best.{bestDue, bookRow, putBest, clearBest}
+use Rattle.table.specs.Market.{every, isPrintable, isEntry, hasList, hasSettings, hasWork, isCapacity, isClass, hasDecision, hasBest}
 use Rattle.table.specs.Facts.{FreshNumbers, Market, Named}
 use Rattle.table.specs.Changes.{played, missesNow, stepEvents, stepWork, numbered, stepped, entered, renewed, taken}
 use Rattle.octets.proofs.Searches.{first-holds}
 use Rattle.table.proofs.Same.{Same, same-in, same-then, put-below, put-above, next-same, work-same, decided-same}
 use Rattle.table.proofs.Stores.{Terms, Sized, next-got, work-got, decided-got}
 use Rattle.table.proofs.Books.{length-book, at-book}
-use Rattle.table.proofs.Frames.{Framed, framed-long, framed-filled, framed-listed, framed-order-ids, framed-self, framed-then, framed-heading, framed-decided, Formed, Unnoted, noted-market, market-formed, framed-formed}
-use Rattle.table.proofs.Applied.{Played, all-played, fits-move, heading-applied, framed-applied, book-applied, framed-terms, book-terms, book-next, book-work, book-decided, sound-amounts}
+use Rattle.table.proofs.Frames.{Framed, framed-long, framed-filled, framed-listed, framed-order-ids, framed-self, framed-then, framed-heading, framed-decided, framed-best, Formed, Unnoted, Untopped, topped-market, market-formed, framed-formed}
+use Rattle.table.proofs.Applied.{Played, all-played, fits-move, heading-applied, framed-applied, book-applied, framed-terms, book-terms, book-next, book-work, book-decided, book-best, sound-amounts}
 use Rattle.table.proofs.Naming.{named-formed, named-heading, named-order-ids, named-book, named-order, named-filled, named-listed}
 use Rattle.table.proofs.Entering.{entered-formed, entered-heading, entered-order-ids, entered-filled, entered-book, entered-listed}
+use Rattle.table.proofs.Bests.{length-due, due-idle, due-busy, has-best-put, has-best-same, has-best-busy}
 use Rattle.table.proofs.Working.{has-work-kept, has-work-put, has-work-none, undecided, idle-undecided, least-undecided, decided-after}
 
 -- ---- the next number
@@ -79,8 +81,8 @@ module _ (t u : List ℕ) (m : Formed t) (f : Framed t u) (w : hasWork u ≡ tru
       }
 
   -- with its decision as it was, where nothing is decided
-  pub renumbered-idle : decidedOf u ≡ 0 → Market (putNext u n)
-  renumbered-idle d = noted-market (putNext u n) renumbered (undecided _ _ _ (decided-next u n ∙ d))
+  pub renumbered-idle : decidedOf u ≡ 0 → Untopped (putNext u n)
+  renumbered-idle d = record { unnoted = renumbered; decision = undecided _ _ _ (decided-next u n ∙ d) }
 
 -- ---- the work ends
 
@@ -93,7 +95,7 @@ decided-work t w stamp h = decided-same (put-above t 32 (w ∷ textBytes 21 stam
 -- ---- the decision is noted
 
 module _ (t : List ℕ) (u : Unnoted t) (d : ℕ) (g : hasDecision (bookOf t) (workOf t) d ≡ true) where
-  pub noted-kept : Market (putDecided t d)
+  pub noted-kept : Untopped (putDecided t d)
   noted-kept =
       let v : List ℕ = putDecided t d in
       let long = u .formed .long in
@@ -104,15 +106,55 @@ module _ (t : List ℕ) (u : Unnoted t) (d : ℕ) (g : hasDecision (bookOf t) (w
       let b : bookOf v ≡ bookOf t = book-decided t d long in
       let n : decidedOf v ≡ d = decided-got t d (omega arith) in
       let z : filled v ≡ filled t = framed-filled t v long f in
-      noted-market v
+      record {
+        unnoted =
+            record {
+              formed = framed-formed t v long f (u .formed);
+              work = has-work-kept t v long s (omega arith) (u .work);
+              next-low = rw e (u .next-low);
+              order-ids = framed-order-ids t v long f (nextOf t) (nextOf v) (omega arith) (u .order-ids);
+              held = rw (e, x, b, framed-listed t v long f) (u .held);
+            };
+        decision = rw (b, x, n) g;
+      }
+
+-- ---- the best levels are told
+
+module _ (t : List ℕ) (u : Untopped t) where
+  told : Market (put t 97 (bestDue t))
+  told =
+      let vs : List ℕ = bestDue t in
+      let v : List ℕ = put t 97 vs in
+      let w = u .unnoted in
+      let long = w .formed .long in
+      let size = length-due t in
+      let f : Framed t v = framed-best t vs (omega arith) in
+      let s : Same v t 0 97 = put-below t 97 vs 0 97 (lit≤ tt) in
+      let e : nextOf v ≡ nextOf t = next-same (same-in 28 32 s (lit≤ tt) (lit≤ tt)) in
+      let x : workOf v ≡ workOf t = work-same (same-in 32 33 s (lit≤ tt) (lit≤ tt)) in
+      let d : decidedOf v ≡ decidedOf t = decided-same (same-in 96 97 s (lit≤ tt) (lit≤ tt)) in
+      let b : bookOf v ≡ bookOf t = book-best t vs long (omega arith) in
+      let z : filled v ≡ filled t = framed-filled t v long f in
+      topped-market v
       (record {
-        formed = framed-formed t v long f (u .formed);
-        work = has-work-kept t v long s (omega arith) (u .work);
-        next-low = rw e (u .next-low);
-        order-ids = framed-order-ids t v long f (nextOf t) (nextOf v) (omega arith) (u .order-ids);
-        held = rw (e, x, b, framed-listed t v long f) (u .held);
+        unnoted =
+            record {
+              formed = framed-formed t v long f (w .formed);
+              work = has-work-kept t v long (same-in 32 55 s (lit≤ tt) (lit≤ tt)) (omega arith) (w .work);
+              next-low = rw e (w .next-low);
+              order-ids = framed-order-ids t v long f (nextOf t) (nextOf v) (omega arith) (w .order-ids);
+              held = rw (e, x, b, framed-listed t v long f) (w .held);
+            };
+        decision = rw (b, x, d) (u .decision);
       })
-      (rw (b, x, n) g)
+      (has-best-put t long)
+
+  -- those of the book while nothing is in work, and none while an order is
+  pub put-best-kept : workOf t ≡ 0 → Market (putBest t)
+  put-best-kept e = subst (λ (vs : List ℕ). Market (put t 97 vs)) (due-idle t e) told
+
+  pub clear-best-kept : 1 ≤ workOf t → Market (clearBest t)
+  clear-best-kept l = subst (λ (vs : List ℕ). Market (put t 97 vs)) (due-busy t l) told
 
 -- the same, and with another order in work or none
 module _ (t u : List ℕ) (m : Formed t) (f : Framed t u) (n : ℕ) (low : 1 ≤ n) (ids : FreshNumbers (orderIdAt t) n (filled t))
@@ -140,10 +182,15 @@ module _ (t u : List ℕ) (m : Formed t) (f : Framed t u) (n : ℕ) (low : 1 ≤
       }
 
   -- with its decision as it was, where nothing is decided
-  pub reworked-idle : hasWork (putWork (putNext u n) w stamp) ≡ true → decidedOf u ≡ 0 → Market (putWork (putNext u n) w stamp)
+  reworked-idle : hasWork (putWork (putNext u n) w stamp) ≡ true → decidedOf u ≡ 0 → Untopped (putWork (putNext u n) w stamp)
   reworked-idle work d =
-      noted-market (putWork (putNext u n) w stamp) (reworked work)
-      (undecided _ _ _ (decided-work (putNext u n) w stamp short ∙ decided-next u n ∙ d))
+      record { unnoted = reworked work; decision = undecided _ _ _ (decided-work (putNext u n) w stamp short ∙ decided-next u n ∙ d) }
+
+  -- and with no best levels
+  pub reworked-cleared : hasWork (putWork (putNext u n) w stamp) ≡ true → decidedOf u ≡ 0 → 1 ≤ w → Market (clearBest (putWork (putNext u n) w stamp))
+  reworked-cleared work d l =
+      let z = numbered-long in
+      clear-best-kept (putWork (putNext u n) w stamp) (reworked-idle work d) (omega (arith, work-got (putNext u n) w stamp (omega arith) short))
 
 -- ---- one step
 
@@ -184,7 +231,9 @@ stepped-kept t m l =
     (λ x.
     let q : v ≡ 0 = eqb-true v 0 x in
     let r = reworked t u (market-formed t m) (p .framed) n low ids 0 [] (lit≤ tt) (subst (λ (k : ℕ). Held (isListed t) n (bookOf u) k) q h) (has-work-none (putNext u n) z) in
-    rw (x, e) (noted-kept (putWork (putNext u n) 0 []) r 0 (undecided _ _ 0 refl)))
+    let v1 : List ℕ = putWork (putNext u n) 0 [] in
+    let y1 : workOf (putDecided v1 0) ≡ 0 = work-same (put-below v1 96 (0 ∷ []) 32 33 (lit≤ tt)) ∙ work-got (putNext u n) 0 [] (omega arith) (lit≤ tt) in
+    rw (x, e) (put-best-kept (putDecided v1 0) (noted-kept v1 r 0 (undecided _ _ 0 refl)) y1))
     (λ x.
     let q : v ≡ w = work-stays d b w (eqb-false v 0 x) in
     let g : hasWork u ≡ true = has-work-kept t u (m .long) (same-in 32 55 (p .heading) (lit≤ tt) (lit≤ tt)) (omega (arith, framed-filled t u (m .long) (p .framed))) (m .work) in
@@ -192,7 +241,14 @@ stepped-kept t m l =
     let a : bookOf (putNext u n) ≡ bookAfter (modeOf t) d b w = book-next u n (framed-long t u (m .long) (p .framed)) ∙ c in
     let j : workOf (putNext u n) ≡ w = work-same (same-in 32 33 (work-next u n) (lit≤ tt) (lit≤ tt)) ∙ y in
     let o : minimumOf (at (bookAfter (modeOf t) d b w) w) ≡ minimumOf (at b w) = play-minimum w es b (happens-fits (modeOf t) d b w i) in
-    rw (x, e) (noted-kept (putNext u n) r (decidedAfter b w) (rw (a, j) (decided-after b (bookAfter (modeOf t) d b w) w o))))
+    let d1 : ℕ = decidedAfter b w in
+    let y1 : workOf (putDecided (putNext u n) d1) ≡ w = work-same (put-below (putNext u n) 96 (d1 ∷ []) 32 33 (lit≤ tt)) ∙ j in
+    let s1 : Same (putDecided (putNext u n) d1) t 97 128 =
+    same-then (put-above (putNext u n) 96 (d1 ∷ []) 97 128 (lit≤ tt))
+    (same-then (put-above u 28 (bytesOf 4 n) 97 128 (omega (arith, length-bytesOf 4 n))) (same-in 97 128 (p .heading) (lit≤ tt) (lit≤ tt))) in
+    rw (x, e)
+    (topped-market (putDecided (putNext u n) d1) (noted-kept (putNext u n) r d1 (rw (a, j) (decided-after b (bookAfter (modeOf t) d b w) w o)))
+    (has-best-busy t (putDecided (putNext u n) d1) s1 l (omega arith) (m .best))))
 
 -- ---- a report about no order
 
@@ -210,7 +266,12 @@ numbered-kept t n m e h =
     let held : Held (isListed t) (nextOf t) (bookOf t) 0 = rw e at (m .held) in
     let later : Held (isListed t) (nextOf t + n) (bookOf t) (workOf t) =
     rw e (later-held (isListed t) (nextOf t) (nextOf t + n) (bookOf t) held (omega arith) h) in
-    renumbered-idle t t (market-formed t m) (framed-self t) (m .work) (nextOf t + n) (omega (arith, m .next-low)) (later-order-ids t (nextOf t + n) m (omega arith)) later (idle-decided t m e)
+    let v : List ℕ = putNext t (nextOf t + n) in
+    let s : Same v t 97 128 = put-above t 28 (bytesOf 4 (nextOf t + n)) 97 128 (omega (arith, length-bytesOf 4 (nextOf t + n))) in
+    let w : workOf v ≡ workOf t = work-same (same-in 32 33 (work-next t (nextOf t + n)) (lit≤ tt) (lit≤ tt)) in
+    topped-market v
+    (renumbered-idle t t (market-formed t m) (framed-self t) (m .work) (nextOf t + n) (omega (arith, m .next-low)) (later-order-ids t (nextOf t + n) m (omega arith)) later (idle-decided t m e))
+    (has-best-same t v s w (book-next t (nextOf t + n) (m .long)) (m .best))
 
 -- ---- a replacement's terms are of their widths, whether it keeps its place or takes the one given
 
@@ -279,7 +340,8 @@ module _ (t : List ℕ) (k : ℕ) (clOrdId : List ℕ) (m : Market t) (e : workO
       rw (b, w, named-listed t k clOrdId (market-formed t m) (i .low) high g) (withdrawn-held (isListed t) (nextOf t) (bookOf t) k held i low) in
       let x : putAmounts t1 k (change v (orderAt t k)) ≡ u = rw order in
       let d : decidedOf u ≡ 0 = decided-same (same-in 96 97 (same-then s heading) (lit≤ tt) (lit≤ tt)) ∙ idle-decided t m e in
-      rw (x, n) (renumbered-idle t1 u formed f (idle u s z) (nextOf t + 1) (omega arith) order-ids h d)
+      let y : workOf (putNext u (nextOf t + 1)) ≡ 0 = work-same (same-in 32 33 (work-next u (nextOf t + 1)) (lit≤ tt) (lit≤ tt)) ∙ w in
+      rw (x, n) (put-best-kept (putNext u (nextOf t + 1)) (renumbered-idle t1 u formed f (idle u s z) (nextOf t + 1) (omega arith) order-ids h d) y)
 
   -- ---- a replacement
 
@@ -308,7 +370,7 @@ module _ (t : List ℕ) (k : ℕ) (clOrdId : List ℕ) (m : Market t) (e : workO
       ∙ framed-filled u x (framed-long t1 u long f) (framed-next u (nextOf t + 1))
       ∙ framed-filled t1 u long f ∙ filled-there in
       let d : decidedOf u ≡ 0 = decided-same (same-in 96 97 (same-then s heading) (lit≤ tt) (lit≤ tt)) ∙ idle-decided t m e in
-      rw n (reworked-idle t1 u formed f (nextOf t + 1) (omega arith) order-ids k stamp short h (has-work-put x k stamp longer (i .low) (omega (arith, high)) time) d)
+      rw n (reworked-cleared t1 u formed f (nextOf t + 1) (omega arith) order-ids k stamp short h (has-work-put x k stamp longer (i .low) (omega (arith, high)) time) d (i .low))
 
 -- ---- a new order
 
@@ -397,5 +459,5 @@ module _ (t : List ℕ) (k : ℕ) (clOrdId account : List ℕ) (capacity class :
       let low = takes-low (bookOf t) k (a .number) in
       let high = new-inside in
       rw n
-      (reworked-idle u u new-formed (framed-self u) (nextOf t + 1) (omega arith) new-order-ids k stamp short h
-      (has-work-put x k stamp longer low (omega arith) time) d)
+      (reworked-cleared u u new-formed (framed-self u) (nextOf t + 1) (omega arith) new-order-ids k stamp short h
+      (has-work-put x k stamp longer low (omega arith) time) d low)

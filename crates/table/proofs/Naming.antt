@@ -163,7 +163,7 @@ module _ (t : List ℕ) (k : ℕ) (xs : List ℕ) (f : Formed t) (low : 1 ≤ k)
       record {
         long = s .size ∙ f .long;
         settings = settings-same (same-in 0 28 s (lit≤ tt) (lit≤ tt)) (same-in 56 96 s (lit≤ tt) (lit≤ tt)) ∙ f .settings;
-        spare = spare-same (same-in 55 56 s (lit≤ tt) (lit≤ tt)) (same-in 97 128 s (lit≤ tt) (lit≤ tt)) ∙ f .spare;
+        spare = spare-same (same-in 55 56 s (lit≤ tt) (lit≤ tt)) ∙ f .spare;
         rest = rest;
         records = λ i l h. named-record i l (omega arith);
         ids = λ i j l h m. named-ids i j l h (omega arith);

@@ -30,6 +30,7 @@ use Rattle.table.proofs.Same.{Same, same-in, same-then, put-below, le-s
 use Rattle.table.proofs.Stores.{next-got}
 use Rattle.table.proofs.Texts.{is-text-put}
 use Rattle.table.proofs.Working.{none-work, undecided}
+use Rattle.table.proofs.Bests.{has-best-none}
 use Rattle.table.proofs.Frames.{filled-is}
 use Rattle.table.proofs.Settings.{name-some, name-every, venue-name, port-name, code-name, venue-short, port-short, code-short, settings-names, settings-low, settings-high, settings-given, given-some, given-few, given-same, given-each, given-low, given-high, mode-low, mode-high, given-new}
 use Rattle.table.proofs.Fresh.{fresh-none}
@@ -280,15 +281,15 @@ module _ (venue port code : List ℕ) (first : ℕ) (mpids modes : List ℕ) (h 
         settings = both-i has-names has-list;
         next-low = omega (arith, settings-low venue port code first mpids modes h);
         work = none-work fresh w (part-zero fresh 33 22 (omega arith) (λ k l m. zero-fresh k (omega arith) (inl (omega arith)) (inl (omega arith))));
-        spare = both-i
-            (part-zero fresh 55 1 (omega arith) (λ k l m. zero-fresh k (omega arith) (inl (omega arith)) (inl (omega arith))))
-            (part-zero fresh 97 31 (omega arith) (λ k l m. zero-fresh k (omega arith) (inr (omega arith)) (inr (omega arith))));
+        spare = part-zero fresh 55 1 (omega arith) (λ k l m. zero-fresh k (omega arith) (inl (omega arith)) (inl (omega arith)));
         rest = rw e (rest-of-zero fresh 128 (λ k l. zero-fresh k (omega arith) (inr (omega arith)) (inr (omega arith))));
         records = λ i l m. absurd (omega arith);
         ids = λ j k l m n. absurd (omega arith);
         order-ids = fresh-none _ _ _ e;
         decision = undecided (bookOf fresh) (workOf fresh) (decidedOf fresh) (zero-fresh 96 (omega arith) (inr (omega arith)) (inr (omega arith)));
         held = rw (b, w, x) (opened-held (isListed fresh) first (omega (arith, settings-high venue port code first mpids modes h)));
+        best = has-best-none fresh z w b
+            (part-zero fresh 97 31 (omega arith) (λ k l m. zero-fresh k (omega arith) (inr (omega arith)) (inr (omega arith))));
       })
 
 -- a market is what opening leaves wherever it does not refuse

@@ -7,7 +7,7 @@ use mathlib.Core.Logic.{⊎-elim}
 use Prim.Native.Nat.{ℕ, _+_, _*_, _^_, _≤_, _<_}
 use native.Mathlib.Omega.{arith}
 use lib.Dec.{eqb, lit≤}
-use lib.ListN.{length}
+use lib.ListN.{length, replicate}
 use Rattle.octets.specs.Octets.{bytesOf, put, textBytes}
 use Rattle.octets.proofs.Bools.{split}
 use Rattle.octets.proofs.Places.{below-or, leAt-below, leAt-above, length-bytesOf}
@@ -18,7 +18,9 @@ use Rattle.matching.specs.Matching.{who, change, decidedAfter}
 use Rattle.table.specs.Places.{recordAt}
 use Rattle.table.specs.Heading.{nextOf, workOf, putWork, putDecided, endWork}
 use Rattle.table.specs.Orders.{orderIdAt, orderAt, bookOf, termBytes, amountBytes, recordOf, putId, putTerms, putAmounts, applied, withdrawn, replaced, accepted}
+use Rattle.table.specs.Best.{bookRow, putBest, clearBest}
 use Rattle.table.specs.Changes.{played, stepEvents, stepWork, numbered, stepped, entered, renewed, taken}
+use Rattle.table.proofs.Bests.{length-book-row}
 use Rattle.table.proofs.Stores.{length-amounts, length-terms, length-record, accepted-order-id}
 
 -- ---- writes before the OrderID of a record, and in the heading
@@ -57,6 +59,17 @@ module _ (t : List ℕ) (i : ℕ) where
       ⊎-elim (λ (l : 0 < i). leAt-above 4 t 96 (d ∷ []) (128 * i + 84) (omega arith))
       (λ (l : i ≤ 0). leAt-below 4 t 96 (d ∷ []) (128 * i + 84) (omega arith)) (below-or 0 i)
 
+  best-order-id : (vs : List ℕ) → length vs ≤ 31 → orderIdAt (put t 97 vs) i ≡ orderIdAt t i
+  best-order-id vs h =
+      ⊎-elim (λ (l : 0 < i). leAt-above 4 t 97 vs (128 * i + 84) (omega arith))
+      (λ (l : i ≤ 0). leAt-below 4 t 97 vs (128 * i + 84) (omega arith)) (below-or 0 i)
+
+  pub told-order-id : orderIdAt (putBest t) i ≡ orderIdAt t i
+  told-order-id = best-order-id (bookRow t) (omega (arith, length-book-row t))
+
+  pub cleared-order-id : orderIdAt (clearBest t) i ≡ orderIdAt t i
+  cleared-order-id = best-order-id (replicate 31 0) (lit≤ tt)
+
 -- ---- events
 
 pub applied-order-id : (t : List ℕ) (e : Event) (i : ℕ) → orderIdAt (applied t e) i ≡ orderIdAt t i
@@ -81,12 +94,13 @@ module _ (t : List ℕ) (i : ℕ) (clOrdId : List ℕ) (e : Event) (short : leng
 
   pub taken-order-id : orderIdAt (taken t clOrdId e) i ≡ orderIdAt t i
   unfolding taken
-  taken-order-id = numbered-order-id (withdrawn t clOrdId e) i 1 ∙ withdrawn-order-id
+  taken-order-id = told-order-id (numbered (withdrawn t clOrdId e) 1) i ∙ numbered-order-id (withdrawn t clOrdId e) i 1 ∙ withdrawn-order-id
 
   pub renewed-order-id : (stamp : List ℕ) → length stamp ≤ 21 → orderIdAt (renewed t clOrdId e stamp) i ≡ orderIdAt t i
   unfolding renewed
   renewed-order-id stamp brief =
-      worked-order-id (numbered (replaced t clOrdId e) 1) i (who e) stamp brief ∙ numbered-order-id (replaced t clOrdId e) i 1 ∙ replaced-order-id
+      cleared-order-id (putWork (numbered (replaced t clOrdId e) 1) (who e) stamp) i
+      ∙ worked-order-id (numbered (replaced t clOrdId e) 1) i (who e) stamp brief ∙ numbered-order-id (replaced t clOrdId e) i 1 ∙ replaced-order-id
 
 -- ---- a step
 
@@ -97,7 +111,7 @@ stepped-order-id t i =
     let u : List ℕ = numbered (played t es) (length es) in
     let s : orderIdAt u i ≡ orderIdAt t i = numbered-order-id (played t es) i (length es) ∙ played-order-id es t i in
     split (eqb (stepWork t) 0)
-    (λ e. rw e (decided-order-id (putWork u 0 []) i 0 ∙ worked-order-id u i 0 [] (lit≤ tt) ∙ s))
+    (λ e. rw e (told-order-id (putDecided (putWork u 0 []) 0) i ∙ decided-order-id (putWork u 0 []) i 0 ∙ worked-order-id u i 0 [] (lit≤ tt) ∙ s))
     (λ e. rw e (decided-order-id u i (decidedAfter (bookOf t) (workOf t)) ∙ s))
 
 -- ---- a new order, as record k
@@ -117,7 +131,7 @@ module _ (t : List ℕ) (k : ℕ) (clOrdId account : List ℕ) (capacity class :
   unfolding entered
   heading-order-id i =
       let u : List ℕ = accepted t k (nextOf t) clOrdId account capacity class o in
-      worked-order-id (numbered u 1) i k stamp brief ∙ numbered-order-id u i 1
+      cleared-order-id (putWork (numbered u 1) k stamp) i ∙ worked-order-id (numbered u 1) i k stamp brief ∙ numbered-order-id u i 1
 
   pub entered-own : nextOf t < 256 ^ 4 → orderIdAt (entered t k clOrdId account capacity class o stamp) k ≡ nextOf t
   entered-own small = heading-order-id k ∙ accepted-order-id t k (nextOf t) clOrdId account capacity class o short few room small

@@ -210,12 +210,9 @@ module _ {t u : List ℕ} where
   unfolding hasSettings
   settings-same s r = let a = names-same s in let b = list-same r in rw (a, b)
 
-  pub spare-same : Same t u 55 56 → Same t u 97 128 → hasSpare t ≡ hasSpare u
+  pub spare-same : Same t u 55 56 → hasSpare t ≡ hasSpare u
   unfolding hasSpare
-  spare-same s r =
-      let a = part-same 55 1 56 s (lit≤ tt) in
-      let b = part-same 97 31 128 r (lit≤ tt) in
-      rw (a, b)
+  spare-same s = let a = part-same 55 1 56 s (lit≤ tt) in rw a
 
   -- ---- the records
 

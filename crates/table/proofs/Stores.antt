@@ -13,6 +13,8 @@ use Rattle.matching.specs.declared.Order.{Order}
 use Rattle.matching.specs.Matching.{amounts, terms}
 use Rattle.table.specs.Places.{recordAt}
 use Rattle.table.specs.Heading.{nextOf, workOf, stampOf, decidedOf, putNext, putWork, putDecided}
+use Rattle.table.specs.declared.best.BestLevel.{BestLevel}
+use Rattle.table.specs.Best.{ordersBytes, levelsBytes, totalsBytes, bestRow}
 use Rattle.table.specs.Orders.{clOrdIdAt, accountAt, orderIdAt, capacityAt, classificationAt, orderAt, termBytes, amountBytes, tailBytes, fieldBytes, recordOf, accepted, putId, putTerms, putAmounts}
 use Rattle.table.proofs.Same.{Same, same-in, same-then, put-below, put-above, text-same, order-same, id-same}
 
@@ -247,6 +249,28 @@ module _ (t : List ℕ) (i orderId : ℕ) (clOrdId account : List ℕ) (capacity
       }
 
 -- ---- the heading
+
+-- the bytes of the best levels
+module _ (buy sell : BestLevel) where
+  pub length-orders-bytes : length (ordersBytes buy sell) ≡ 3
+  unfolding ordersBytes bytesOf
+  length-orders-bytes = refl
+
+  pub length-levels-bytes : length (levelsBytes buy sell) ≡ 12
+  unfolding levelsBytes bytesOf
+  length-levels-bytes = refl
+
+  pub length-totals-bytes : length (totalsBytes buy sell) ≡ 16
+  unfolding totalsBytes bytesOf
+  length-totals-bytes = refl
+
+  pub length-row : length (bestRow buy sell) ≡ 31
+  unfolding bestRow
+  length-row =
+      let a = length-orders-bytes in
+      let b = length-levels-bytes in
+      let c = length-totals-bytes in
+      simp length-append (omega arith)
 
 -- the decision that was put is got
 pub decided-got : (t : List ℕ) (d : ℕ) → 128 ≤ length t → decidedOf (putDecided t d) ≡ d

@@ -19,7 +19,7 @@ use Rattle.matching.specs.Matching.{Book, at, minimumOf, decidedAfter}
 use Rattle.table.specs.Places.{tableBytes}
 use Rattle.table.specs.Heading.{workOf, stampOf, putWork}
 use Rattle.table.specs.Orders.{filled}
-use Rattle.table.specs.Market.{isPadded, hasWork, hasDecision}
+use Rattle.table.specs.Market.{isPadded, hasStamp, hasWork, hasDecision}
 use Rattle.table.proofs.Same.{Same, same-in, part-same, text-same, padded-same}
 use Rattle.table.proofs.Stores.{work-got, stamp-got}
 use Rattle.table.proofs.Texts.{padded-put}
@@ -39,19 +39,19 @@ module _ (t : List ℕ) where
   work-low h = leb-true _ _ (search both-l)
 
   pub work-none : hasWork t ≡ true → workOf t ≡ 0 → allZero (partAt t 33 22) ≡ true
-  unfolding hasWork
+  unfolding hasWork hasStamp
   work-none h e = rw (eq-eqb (workOf t) 0 e) at (both-r (leb (workOf t) (filled t)) _ h)
 
   pub work-some : hasWork t ≡ true → (workOf t ≡ 0 → ⊥) → (isTime (stampOf t) && isPadded 21 t 33) ≡ true
-  unfolding hasWork
+  unfolding hasWork hasStamp
   work-some h e = rw (ne-eqb (workOf t) 0 e) at (both-r (leb (workOf t) (filled t)) _ h)
 
   pub none-work : workOf t ≡ 0 → allZero (partAt t 33 22) ≡ true → hasWork t ≡ true
-  unfolding hasWork
+  unfolding hasWork hasStamp
   none-work e z = both-i (le-leb (workOf t) (filled t) (omega arith)) (rw (eq-eqb (workOf t) 0 e) z)
 
   pub some-work : (workOf t ≡ 0 → ⊥) → workOf t ≤ filled t → isTime (stampOf t) ≡ true → isPadded 21 t 33 ≡ true → hasWork t ≡ true
-  unfolding hasWork
+  unfolding hasWork hasStamp
   some-work n l h p = both-i (le-leb _ _ l) (rw (ne-eqb (workOf t) 0 n) (both-i h p))
 
 -- kept where those bytes and the number of filled records are kept

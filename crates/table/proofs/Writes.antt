@@ -8,8 +8,10 @@ use Rattle.octets.specs.Octets.{bytesOf, put, textBytes, putText}
 use Rattle.octets.proofs.Places.{then-put, length-bytesOf, length-put}
 use Rattle.matching.specs.declared.Order.{Order}
 use Rattle.table.specs.Heading.{putWork, putDecided, endWork}
+use Rattle.table.specs.declared.best.BestLevel.{BestLevel}
+use Rattle.table.specs.Best.{ordersBytes, levelsBytes, totalsBytes, bestRow}
 use Rattle.table.specs.Orders.{termBytes, amountBytes, tailBytes, fieldBytes, accepted}
-use Rattle.table.proofs.Stores.{length-terms, length-amounts, accepted-parts}
+use Rattle.table.proofs.Stores.{length-terms, length-amounts, accepted-parts, length-orders-bytes, length-levels-bytes}
 
 -- three runs of bytes, and four
 three : (t t1 t2 t3 : List ℕ) (p q r : ℕ) (xs ys zs : List ℕ) → t1 ≡ put t p xs → t2 ≡ put t1 q ys → t3 ≡ put t2 r zs
@@ -82,6 +84,39 @@ decided-written t d = refl
 pub work-ended : (t u v : List ℕ) → u ≡ put t 32 (replicate 23 0) → v ≡ putDecided u 0 → v ≡ endWork t
 unfolding textBytes
 work-ended t u v e f = f ∙ ap (λ (x : List ℕ). putDecided x 0) e
+
+-- the best levels: the numbers of orders, the levels, the totals, and all of them
+module _ (t : List ℕ) (p : ℕ) (buy sell : BestLevel) where
+  pub orders-written : (t1 t2 t3 : List ℕ) → t1 ≡ put t p (bytesOf 1 (buy .orders)) → t2 ≡ put t1 (p + 1) (bytesOf 1 (sell .orders))
+      → t3 ≡ put t2 (p + 2) (replicate 1 0) → t3 ≡ put t p (ordersBytes buy sell)
+  unfolding ordersBytes
+  orders-written t1 t2 t3 a b c =
+      let x = length-bytesOf 1 (buy .orders) in
+      let y = length-bytesOf 1 (sell .orders) in
+      three t t1 t2 t3 p (p + 1) (p + 2) (bytesOf 1 (buy .orders)) (bytesOf 1 (sell .orders)) (replicate 1 0) a b c (omega arith) (omega arith)
+
+  pub levels-written : (t1 t2 t3 : List ℕ) → t1 ≡ put t p (bytesOf 4 (buy .level)) → t2 ≡ put t1 (p + 4) (bytesOf 4 (sell .level))
+      → t3 ≡ put t2 (p + 8) (replicate 4 0) → t3 ≡ put t p (levelsBytes buy sell)
+  unfolding levelsBytes
+  levels-written t1 t2 t3 a b c =
+      let x = length-bytesOf 4 (buy .level) in
+      let y = length-bytesOf 4 (sell .level) in
+      three t t1 t2 t3 p (p + 4) (p + 8) (bytesOf 4 (buy .level)) (bytesOf 4 (sell .level)) (replicate 4 0) a b c (omega arith) (omega arith)
+
+  pub totals-written : (t1 t2 : List ℕ) → t1 ≡ put t p (bytesOf 8 (buy .total)) → t2 ≡ put t1 (p + 8) (bytesOf 8 (sell .total))
+      → t2 ≡ put t p (totalsBytes buy sell)
+  unfolding totalsBytes
+  totals-written t1 t2 a b =
+      let x = length-bytesOf 8 (buy .total) in
+      then-put t t1 t2 p (p + 8) (bytesOf 8 (buy .total)) (bytesOf 8 (sell .total)) a b (omega arith)
+
+  pub best-written : (t1 t2 t3 : List ℕ) → t1 ≡ put t p (ordersBytes buy sell) → t2 ≡ put t1 (p + 3) (levelsBytes buy sell)
+      → t3 ≡ put t2 (p + 15) (totalsBytes buy sell) → t3 ≡ put t p (bestRow buy sell)
+  unfolding bestRow
+  best-written t1 t2 t3 a b c =
+      let x = length-orders-bytes buy sell in
+      let y = length-levels-bytes buy sell in
+      three t t1 t2 t3 p (p + 3) (p + 15) (ordersBytes buy sell) (levelsBytes buy sell) (totalsBytes buy sell) a b c (omega arith) (omega arith)
 
 pub record-written : (t t1 t2 t3 : List ℕ) (i orderId : ℕ) (clOrdId account : List ℕ) (capacity class : ℕ) (o : Order) → length t ≡ 32768 → i < 256
     → length clOrdId ≤ 32 → length account ≤ 10 → t1 ≡ putText 32 t (128 * i) clOrdId → t2 ≡ putText 10 t1 (128 * i + 33) account

@@ -12,7 +12,7 @@ use Rattle.matching.specs.Held.{Held, Ready}
 use Rattle.table.specs.Places.{tableBytes}
 use Rattle.table.specs.Heading.{nextOf, workOf, decidedOf, isListed}
 use Rattle.table.specs.Orders.{clOrdIdAt, orderIdAt, filled, bookOf}
-use Rattle.table.specs.Market.{every, isPrintable, hasSettings, hasWork, hasSpare, restZero, isRecord, hasDecision}
+use Rattle.table.specs.Market.{every, isPrintable, hasSettings, hasWork, hasSpare, restZero, isRecord, hasDecision, hasBest}
 
 -- numbers given to n records, f i to record i, are distinct and below the next number
 pub record FreshNumbers (f : ℕ → ℕ) (next n : ℕ) : Type 0 where
@@ -32,6 +32,7 @@ pub record Market (t : List ℕ) : Type 0 where
   pub order-ids : FreshNumbers (orderIdAt t) (nextOf t) (filled t)
   pub decision : hasDecision (bookOf t) (workOf t) (decidedOf t) ≡ true
   pub held : Held (isListed t) (nextOf t) (bookOf t) (workOf t)
+  pub best : hasBest t ≡ true
 
 -- a ClOrdID that an order of the table may take: 1 to 32 characters, and none has it
 pub record Named (t clOrdId : List ℕ) : Type 0 where

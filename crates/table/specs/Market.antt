@@ -1,4 +1,4 @@
--- When a table is a market (document 01, "The table and its calls"; document 02, T-09): one definition for each clause, in the
+-- When a table is a market (document 01, "The table and its calls"; document 02, T-05, T-06, T-09): one definition for each clause, in the
 -- paper's order. The places that the paper leaves to the team are decided here: bytes that nothing uses are zero, and so is the
 -- room behind a text; the order in work is a filled record; while one is in work its 52 is a time, and otherwise zeros; OrderQty,
 -- place and OrderID are at least 1. Assumes nothing: any list of bytes is a market or is not.
@@ -14,9 +14,10 @@ use Rattle.decimal.specs.Reading.{isDigit, isTime}
 use Rattle.matching.specs.declared.Order.{Order}
 use Rattle.matching.specs.Matching.{Book, at, openOf, isOpen, isBuy, isImmediate, minimumOf, crosses, opposedTo}
 use Rattle.matching.specs.Held.{mayMinimum}
-use Rattle.table.specs.Places.{tableBytes, venueByte, portByte, idRoom, codeByte, codeRoom, stampByte, stampRoom, spareByte, mpidsByte, modesByte, mostMpids, headingEnd, headingSpare, recordAt, clOrdIdRoom, accountByte, accountRoom, recordEnd, recordSpare}
+use Rattle.table.specs.Places.{tableBytes, venueByte, portByte, idRoom, codeByte, codeRoom, stampByte, stampRoom, spareByte, mpidsByte, modesByte, mostMpids, bestByte, bestBytes, recordAt, clOrdIdRoom, accountByte, accountRoom, recordEnd, recordSpare}
 use Rattle.table.specs.Heading.{nextOf, workOf, stampOf, decidedOf, mpidAt, modeAt, entries, isListed}
 use Rattle.table.specs.Orders.{clOrdIdAt, orderIdAt, capacityAt, classificationAt, orderAt, filled, bookOf}
+use Rattle.table.specs.Best.{bestDue}
 
 -- ---- texts
 
@@ -75,15 +76,17 @@ hasSettings t = hasNames t && hasList t
 unfoldable pub hasNext : List ℕ → Bool
 hasNext t = leb 1 (nextOf t) && leb (nextOf t) 1000000000
 
--- nothing is in work and its 52 is zeros, or a filled record is and its 52 is a time
-unfoldable pub hasWork : List ℕ → Bool
-hasWork t =
-    leb (workOf t) (filled t)
-    && cond (eqb (workOf t) 0) (allZero (partAt t stampByte (1 + stampRoom))) (isTime (stampOf t) && isPadded stampRoom t stampByte)
+-- the 52 of the order in work is a time; that of none is zeros
+unfoldable pub hasStamp : List ℕ → Bool
+hasStamp t = cond (eqb (workOf t) 0) (allZero (partAt t stampByte (1 + stampRoom))) (isTime (stampOf t) && isPadded stampRoom t stampByte)
 
--- the bytes of the heading that nothing uses are zero
+-- nothing is in work, or a filled record with its 52
+unfoldable pub hasWork : List ℕ → Bool
+hasWork t = leb (workOf t) (filled t) && hasStamp t
+
+-- the byte of the heading that nothing uses is zero; those among the best levels are told with them
 unfoldable pub hasSpare : List ℕ → Bool
-hasSpare t = allZero (partAt t spareByte 1) && allZero (partAt t headingEnd headingSpare)
+hasSpare t = allZero (partAt t spareByte 1)
 
 -- ---- the records
 
@@ -196,10 +199,16 @@ isBook b w next = hasPlaces b next && noIoc b w && noCross b w && hasNumbers b w
 unfoldable pub hasDecision : Book → ℕ → ℕ → Bool
 hasDecision b w decided = eqb decided 0 || (eqb decided 1 && ltb 0 (minimumOf (at b w)))
 
+-- ---- the best levels
+
+-- the heading keeps the best level of each side while nothing is in work, and zeros while an order is
+unfoldable pub hasBest : List ℕ → Bool
+hasBest t = sameBytes (partAt t bestByte bestBytes) (bestDue t)
+
 -- ---- a market
 
 unfoldable pub isMarket : List ℕ → Bool
 isMarket t =
     hasLength t && hasSettings t && hasNext t && hasWork t && hasSpare t
     && restZero t && hasOrders t && hasIds t && hasOrderIds t && isBook (bookOf t) (workOf t) (nextOf t)
-    && hasDecision (bookOf t) (workOf t) (decidedOf t)
+    && hasDecision (bookOf t) (workOf t) (decidedOf t) && hasBest t

@@ -70,12 +70,38 @@ mostMpids = 8
 abbrev pub decidedByte : ℕ
 decidedByte = 96
 
--- the first of the unused bytes up to the end of the heading, and how many they are
-abbrev pub headingEnd : ℕ
-headingEnd = 97
+-- the best level of each side, 31 bytes up to the end of the heading (document 02, T-06): the numbers of orders of the best buy and
+-- of the best sell level, 1 byte each, and an unused byte; the two levels, 4 bytes each, and four unused bytes; the two totals, 8
+-- bytes each
+abbrev pub bestByte : ℕ
+bestByte = 97
 
-abbrev pub headingSpare : ℕ
-headingSpare = 31
+abbrev pub bestBytes : ℕ
+bestBytes = 31
+
+abbrev pub buyOrdersByte : ℕ
+buyOrdersByte = 97
+
+abbrev pub sellOrdersByte : ℕ
+sellOrdersByte = 98
+
+abbrev pub ordersSpareByte : ℕ
+ordersSpareByte = 99
+
+abbrev pub buyLevelByte : ℕ
+buyLevelByte = 100
+
+abbrev pub sellLevelByte : ℕ
+sellLevelByte = 104
+
+abbrev pub levelsSpareByte : ℕ
+levelsSpareByte = 108
+
+abbrev pub buyTotalByte : ℕ
+buyTotalByte = 112
+
+abbrev pub sellTotalByte : ℕ
+sellTotalByte = 120
 
 -- ---- an order: bytes from the start of its record
 

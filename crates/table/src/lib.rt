@@ -1,4 +1,6 @@
-// The table of a market: its heading, its list of MPIDs, its orders, lookups in it, what an order would trade, and opening.
+// The table of a market: its heading, its list of MPIDs, its orders, lookups in it, its best levels, what an order would trade, and
+// opening.
+pub mod best;
 pub mod book;
 pub mod entries;
 pub mod event;

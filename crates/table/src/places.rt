@@ -58,10 +58,29 @@ pub const MOST_MPIDS: usize = 8;
 // The decision on the minimum of the order in work, 1 byte.
 pub const DECIDED: usize = 96;
 
-// The first of the unused bytes up to the end of the heading, and how many they are.
-pub const HEADING_END: usize = 97;
+// The best level of each side, up to the end of the heading, and all its bytes.
+pub const BEST: usize = 97;
 
-pub const HEADING_SPARE: usize = 31;
+pub const BEST_BYTES: usize = 31;
+
+// The numbers of orders of the best buy and the best sell level, 1 byte each, and an unused byte.
+pub const BUY_ORDERS: usize = 97;
+
+pub const SELL_ORDERS: usize = 98;
+
+pub const ORDERS_SPARE: usize = 99;
+
+// Their levels, 4 bytes each, and four unused bytes.
+pub const BUY_LEVEL: usize = 100;
+
+pub const SELL_LEVEL: usize = 104;
+
+pub const LEVELS_SPARE: usize = 108;
+
+// Their totals, 8 bytes each.
+pub const BUY_TOTAL: usize = 112;
+
+pub const SELL_TOTAL: usize = 120;
 
 // An order, from the start of its record, where the ClOrdID stands: a length byte and room for its characters.
 pub const CL_ORD_ID_ROOM: usize = 32;

@@ -7,7 +7,7 @@ use mathlib.Core.Bool.{Bool, true, false, cond}
 use mathlib.Core.Path.{_≡_, refl, sym, ap, _∙_}
 use mathlib.Core.List.{List, [], _∷_}
 use lib.Dec.{eqb, ltb, lit≤, lit<}
-use lib.ListN.{length}
+use lib.ListN.{length, replicate}
 use borrow.Author.Tests.{eqb-true, eqb-false}
 use Rattle.octets.specs.Octets.{bytesOf, textBytes, partAt}
 use Rattle.octets.proofs.Bools.{split}
@@ -24,14 +24,16 @@ use Rattle.matching.proofs.Conserved.{takes-low}
 use Rattle.table.specs.Places.{tableBytes}
 use Rattle.table.specs.Heading.{nextOf, workOf, isListed, putNext, putWork}
 use Rattle.table.specs.Orders.{orderIdAt, orderAt, filled, bookOf, termBytes, amountBytes, recordOf, putId, accepted, replaced, withdrawn}
+use Rattle.table.specs.Best.{bookRow, putBest, clearBest}
 use Rattle.table.specs.Market.{every, isPrintable, isCapacity, isClass}
 use Rattle.table.specs.Facts.{Market, Named}
 use Rattle.table.specs.Changes.{numbered, entered, renewed, taken}
-use Rattle.table.proofs.Same.{same-sym, filled-few}
+use Rattle.table.proofs.Same.{same-sym, put-below, work-same, filled-few}
 use Rattle.table.proofs.Stores.{work-got}
 use Rattle.table.proofs.Books.{length-book, at-book}
-use Rattle.table.proofs.Frames.{Framed, framed-long, framed-filled, framed-listed, framed-heading, framed-then, framed-formed, framed-order-ids, market-formed}
-use Rattle.table.proofs.Applied.{book-next, book-work, framed-amounts}
+use Rattle.table.proofs.Frames.{Framed, framed-long, framed-filled, framed-listed, framed-heading, framed-best, framed-then, framed-formed, framed-order-ids, market-formed}
+use Rattle.table.proofs.Applied.{book-next, book-work, book-best, framed-amounts}
+use Rattle.table.proofs.Bests.{length-book-row}
 use Rattle.table.proofs.Naming.{named-formed, named-filled}
 use Rattle.table.proofs.Kept.{taken-kept, renewed-kept, entered-kept}
 use Rattle.report.specs.declared.Place.{Place}
@@ -62,7 +64,6 @@ framed-back u v long f =
     record {
       names = same-sym (f .names);
       lists = same-sym (f .lists);
-      unused = same-sym (f .unused);
       texts = λ i l h. same-sym (f .texts i l (omega arith));
       kinds = λ i l h. same-sym (f .kinds i l (omega arith));
       spares = λ i l h. same-sym (f .spares i l (omega arith));
@@ -88,28 +89,41 @@ module _ (u : List ℕ) (long : length u ≡ tableBytes) where
   unfolding numbered
   book-numbered = book-next u (nextOf u + 1) long
 
-  pub orderly-numbered : Market (numbered u 1) → Orderly u
-  orderly-numbered m = orderly-back u (numbered u 1) long framed-numbered book-numbered m
+  numbered-long : length (numbered u 1) ≡ tableBytes
+  numbered-long = framed-long u (numbered u 1) long framed-numbered
+
+  pub orderly-numbered : Market (putBest (numbered u 1)) → Orderly u
+  orderly-numbered m =
+      let v : List ℕ = numbered u 1 in
+      let n = length-book-row v in
+      orderly-back u (putBest v) long (framed-then u v (putBest v) long framed-numbered (framed-best v (bookRow v) (omega arith)))
+      (book-best v (bookRow v) numbered-long (omega arith) ∙ book-numbered) m
 
   module _ (w : ℕ) (stamp : List ℕ) (short : length stamp ≤ 21) where
-    numbered-long : length (numbered u 1) ≡ tableBytes
-    numbered-long = framed-long u (numbered u 1) long framed-numbered
+    framed-worked : Framed u (putWork (numbered u 1) w stamp)
+    framed-worked =
+        framed-then u (numbered u 1) (putWork (numbered u 1) w stamp) long framed-numbered
+        (framed-heading (numbered u 1) 32 (w ∷ textBytes 21 stamp) (lit≤ tt) (omega (arith, length-textBytes 21 stamp short)))
 
-    book-worked : bookOf (putWork (numbered u 1) w stamp) ≡ bookOf u
-    book-worked = book-work (numbered u 1) w stamp numbered-long short ∙ book-numbered
+    worked-long : length (putWork (numbered u 1) w stamp) ≡ tableBytes
+    worked-long = framed-long u (putWork (numbered u 1) w stamp) long framed-worked
 
-    pub orderly-worked : Market (putWork (numbered u 1) w stamp) → Orderly u
+    book-worked : bookOf (clearBest (putWork (numbered u 1) w stamp)) ≡ bookOf u
+    book-worked =
+        book-best (putWork (numbered u 1) w stamp) (replicate 31 0) worked-long (lit≤ tt)
+        ∙ book-work (numbered u 1) w stamp numbered-long short ∙ book-numbered
+
+    pub orderly-worked : Market (clearBest (putWork (numbered u 1) w stamp)) → Orderly u
     orderly-worked m =
-        orderly-back u (putWork (numbered u 1) w stamp) long
-        (framed-then u (numbered u 1) (putWork (numbered u 1) w stamp) long framed-numbered
-        (framed-heading (numbered u 1) 32 (w ∷ textBytes 21 stamp) (lit≤ tt) (omega (arith, length-textBytes 21 stamp short))))
-        book-worked m
+        let v : List ℕ = putWork (numbered u 1) w stamp in
+        orderly-back u (clearBest v) long (framed-then u v (clearBest v) long framed-worked (framed-best v (replicate 31 0) (lit≤ tt))) book-worked m
 
     -- and the order in work is one of its book
-    pub worked-in : 1 ≤ w → Market (putWork (numbered u 1) w stamp) → In (bookOf u) w
+    pub worked-in : 1 ≤ w → Market (clearBest (putWork (numbered u 1) w stamp)) → In (bookOf u) w
     worked-in low m =
         let z = numbered-long in
-        let e = work-got (numbered u 1) w stamp (omega arith) short in
+        let v : List ℕ = putWork (numbered u 1) w stamp in
+        let e : workOf (clearBest v) ≡ w = work-same (put-below v 97 (replicate 31 0) 32 33 (lit≤ tt)) ∙ work-got (numbered u 1) w stamp (omega arith) short in
         record { low = low; high = omega (arith, m .held .work, ap length book-worked) }
 
 -- ---- what is taken
@@ -171,7 +185,7 @@ module _ (t message clOrdId : List ℕ) (k : ℕ) (c : Cause) (m : Market t) (id
       length-put (putId t k clOrdId) (128 * k + 64) (amountBytes (change (Withdrawn k q) (orderAt t k)))
       ∙ length-put t (128 * k) (textBytes 32 clOrdId) ∙ m .long
 
-  withdrawn-market : (q : ℕ) → openOf (at (bookOf t) k) ≡ q → nextOf t ≤ 999998976 → Market (numbered (withdrawn t clOrdId (Withdrawn k q)) 1)
+  withdrawn-market : (q : ℕ) → openOf (at (bookOf t) k) ≡ q → nextOf t ≤ 999998976 → Market (putBest (numbered (withdrawn t clOrdId (Withdrawn k q)) 1))
   unfolding taken
   withdrawn-market q e low = rw e at (taken-kept t k clOrdId m idle i g low)
 
@@ -181,7 +195,7 @@ module _ (t message clOrdId : List ℕ) (k : ℕ) (c : Cause) (m : Market t) (id
   withdrawn-legible low s d =
       let q : ℕ = openOf (orderAt t k) in
       let u : List ℕ = withdrawn t clOrdId (Withdrawn k q) in
-      let v : Market (numbered u 1) = withdrawn-market q (ap openOf (at-book t k (i .low) high)) low in
+      let v : Market (putBest (numbered u 1)) = withdrawn-market q (ap openOf (at-book t k (i .low) high)) low in
       told u message (nextOf t) c (Withdrawn k q) (orderly-numbered u (withdrawn-long q) v)
       (record { low = i .low; high = omega (arith, length-book u, withdrawn-filled q, high) }) (m .next-low) (omega arith) s d
 

@@ -6,6 +6,8 @@ use decimal::Said;
 use decimal::read::read_number;
 use matching::Order;
 use octets::part_at;
+use table::best::clear_best;
+use table::best::put_best;
 use table::heading::put_next;
 use table::heading::put_work;
 use table::opening::open_table;
@@ -75,7 +77,7 @@ fn meeting(t: &mut [u8], tif: u64, minqty: u64)
     );
 }
 
-// A market with the two resting orders.
+// A market with the two resting orders and their levels as the best ones.
 fn at_rest(t: &mut [u8])
     requires { ⌜ length (now t) ≡ 32768 ⌝ }
 {
@@ -84,15 +86,17 @@ fn at_rest(t: &mut [u8])
     open_table(t, b"V", b"P", b"350", 1, &mpids, &modes);
     resting(t);
     put_next(t, 4);
+    put_best(t);
 }
 
-// The same with the buy that meets the sell, in work.
+// The same with the buy that meets the sell, in work, and so no best levels.
 fn in_work(t: &mut [u8], tif: u64, minqty: u64)
     requires { ⌜ (length (now t) ≡ 32768) × (tif < 256) ⌝ }
 {
     at_rest(t);
     meeting(t, tif, minqty);
     put_work(t, 3, b"20260105-09:00:00");
+    clear_best(t);
 }
 
 // The table of a section: an IOC with MinQty 20 in work for 6, a Fill or Kill for 7, nothing for 8, and else an IOC without MinQty.

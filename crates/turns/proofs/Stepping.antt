@@ -30,6 +30,7 @@ use Rattle.matching.proofs.Deciding.{no-minimum, idle-misses, decided-misses, n
 use Rattle.table.specs.Places.{tableBytes}
 use Rattle.table.specs.Heading.{nextOf, workOf, decidedOf, isListed, modeOf, putNext, putWork, putDecided, endWork}
 use Rattle.table.specs.Orders.{orderAt, filled, bookOf, applied}
+use Rattle.table.specs.Best.{bookRow, putBest}
 use Rattle.table.specs.Facts.{Market}
 use Rattle.table.specs.Looks.{Lookable}
 use Rattle.table.specs.Changes.{played, missesNow, stepEvents, stepWork, numbered, stepped}
@@ -37,7 +38,8 @@ use Rattle.table.proofs.Same.{Same, same-in, same-then, put-below, put-above, n
 use Rattle.table.proofs.Stores.{next-got, work-got, decided-got}
 use Rattle.table.proofs.Books.{length-book, at-book}
 use Rattle.table.proofs.Frames.{framed-long}
-use Rattle.table.proofs.Applied.{AllMove, Played, all-played, fits-move, framed-applied, book-applied, book-next, book-work, book-decided}
+use Rattle.table.proofs.Applied.{AllMove, Played, all-played, fits-move, framed-applied, book-applied, book-next, book-work, book-decided, book-best}
+use Rattle.table.proofs.Bests.{length-book-row}
 use Rattle.ticket.proofs.Running.{step-legible-first, step-legible-second}
 use Rattle.calls.specs.Told.{joined}
 use Rattle.calls.specs.Run.{stepReports}
@@ -114,12 +116,36 @@ module _ (t : List ℕ) (m : Market t) (l : 1 ≤ workOf t) where
   unfolding idle
   idle-above = put-above later 32 (0 ∷ textBytes 21 []) 55 128 (omega (arith, length-textBytes 21 [] (lit≤ tt)))
 
+  -- and with nothing decided, to be followed by the best levels
+  ended : List ℕ
+  ended = putDecided idle 0
+
+  ended-long : length ended ≡ tableBytes
+  unfolding ended
+  ended-long = put-below idle 96 (0 ∷ []) 0 0 (lit≤ tt) .size ∙ idle-long
+
+  ended-below : Same ended idle 0 96
+  unfolding ended
+  ended-below = put-below idle 96 (0 ∷ []) 0 96 (lit≤ tt)
+
+  told-below : Same (putBest ended) ended 0 97
+  told-below = put-below ended 97 (bookRow ended) 0 97 (lit≤ tt)
+
+  told-idle : Same (putBest ended) idle 0 96
+  told-idle = same-then (same-in 0 96 told-below (lit≤ tt) (lit≤ tt)) ended-below
+
+  told-book : bookOf (putBest ended) ≡ bookOf idle
+  unfolding ended
+  told-book = book-best ended (bookRow ended) ended-long (omega (arith, length-book-row ended)) ∙ book-decided idle 0 idle-long
+
   -- ---- a step
   pub step-next : nextOf (stepped t) ≡ nextOf t + length (stepEvents t)
-  unfolding stepped later idle
+  unfolding stepped later idle ended
   step-next =
       split (eqb (stepWork t) 0)
-      (λ x. rw x (next-same (put-below idle 96 (0 ∷ []) 28 32 (lit≤ tt)) ∙ next-same (put-below later 32 (0 ∷ textBytes 21 []) 28 32 (lit≤ tt)) ∙ later-next))
+      (λ x.
+      rw x
+      (next-same (same-in 28 32 told-idle (lit≤ tt) (lit≤ tt)) ∙ next-same (put-below later 32 (0 ∷ textBytes 21 []) 28 32 (lit≤ tt)) ∙ later-next))
       (λ x. rw x (next-same (put-below later 96 _ 28 32 (lit≤ tt)) ∙ later-next))
 
   work-stays : (stepWork t ≡ 0 → ⊥) → stepWork t ≡ workOf t
@@ -127,27 +153,28 @@ module _ (t : List ℕ) (m : Market t) (l : 1 ≤ workOf t) where
   work-stays n = split (missesNow t || eqb (partner (bookOf t) (workOf t)) 0) (λ x. absurd (n (rw x))) (λ x. rw x)
 
   pub step-work : workOf (stepped t) ≡ stepWork t
-  unfolding stepped later idle
+  unfolding stepped later idle ended
   step-work =
       split (eqb (stepWork t) 0)
-      (λ x. rw x (work-same (put-below idle 96 (0 ∷ []) 32 33 (lit≤ tt)) ∙ work-got later 0 [] (omega (arith, later-long)) (lit≤ tt)) ∙ sym (eqb-true _ _ x))
+      (λ x.
+      rw x (work-same (same-in 32 33 told-idle (lit≤ tt) (lit≤ tt)) ∙ work-got later 0 [] (omega (arith, later-long)) (lit≤ tt)) ∙ sym (eqb-true _ _ x))
       (λ x.
       rw x (work-same (put-below later 96 _ 32 33 (lit≤ tt)) ∙ work-same (same-in 32 33 later-above (lit≤ tt) (lit≤ tt))) ∙ sym (work-stays (eqb-false _ _ x)))
 
   pub step-book : bookOf (stepped t) ≡ bookAfter (modeOf t) (missesNow t) (bookOf t) (workOf t)
-  unfolding stepped later idle
+  unfolding stepped later idle ended
   step-book =
       split (eqb (stepWork t) 0)
-      (λ x. rw x (book-decided idle 0 idle-long ∙ book-work later 0 [] later-long (lit≤ tt) ∙ later-book))
+      (λ x. rw x (told-book ∙ book-work later 0 [] later-long (lit≤ tt) ∙ later-book))
       (λ x. rw x (book-decided later _ later-long ∙ later-book))
 
   pub step-modes : modeOf (stepped t) ≡ modeOf t
-  unfolding stepped later idle
+  unfolding stepped later idle ended
   step-modes =
       let s : Same later t 56 96 = same-in 56 96 later-above (lit≤ tt) (lit≤ tt) in
       let r : Same idle later 56 96 = same-in 56 96 idle-above (lit≤ tt) (lit≤ tt) in
       split (eqb (stepWork t) 0)
-      (λ x. rw x (λ j k. mode-of-same (same-then (put-below idle 96 (0 ∷ []) 56 96 (lit≤ tt)) (same-then r s)) k j))
+      (λ x. rw x (λ j k. mode-of-same (same-then (same-in 56 96 told-idle (lit≤ tt) (lit≤ tt)) (same-then r s)) k j))
       (λ x. rw x (λ j k. mode-of-same (same-then (put-below later 96 (decidedAfter (bookOf t) (workOf t) ∷ []) 56 96 (lit≤ tt)) s) k j))
 
   minimum-stays : minimumOf (at (bookAfter (modeOf t) (missesNow t) (bookOf t) (workOf t)) (workOf t)) ≡ minimumOf (at (bookOf t) (workOf t))
@@ -352,9 +379,9 @@ module _ (t : List ℕ) (y : Busy t) where
 -- ---- the end of a step
 
 module _ (t u : List ℕ) (n : ℕ) (ends : Bool) (d : ℕ) (e : u ≡ putNext t n) where
-  pub finish-ends : (v : List ℕ) → ends ≡ true → v ≡ endWork u → v ≡ finished t n ends d
+  pub finish-ends : (w v : List ℕ) → ends ≡ true → w ≡ endWork u → v ≡ putBest w → v ≡ finished t n ends d
   unfolding finished
-  finish-ends v z h = h ∙ rw (z, e)
+  finish-ends w v z q h = h ∙ rw (z, q, e)
 
   pub finish-goes : (v : List ℕ) → ends ≡ false → v ≡ putDecided u d → v ≡ finished t n ends d
   unfolding finished

@@ -11,6 +11,7 @@ use Rattle.matching.specs.declared.Event.{Event}
 use Rattle.matching.specs.Matching.{who, partner, outcome, decidedAfter}
 use Rattle.table.specs.Heading.{workOf, modeOf, putNext, putDecided, endWork}
 use Rattle.table.specs.Orders.{bookOf, applied}
+use Rattle.table.specs.Best.{putBest}
 use Rattle.table.specs.Facts.{Market, Due}
 use Rattle.table.specs.Changes.{played, missesNow, stepped}
 use Rattle.ticket.specs.Tickets.{keptCause}
@@ -51,9 +52,9 @@ pub record Planned (t : List ℕ) (p : Plan) : Type 0 where
   pub ends : p .ends ≡ (missesNow t || eqb (partner (bookOf t) (workOf t)) 0)
   pub decided : p .decided ≡ decidedAfter (bookOf t) (workOf t)
 
--- the end of a step, once its events have happened: the next number, and nothing in work, or the decision
+-- the end of a step, once its events have happened: the next number, and nothing in work and the best levels, or the decision
 unfoldable pub finished : List ℕ → ℕ → Bool → ℕ → List ℕ
-finished t n ends d = cond ends (endWork (putNext t n)) (putDecided (putNext t n) d)
+finished t n ends d = cond ends (putBest (endWork (putNext t n))) (putDecided (putNext t n) d)
 
 -- a step was taken
 pub record Turned (t out : List ℕ) (r : Told) (after area : List ℕ) : Type 0 where

@@ -21,6 +21,7 @@ use matching::Order;
 use matching::Outcome;
 use matching::Prevention;
 use matching::matched;
+use table::best::put_best;
 use table::book::best;
 use table::book::filled;
 use table::entries::mode_of;
@@ -216,7 +217,7 @@ fn planned(t: &[u8]) -> Plan
     }
 }
 
-// Sets the next number, and ends the work or notes the decision.
+// Sets the next number, and ends the work, with the best levels of the book, or notes the decision.
 fn finish(table: &mut [u8], n: u64, ends: bool, d: u8)
     requires { ⌜ length (now table) ≡ tableBytes ⌝ }
     ensures { λ _. ⌜ now (table .exit) ≡ finished (now (table .entry)) n ends d ⌝ }
@@ -224,6 +225,7 @@ fn finish(table: &mut [u8], n: u64, ends: bool, d: u8)
     put_next(table, n);
     if ends {
         end_work(table);
+        put_best(table);
     } else {
         put_decided(table, d);
     }

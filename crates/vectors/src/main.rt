@@ -19,7 +19,9 @@ use kamurjesh::kamurjesh_run;
 use kamurjesh::kamurjesh_submit;
 use kamurjesh::numbers::depth_number;
 use kamurjesh::numbers::level_in;
+use market::DepthAnswer;
 use market::depth;
+use market::top;
 use matching::Depth;
 use octets::part_at;
 
@@ -156,13 +158,35 @@ fn level(d: Depth) {
     }
 }
 
-// Depth.
-fn depths(table: &[u8], s: &[u8]) {
-    let answer = depth(table, number(part(s, 0)), number(part(s, 1)));
-    say::word(b"d");
+// An answer with a level, or without one.
+fn answered(answer: DepthAnswer) {
     say::number(depth_number(answer));
     level(level_in(answer));
     say::word(b"\n");
+}
+
+// Depth.
+fn depths(table: &[u8], s: &[u8]) {
+    say::word(b"d");
+    answered(depth(table, number(part(s, 0)), number(part(s, 1))));
+}
+
+// The best level of a side, from the heading.
+fn tops(table: &[u8], s: &[u8]) {
+    say::word(b"t");
+    answered(top(table, number(part(s, 0))));
+}
+
+// A byte put into the table: the one that was there is said.
+fn put_byte(table: &mut [u8], s: &[u8]) {
+    let i = at_most(number(part(s, 0)), table.len());
+    let byte = (number(part(s, 1)) % 256) as u8;
+    if i < table.len() {
+        say::word(b"b");
+        say::number(octets::wide(table[i]));
+        say::word(b"\n");
+        table[i] = byte;
+    }
 }
 
 // One field of a report, as it is found by its tag.
@@ -279,6 +303,12 @@ fn command(table: &mut [u8], letter: u8, s: &[u8]) {
     }
     if letter == b'd' {
         return depths(table, s);
+    }
+    if letter == b't' {
+        return tops(table, s);
+    }
+    if letter == b'b' {
+        return put_byte(table, s);
     }
     if letter == b'x' {
         return read(s);

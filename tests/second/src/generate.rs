@@ -13,6 +13,7 @@ use crate::market::{Market, Participant, LAST_SUBMIT_NUMBER};
 use crate::order::{Order, Side};
 use crate::random::Random;
 use crate::report::{split_reports, yield_text};
+use crate::table::{RECORD, TABLE};
 use crate::transcript::{Command, Desk, LONGEST_LINE};
 
 /// The command lines for a seed, with `count` messages submitted.
@@ -336,6 +337,7 @@ impl Generator {
             for k in 0..=self.random.between(1, 4) {
                 self.say(&Command::Depth { side, k });
             }
+            self.say(&Command::Top { side });
         }
     }
 
@@ -347,7 +349,9 @@ impl Generator {
                 0..=39 if self.market().next_number() > LAST_SUBMIT_NUMBER => self.submit(),
                 0..=71 => self.run(),
                 72..=81 => self.submit(),
-                82..=87 => self.depth(),
+                82..=84 => self.depth(),
+                85..=86 => self.top(),
+                87 => self.forge(),
                 88..=93 => self.idle_run(),
                 94..=96 => self.read(),
                 97..=98 => self.copy(),
@@ -356,7 +360,9 @@ impl Generator {
         } else {
             match draw {
                 0..=70 => self.submit(),
-                71..=78 => self.depth(),
+                71..=75 => self.depth(),
+                76..=77 => self.top(),
+                78 => self.forge(),
                 79..=81 => self.idle_run(),
                 82 => {
                     let wrong = self.wrong_open();
@@ -393,6 +399,45 @@ impl Generator {
         let side = self.random.pick(&[1, 1, 1, 1, 2, 2, 2, 2, 0, 3, u64::MAX]);
         let k = self.random.pick(&[0, 0, 0, 1, 1, 2, 3, 4, 300, 4_294_967_296, u64::MAX]);
         self.say(&Command::Depth { side, k });
+    }
+
+    fn top(&mut self) {
+        let side = self.random.pick(&[1, 1, 1, 1, 1, 2, 2, 2, 2, 2, 0, 3, u64::MAX]);
+        self.say(&Command::Top { side });
+    }
+
+    /// A byte of the table changed, looked at, and put back. Submit and Run are called only if it is no market then, so
+    /// that they change nothing.
+    fn forge(&mut self) {
+        let table = self.desk.table();
+        let records = self.market().orders().len();
+        let at = match self.random.below(10) {
+            0..=3 => self.random.below(RECORD),
+            4..=8 if records > 0 => {
+                RECORD * self.random.between(1, records as u64) as usize + self.random.below(RECORD)
+            }
+            _ => self.random.below(TABLE),
+        };
+        let before = table[at];
+        let byte = match self.random.below(6) {
+            0 => before.wrapping_add(1),
+            1 => before.wrapping_sub(1),
+            2 => before ^ 1 << self.random.below(8),
+            3 => 0,
+            4 => self.random.between(1, 5) as u8,
+            _ => self.random.bits() as u8,
+        };
+        let message = self.good_message().bytes();
+        self.say(&Command::PutByte { at, byte });
+        for side in [1, 2] {
+            self.say(&Command::Top { side });
+        }
+        self.say(&Command::Depth { side: 1, k: 0 });
+        if self.desk.market().is_none() {
+            self.say(&Command::Submit { area: 1024, message });
+            self.say(&Command::Run { area: 1024, budget: 1 });
+        }
+        self.say(&Command::PutByte { at, byte: before });
     }
 
     /// Read of a report that was written, whole or damaged, or of something else.

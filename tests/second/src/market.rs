@@ -192,7 +192,7 @@ impl Market {
     }
 
     /// The levels of a side, best first.
-    fn levels(&self, side: Side) -> Vec<Level> {
+    pub(crate) fn levels(&self, side: Side) -> Vec<Level> {
         let mut open: Vec<&Order> = self.orders.iter().filter(|order| order.side == side && order.open() > 0).collect();
         open.sort_by_key(|order| order.rank());
         let mut levels: Vec<Level> = Vec::new();

@@ -159,6 +159,21 @@ impl Script {
         self.push(Command::Depth { side, k }, Expected::Whole(format!("d 0 1 {at} {total} {orders}")));
     }
 
+    /// The best level of a side, asked of the heading: yield in thousandths, total, orders.
+    pub fn top(&mut self, side: u64, at: i64, total: u64, orders: u64) {
+        self.push(Command::Top { side }, Expected::Whole(format!("t 0 1 {at} {total} {orders}")));
+    }
+
+    /// The same where the side is empty.
+    pub fn no_top(&mut self, side: u64) {
+        self.push(Command::Top { side }, Expected::Whole("t 0 0 0 0 0".to_string()));
+    }
+
+    /// The same, answered by a refusal.
+    pub fn top_refused(&mut self, side: u64, number: u64) {
+        self.push(Command::Top { side }, Expected::Whole(format!("t {number} 0 0 0 0")));
+    }
+
     /// Depth answered by "no such level".
     pub fn no_level(&mut self, side: u64, k: u64) {
         self.push(Command::Depth { side, k }, Expected::Whole("d 0 0 0 0 0".to_string()));
@@ -167,6 +182,13 @@ impl Script {
     /// Depth answered by a refusal.
     pub fn depth_refused(&mut self, side: u64, k: u64, number: u64) {
         self.push(Command::Depth { side, k }, Expected::Whole(format!("d {number} 0 0 0 0")));
+    }
+
+    /// Puts bytes into the table in place of these.
+    pub fn put(&mut self, at: usize, bytes: &[u8], before: &[u8]) {
+        for (offset, (&byte, before)) in bytes.iter().zip(before).enumerate() {
+            self.push(Command::PutByte { at: at + offset, byte }, Expected::Whole(format!("b {before}")));
+        }
     }
 
     /// Read answered by a kind.

@@ -1,10 +1,11 @@
 //! The bytes of a table: a market laid out as docs/TABLE.md says, and the market that such bytes are, if they are one
-//! ("A table is a market exactly if" of 01, with what requests of 02 add to it).
+//! ("A table is a market exactly if" of 01, with what requests of 02 add to it). Top of book stands here too, because it
+//! is answered from the bytes of the heading (T-06 of 02).
 //!
 //! Numbers are little endian. A text is one byte of length, its characters, and zeros up to its room. What nothing uses
 //! is zero.
 
-use crate::market::{is_comp_id, known_modes, Market, Participant, Work, MOST_ORDERS};
+use crate::market::{is_comp_id, known_modes, Level, Market, Participant, Refusal, Work, MOST_ORDERS};
 use crate::matching::Mode;
 use crate::order::{Order, Side, TimeInForce};
 use crate::shape::{is_character, is_digits, is_time};
@@ -27,6 +28,12 @@ mod heading {
     pub const MPIDS: usize = 56;
     pub const MODES: usize = 88;
     pub const DECIDED: usize = 96;
+    /// Of the best buy level and the best sell level: number of orders, level, total.
+    pub const BEST_ORDERS: [usize; 2] = [97, 98];
+    pub const BEST_LEVEL: [usize; 2] = [100, 104];
+    pub const BEST_TOTAL: [usize; 2] = [112, 120];
+    /// What nothing uses.
+    pub const UNUSED: [usize; 6] = [55, 99, 108, 109, 110, 111];
 }
 
 /// Where a record has its fields.
@@ -57,6 +64,80 @@ pub fn bytes(market: &Market) -> Vec<u8> {
         put_order(record, order);
     }
     table
+}
+
+/// Top of book: the best level of a side as the heading says it. Nothing but the table's length and its heading is looked
+/// at, so a table that is no market is answered as well. On a market this is Depth's level 0.
+pub fn top(table: &[u8], side: u64) -> Result<Option<Level>, Refusal> {
+    let head = table.get(..RECORD).filter(|_| table.len() == TABLE).ok_or(Refusal::NotAMarket)?;
+    if !is_heading(head) {
+        return Err(Refusal::NotAMarket);
+    }
+    if head[heading::IN_WORK] != 0 {
+        return Err(Refusal::OrderInWork);
+    }
+    match side {
+        1 => Ok(best(head, 0)),
+        2 => Ok(best(head, 1)),
+        _ => Err(Refusal::SideWrong),
+    }
+}
+
+/// The best level of a side, 0 for buys and 1 for sells, as the heading says it; none where it has no orders.
+fn best(head: &[u8], side: usize) -> Option<Level> {
+    let level = Level {
+        yield_thousandths: number(head, heading::BEST_LEVEL[side], 4) as i64 - ZERO_LEVEL as i64,
+        total: number(head, heading::BEST_TOTAL[side], 8),
+        orders: u64::from(head[heading::BEST_ORDERS[side]]),
+    };
+    Some(level).filter(|level| level.orders != 0)
+}
+
+/// Whether everything in a heading is in its range, as far as it can be seen there alone.
+fn is_heading(head: &[u8]) -> bool {
+    let is_in_work = head[heading::IN_WORK] != 0;
+    let has_time = text(head, heading::SENDING_TIME, 21).is_some_and(|time| is_time(&time));
+    let has_no_time = head[heading::SENDING_TIME..heading::SENDING_TIME + 22].iter().all(|&byte| byte == 0);
+    has_settings(head)
+        && (1..=1_000_000_000).contains(&number(head, heading::NEXT_NUMBER, 4))
+        && (if is_in_work { has_time && has_zeros_behind(head, heading::SENDING_TIME, 21) } else { has_no_time })
+        && head[heading::DECIDED] <= u8::from(is_in_work)
+        && heading::UNUSED.iter().all(|&at| head[at] == 0)
+        && [0, 1].iter().all(|&side| has_no_best(head, side) || !is_in_work && has_good_best(head, side))
+}
+
+/// The names and the list of MPIDs as Open takes them, with zeros behind what they fill.
+fn has_settings(head: &[u8]) -> bool {
+    let names = [(heading::VENUE, 8), (heading::PORT, 8), (heading::CODE, 9)];
+    let [venue, port, code] = names.map(|(at, room)| text(head, at, room).unwrap_or_default());
+    let listed = parsed_participants(head).map_or(0, |list| list.len());
+    is_comp_id(&venue)
+        && is_comp_id(&port)
+        && is_digits(&code, 9)
+        && names.iter().all(|&(at, room)| has_zeros_behind(head, at, room))
+        && listed > 0
+        && head[heading::MPIDS + 4 * listed..heading::MODES].iter().all(|&byte| byte == 0)
+        && head[heading::MODES + listed..heading::DECIDED].iter().all(|&byte| byte == 0)
+}
+
+/// Whether the bytes between a text's end and its room's are zero.
+fn has_zeros_behind(record: &[u8], at: usize, room: usize) -> bool {
+    let end = at + 1 + usize::from(record[at]);
+    record[end.min(at + 1 + room)..=at + room].iter().all(|&byte| byte == 0)
+}
+
+fn has_no_best(head: &[u8], side: usize) -> bool {
+    head[heading::BEST_ORDERS[side]] == 0
+        && number(head, heading::BEST_LEVEL[side], 4) == 0
+        && number(head, heading::BEST_TOTAL[side], 8) == 0
+}
+
+/// A level in the market's range, of 1 to 255 orders that have between 1 and 999,999,999 open each.
+fn has_good_best(head: &[u8], side: usize) -> bool {
+    best(head, side).is_some_and(|level| {
+        level.yield_thousandths.abs() <= 999_999_999
+            && (level.orders..=level.orders * 999_999_999).contains(&level.total)
+    })
 }
 
 /// The market that a table is, if it is one.
@@ -90,7 +171,24 @@ fn put_heading(record: &mut [u8], market: &Market) {
         record[heading::IN_WORK] = work.order as u8 + 1;
         put_text(record, heading::SENDING_TIME, &work.sending_time);
         record[heading::DECIDED] = u8::from(work.is_decided);
+    } else {
+        put_best(record, 0, market.levels(Side::Buy).first());
+        put_best(record, 1, market.levels(Side::Sell).first());
     }
+}
+
+/// The best level of a side, 0 for buys and 1 for sells.
+fn put_best(record: &mut [u8], side: usize, level: Option<&Level>) {
+    if let Some(level) = level {
+        record[heading::BEST_ORDERS[side]] = level.orders as u8;
+        put_level(record, heading::BEST_LEVEL[side], level.yield_thousandths);
+        put_number(record, heading::BEST_TOTAL[side], 8, level.total);
+    }
+}
+
+/// A yield as a level.
+fn put_level(record: &mut [u8], at: usize, yield_thousandths: i64) {
+    put_number(record, at, 4, (ZERO_LEVEL + i128::from(yield_thousandths)) as u64);
 }
 
 fn put_order(record: &mut [u8], order: &Order) {
@@ -101,7 +199,7 @@ fn put_order(record: &mut [u8], order: &Order) {
     record[record::CAPACITY] = order.capacity;
     record[record::CLASSIFICATION] = order.classification - b'0';
     let sum_of_levels = order.sum + i128::from(order.executed) * ZERO_LEVEL;
-    put_number(record, record::LEVEL, 4, (ZERO_LEVEL + i128::from(order.yield_thousandths)) as u64);
+    put_level(record, record::LEVEL, order.yield_thousandths);
     put_number(record, record::SUM, 8, sum_of_levels as u64);
     for (at, number) in [
         (record::ORDER_QTY, order.order_qty),

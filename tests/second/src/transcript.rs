@@ -1,11 +1,13 @@
 //! Command files and their transcripts; the format is written down in tests/vectors/README.md.
 
 use std::fmt;
+use std::num::TryFromIntError;
 
 use crate::copy::{copy, Copied, Feed};
 use crate::escape::{escaped, unescaped};
-use crate::market::{Market, Participant, Ran, Refusal, Submitted, FREE};
+use crate::market::{Level, Market, Participant, Ran, Refusal, Submitted, FREE};
 use crate::read::{read, read_copy, Report};
+use crate::table::{bytes as bytes_of, market as market_of, top, TABLE};
 
 /// The longest line of a command file, in characters.
 pub const LONGEST_LINE: usize = 8192;
@@ -20,6 +22,8 @@ pub enum Command {
     Submit { area: usize, message: Vec<u8> },
     Run { area: usize, budget: u64 },
     Depth { side: u64, k: u64 },
+    Top { side: u64 },
+    PutByte { at: usize, byte: u8 },
     Read { report: Vec<u8> },
     Copy { feed: Feed, area: usize, report: Vec<u8> },
     ReadCopy { copy: Vec<u8> },
@@ -43,6 +47,10 @@ impl Command {
             }),
             ("s", [size, message]) => Ok(Command::Submit { area: area(size)?, message: bytes(message)? }),
             ("r", [size, budget]) => Ok(Command::Run { area: area(size)?, budget: decimal(budget)? }),
+            ("b", [at, byte]) => {
+                Ok(Command::PutByte { at: place(at)?, byte: decimal(byte)?.try_into().map_err(no_byte)? })
+            }
+            ("t", [side]) => Ok(Command::Top { side: decimal(side)? }),
             ("d", [side, k]) => Ok(Command::Depth { side: decimal(side)?, k: decimal(k)? }),
             ("x", [report]) => Ok(Command::Read { report: bytes(report)? }),
             ("c", [setting @ .., size, report]) => {
@@ -65,6 +73,8 @@ impl fmt::Display for Command {
             Command::Submit { area, message } => write!(out, "s {area};{}", escaped(message)),
             Command::Run { area, budget } => write!(out, "r {area};{budget}"),
             Command::Depth { side, k } => write!(out, "d {side};{k}"),
+            Command::Top { side } => write!(out, "t {side}"),
+            Command::PutByte { at, byte } => write!(out, "b {at};{byte}"),
             Command::Read { report } => write!(out, "x {}", escaped(report)),
             Command::Copy { feed: Feed { subscription, shows, port, group, next }, area, report } => {
                 write!(out, "c {subscription};{shows};{};{};", escaped(port), escaped(group))?;
@@ -89,6 +99,15 @@ fn area(text: &str) -> Result<usize, String> {
     usize::try_from(size).ok().filter(|&size| size <= LARGEST_AREA).ok_or_else(|| format!("not an area: {text}"))
 }
 
+fn place(text: &str) -> Result<usize, String> {
+    let at = decimal(text)?;
+    usize::try_from(at).ok().filter(|&at| at < TABLE).ok_or_else(|| format!("not a place in a table: {text}"))
+}
+
+fn no_byte(_: TryFromIntError) -> String {
+    "not a byte".to_string()
+}
+
 fn participant(text: &str) -> Result<Participant, String> {
     let (mpid, mode) = text.split_once(':').ok_or_else(|| format!("not an MPID and its mode: {text}"))?;
     Ok(Participant { mpid: decimal(mpid)?, mode: decimal(mode)? })
@@ -107,16 +126,22 @@ fn feed(setting: &[&str]) -> Result<Feed, String> {
     })
 }
 
-/// The market in use. Before the first accepted Open there is none, which is answered like a table that is not a
-/// market.
-#[derive(Clone, Debug, Default)]
+/// The market in use, or the table in use that is none: zeros before the first accepted Open, or what a byte changed.
+#[derive(Clone, Debug)]
 pub struct Desk {
     market: Option<Market>,
+    no_market: Vec<u8>,
+}
+
+impl Default for Desk {
+    fn default() -> Desk {
+        Desk::new()
+    }
 }
 
 impl Desk {
     pub fn new() -> Desk {
-        Desk::default()
+        Desk { market: None, no_market: vec![0; TABLE] }
     }
 
     pub fn market(&self) -> Option<&Market> {
@@ -132,7 +157,9 @@ impl Desk {
             }
             Command::Submit { area, message } => submit_line(&self.submit(message, *area)),
             Command::Run { area, budget } => run_line(&self.run(*area, *budget)),
-            Command::Depth { side, k } => self.depth_line(*side, *k),
+            Command::Depth { side, k } => level_line("d", self.depth(*side, *k)),
+            Command::Top { side } => level_line("t", top(&self.table(), *side)),
+            Command::PutByte { at, byte } => format!("b {}", self.put_byte(*at, *byte)),
             Command::Read { report } => read_line("x", read(report)),
             Command::Copy { feed, area, report } => copy_line(&copy(feed, *area, report)),
             Command::ReadCopy { copy } => read_line("y", read_copy(copy)),
@@ -164,16 +191,31 @@ impl Desk {
         }
     }
 
-    fn depth_line(&self, side: u64, k: u64) -> String {
-        let depth = match &self.market {
-            Some(market) => market.depth(side, k),
-            None => Err(Refusal::NotAMarket),
-        };
-        match depth {
-            Ok(Some(level)) => format!("d 0 1 {} {} {}", level.yield_thousandths, level.total, level.orders),
-            Ok(None) => "d 0 0 0 0 0".to_string(),
-            Err(refusal) => format!("d {} 0 0 0 0", refusal.number()),
-        }
+    fn depth(&self, side: u64, k: u64) -> Result<Option<Level>, Refusal> {
+        self.market.as_ref().ok_or(Refusal::NotAMarket)?.depth(side, k)
+    }
+
+    /// The table in use.
+    pub fn table(&self) -> Vec<u8> {
+        self.market.as_ref().map_or_else(|| self.no_market.clone(), bytes_of)
+    }
+
+    /// Puts a byte into the table, whatever comes of it, and gives the one that was there.
+    pub fn put_byte(&mut self, at: usize, byte: u8) -> u8 {
+        let mut table = self.table();
+        let before = std::mem::replace(&mut table[at], byte);
+        self.market = market_of(&table);
+        self.no_market = table;
+        before
+    }
+}
+
+/// The line of a level asked for by Depth (`d`) or as the best one (`t`).
+fn level_line(letter: &str, level: Result<Option<Level>, Refusal>) -> String {
+    match level {
+        Ok(Some(level)) => format!("{letter} 0 1 {} {} {}", level.yield_thousandths, level.total, level.orders),
+        Ok(None) => format!("{letter} 0 0 0 0 0"),
+        Err(refusal) => format!("{letter} {} 0 0 0 0", refusal.number()),
     }
 }
 

@@ -5,6 +5,7 @@
 //! what is open is the market's own. Two feeds are handed the same reports, and their copies tallied in the same way.
 
 use std::collections::{BTreeMap, BTreeSet};
+use std::sync::OnceLock;
 
 use second::copy::{copy, Feed};
 use second::generate::generate;
@@ -12,6 +13,7 @@ use second::market::Market;
 use second::order::{Order, Side, TimeInForce};
 use second::read::{read, read_copy, Kind, Report};
 use second::report::{split_reports, LONGEST_REPORT};
+use second::table::{bytes, top};
 use second::transcript::{Command, Desk};
 
 /// Seeds and sizes of the histories; the second is long enough for full tables.
@@ -175,9 +177,11 @@ fn open_orders(market: &Market, side: Side) -> Vec<&Order> {
     market.orders().iter().filter(|order| order.side == side && order.open() > 0).collect()
 }
 
-/// Depth's levels hold what is open, level by level from the best, and nothing else.
+/// Depth's levels hold what is open, level by level from the best, and nothing else; the first is that of the heading.
 fn assert_depth_adds_up(market: &Market) {
+    let table = bytes(market);
     for (number, side) in [(1, Side::Buy), (2, Side::Sell)] {
+        assert_eq!(top(&table, number), market.depth(number, 0));
         let mut open = open_orders(market, side);
         let mut last: Option<i64> = None;
         for k in 0.. {
@@ -266,6 +270,7 @@ struct History {
     full: BackOffice,
     steps_left: u64,
     taken: Option<Market>,
+    is_forged: bool,
 }
 
 impl History {
@@ -277,6 +282,7 @@ impl History {
             full: BackOffice::new(2),
             steps_left: 0,
             taken: None,
+            is_forged: false,
         }
     }
 
@@ -288,6 +294,8 @@ impl History {
     fn play(&mut self, command: &Command) {
         let before = self.desk.market().cloned();
         match command {
+            Command::PutByte { .. } => self.play_forged(command),
+            _ if self.is_forged => self.play_forged(command),
             Command::Open { .. } => {
                 if self.desk.answer(command) == "o 0" {
                     *self = History { desk: self.desk.clone(), ..History::new() };
@@ -297,13 +305,28 @@ impl History {
             }
             Command::Submit { area, message } => self.play_submit(before.as_ref(), message, *area),
             Command::Run { area, budget } => self.play_run(before.as_ref(), *area, *budget),
-            Command::Depth { .. } | Command::Read { .. } | Command::Copy { .. } | Command::ReadCopy { .. } => {
+            Command::Depth { .. }
+            | Command::Top { .. }
+            | Command::Read { .. }
+            | Command::Copy { .. }
+            | Command::ReadCopy { .. } => {
                 self.desk.answer(command);
                 assert_eq!(self.desk.market(), before.as_ref());
             }
         }
-        if self.desk.market().is_some() {
+        if self.desk.market().is_some() && !self.is_forged {
             self.look();
+        }
+    }
+
+    /// Plays a call on a table in which a byte was changed. Nothing comes of it: the next byte put is the one before.
+    fn play_forged(&mut self, command: &Command) {
+        let table = self.desk.table();
+        self.desk.answer(command);
+        if matches!(command, Command::PutByte { .. }) {
+            self.is_forged = !self.is_forged;
+        } else {
+            assert_eq!(self.desk.table(), table);
         }
     }
 
@@ -390,6 +413,12 @@ impl History {
     }
 }
 
+/// The commands of the histories, made once.
+fn histories() -> &'static [Vec<Command>] {
+    static MADE: OnceLock<Vec<Vec<Command>>> = OnceLock::new();
+    MADE.get_or_init(|| HISTORIES.iter().map(|&(seed, count)| commands(seed, count)).collect())
+}
+
 fn commands(seed: u64, count: u64) -> Vec<Command> {
     let lines = generate(seed, count);
     lines.iter().filter(|line| !line.starts_with('#')).map(|line| Command::parse(line).unwrap()).collect()
@@ -397,10 +426,10 @@ fn commands(seed: u64, count: u64) -> Vec<Command> {
 
 #[test]
 fn demand_3_and_the_feeds_accounts_hold_after_every_call_of_generated_histories() {
-    for (seed, count) in HISTORIES {
+    for commands in histories() {
         let mut history = History::new();
-        for command in commands(seed, count) {
-            history.play(&command);
+        for command in commands {
+            history.play(command);
         }
     }
 }
@@ -409,9 +438,9 @@ fn demand_3_and_the_feeds_accounts_hold_after_every_call_of_generated_histories(
 fn a_generated_history_meets_every_outcome() {
     let mut desk = Desk::new();
     let mut answers: BTreeMap<String, u64> = BTreeMap::new();
-    for (seed, count) in HISTORIES {
-        for command in commands(seed, count) {
-            let answer = desk.answer(&command);
+    for commands in histories() {
+        for command in commands {
+            let answer = desk.answer(command);
             let is_read = answer.starts_with("x 0") || answer.starts_with("y 0");
             let words: Vec<&str> = answer.split(' ').take(if is_read { 3 } else { 2 }).collect();
             *answers.entry(words.join(" ")).or_default() += 1;
@@ -424,10 +453,11 @@ fn a_generated_history_meets_every_outcome() {
         }
     }
     for outcome in [
-        "o 0", "o 9", "s 0", "s 1", "s 3", "s 4", "s 5", "s 6", "s 7", "s 8", "r 0", "r 1", "d 0", "d 3", "d 10",
-        "x 11", "x 0 1", "x 0 2", "x 0 3", "x 0 4", "x 0 5", "x 0 6", "x 0 7", "103=0", "103=1", "103=6", "103=99",
-        "102=0", "102=1", "102=2", "373=1", "373=2", "373=3", "373=4", "373=5", "373=6", "373=9", "373=11", "378=99",
-        "371=110", "378=100", "c 0", "c 1", "c 4", "c 11", "c 17", "y 11", "y 0 1", "y 0 2", "y 0 3", "y 0 4",
+        "o 0", "o 9", "s 0", "s 1", "s 2", "s 3", "s 4", "s 5", "s 6", "s 7", "s 8", "r 0", "r 1", "r 2", "d 0", "d 2",
+        "d 3", "d 10", "t 0", "t 2", "t 3", "t 10", "x 11", "x 0 1", "x 0 2", "x 0 3", "x 0 4", "x 0 5", "x 0 6",
+        "x 0 7", "103=0", "103=1", "103=6", "103=99", "102=0", "102=1", "102=2", "373=1", "373=2", "373=3", "373=4",
+        "373=5", "373=6", "373=9", "373=11", "378=99", "371=110", "378=100", "c 0", "c 1", "c 4", "c 11", "c 17",
+        "y 11", "y 0 1", "y 0 2", "y 0 3", "y 0 4",
     ] {
         assert!(answers.contains_key(outcome), "{outcome} never came up");
     }
@@ -488,8 +518,7 @@ fn ends_of_minimums(commands: &[Command]) -> BTreeMap<(u64, bool), u64> {
 
 #[test]
 fn generated_minimums_are_reached_and_missed_in_all_three_modes() {
-    let all: Vec<Command> = HISTORIES.iter().flat_map(|&(seed, count)| commands(seed, count)).collect();
-    let ends = ends_of_minimums(&all);
+    let ends = ends_of_minimums(&histories().concat());
     for mode in 0..=3 {
         for is_killed in [false, true] {
             let count = ends.get(&(mode, is_killed)).copied().unwrap_or(0);
@@ -502,9 +531,9 @@ fn generated_minimums_are_reached_and_missed_in_all_three_modes() {
 fn generated_days_have_more_orders_than_a_table_has_room_for() {
     let (mut taken_over, mut gone_before) = (0, BTreeSet::new());
     let mut desk = Desk::new();
-    for command in commands(HISTORIES[1].0, HISTORIES[1].1) {
+    for command in &histories()[1] {
         let before = desk.market().map_or(Vec::new(), |market| market.orders().to_vec());
-        let is_new = desk.answer(&command).starts_with("s 0") && before.len() == 255;
+        let is_new = desk.answer(command).starts_with("s 0") && before.len() == 255;
         let after = desk.market().map_or(&[][..], Market::orders);
         for (old, new) in before.iter().zip(after).filter(|(old, new)| is_new && old.order_id != new.order_id) {
             taken_over += 1;
@@ -512,7 +541,7 @@ fn generated_days_have_more_orders_than_a_table_has_room_for() {
             assert_eq!((old.open(), new.open()), (0, new.order_qty));
         }
     }
-    assert!(taken_over >= 100 && gone_before.len() >= 4, "{taken_over} taken over: {gone_before:?}");
+    assert!(taken_over >= 50 && gone_before.len() >= 3, "{taken_over} taken over: {gone_before:?}");
 }
 
 /// Whether an open order of the same side and yield stands behind this one.
@@ -525,9 +554,9 @@ fn has_one_behind(market: &Market, order: &Order) -> bool {
 fn generated_histories_reduce_and_raise_orders_that_others_stand_behind() {
     let (mut kept, mut lost) = (0, 0);
     let mut desk = Desk::new();
-    for command in HISTORIES.iter().flat_map(|&(seed, count)| commands(seed, count)) {
+    for command in histories().iter().flatten() {
         let before = desk.market().cloned();
-        let answer = desk.answer(&command);
+        let answer = desk.answer(command);
         let (Some(before), Some(after), true) = (before, desk.market(), answer.contains("|150=5|")) else { continue };
         for (old, new) in before.orders().iter().zip(after.orders()) {
             if old.cl_ord_id != new.cl_ord_id && has_one_behind(&before, old) {

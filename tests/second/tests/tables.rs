@@ -2,8 +2,8 @@
 
 use second::compose::{new_order, order, order_of, replace, Draft};
 use second::generate::generate;
-use second::market::{Market, Participant};
-use second::table::{bytes, market, RECORD, TABLE};
+use second::market::{Level, Market, Participant, Refusal};
+use second::table::{bytes, market, top, RECORD, TABLE};
 use second::transcript::{Command, Desk};
 
 /// Venue V, port P, code 350 from number 1, with MPIDs 10 to 14 all in one mode.
@@ -164,7 +164,7 @@ fn a_minimum_out_of_its_rules_is_no_market() {
         assert!(!is_market(&forged(&table, place(5, at), &[1])), "byte {at} is unused");
     }
     for at in (97..RECORD).chain([55]) {
-        assert!(!is_market(&forged(&table, at, &[1])), "byte {at} of the heading is unused");
+        assert!(!is_market(&forged(&table, at, &[1])), "byte {at} of the heading is zero while an order is in work");
     }
 }
 
@@ -176,7 +176,7 @@ fn orders_that_do_not_stay_are_open_only_in_work() {
     for time_in_force in [3, 4] {
         assert!(!is_market(&forged(&table, place(1, 45), &[time_in_force])));
         let dead = forged(&forged(&table, place(1, 45), &[time_in_force]), place(1, 80), &[100]);
-        assert!(is_market(&dead));
+        assert!(!is_market(&dead) && is_market(&forged(&dead, 97, &[0; RECORD - 97])), "no level is left");
     }
     submit(&mut known, &replace("a", "b", "1", "100", "0.1"));
     for time_in_force in [3, 4] {
@@ -295,8 +295,8 @@ fn rules_of_a_market_one_by_one() {
     for (table, at, with, what) in [
         (&idle, 28, four(1_000_000_000), "the last next number"),
         (&in_work, 28, four(999_999_997), "numbers that suffice"),
-        (&idle, place(1, 80), four(6), "all that was open canceled"),
-        (&idle, place(1, 76), four(6), "all that was open decremented"),
+        (&in_work, place(1, 80), four(6), "all that was open canceled"),
+        (&in_work, place(1, 76), four(6), "all that was open decremented"),
         (&idle, place(1, 60), four(14), "another MPID that is listed"),
         (&idle, place(1, 84), four(3), "another OrderID, of no Accepted report"),
         (&idle, place(1, 56), four(4), "a place that is not the OrderID"),
@@ -305,4 +305,147 @@ fn rules_of_a_market_one_by_one() {
         assert!(is_market(&forged(table, at, &with)), "{what}");
     }
     assert!(!is_market(&idle[..TABLE - 1]) && !is_market(&[&idle[..], b"\x00"].concat()) && !is_market(&[0; TABLE]));
+}
+
+/// A sell of 6 at 0.100 and two buys of 7 and 8 at 0.200.
+fn two_levels() -> Market {
+    let mut known = opened(1);
+    for (id, side, quantity, at) in [("s", "2", "6", "0.1"), ("b", "1", "7", "0.2"), ("c", "1", "8", "0.2")] {
+        play(&mut known, &order(id, side, quantity, at));
+    }
+    known
+}
+
+#[test]
+fn best_levels_stand_in_the_heading_while_nothing_is_in_work() {
+    let mut known = two_levels();
+    let table = bytes(&known);
+    assert_eq!(&table[96..100], [0, 2, 1, 0]);
+    assert_eq!(
+        &table[100..112],
+        [&1_000_000_200_u32.to_le_bytes()[..], &1_000_000_100_u32.to_le_bytes(), &[0; 4]].concat()
+    );
+    assert_eq!(&table[112..128], [15_u64.to_le_bytes(), 6_u64.to_le_bytes()].concat());
+    submit(&mut known, &order("d", "1", "7", "0.3"));
+    assert!(bytes(&known)[96..128].iter().all(|&byte| byte == 0));
+    known.run(1024, 1);
+    assert_eq!(&bytes(&known)[97..RECORD], &table[97..RECORD]);
+}
+
+#[test]
+fn best_levels_that_do_not_agree_are_no_market_and_are_answered() {
+    let table = bytes(&two_levels());
+    let level = |at, total, orders| Ok(Some(Level { yield_thousandths: at, total, orders }));
+    let four = |number: u32| number.to_le_bytes().to_vec();
+    let eight = |number: u64| number.to_le_bytes().to_vec();
+    assert_eq!((top(&table, 1), top(&table, 2)), (level(200, 15, 2), level(100, 6, 1)));
+    for (at, with, side, says) in [
+        (97, vec![1], 1, level(200, 15, 1)),
+        (97, vec![15], 1, level(200, 15, 15)),
+        (98, vec![6], 2, level(100, 6, 6)),
+        (100, four(1), 1, level(-999_999_999, 15, 2)),
+        (100, four(1_999_999_999), 1, level(999_999_999, 15, 2)),
+        (104, four(1_000_000_000), 2, level(0, 6, 1)),
+        (112, eight(2), 1, level(200, 2, 2)),
+        (112, eight(1_999_999_998), 1, level(200, 1_999_999_998, 2)),
+        (120, eight(1), 2, level(100, 1, 1)),
+        (120, eight(999_999_999), 2, level(100, 999_999_999, 1)),
+        (98, [vec![0, 0], four(1_000_000_200), four(0)].concat(), 2, Err(Refusal::NotAMarket)),
+    ] {
+        let table = forged(&table, at, &with);
+        assert!(!is_market(&table));
+        assert_eq!(top(&table, side), says, "{at}: {with:?}");
+    }
+    let no_buys =
+        [(97, 0), (112, 0)].iter().fold(forged(&table, 100, &[0; 4]), |t, &(at, with)| forged(&t, at, &[with]));
+    assert!(!is_market(&no_buys));
+    assert_eq!((top(&no_buys, 1), top(&no_buys, 2)), (Ok(None), level(100, 6, 1)));
+    let empty = bytes(&opened(1));
+    let orders = [(97, vec![255]), (100, four(1)), (112, eight(254_999_999_745))];
+    let full = orders.iter().fold(empty, |table, (at, with)| forged(&table, *at, with));
+    assert_eq!(top(&full, 1), level(-999_999_999, 254_999_999_745, 255));
+}
+
+#[test]
+fn a_heading_out_of_range_has_no_top() {
+    let table = bytes(&two_levels());
+    let four = |number: u32| number.to_le_bytes().to_vec();
+    let eight = |number: u64| number.to_le_bytes().to_vec();
+    for (at, with, what) in [
+        (0, vec![0], "a venue of no character"),
+        (0, vec![9], "a venue of 9"),
+        (0, vec![255], "a venue of 255"),
+        (1, vec![32], "a space in the venue"),
+        (8, vec![65], "a byte behind the venue"),
+        (9, vec![2], "a port with a zero byte"),
+        (17, vec![65], "a byte behind the port"),
+        (18, vec![10], "a code of 10"),
+        (19, vec![58], "no digit in the code"),
+        (27, vec![48], "a byte behind the code"),
+        (28, four(0), "next number 0"),
+        (28, four(1_000_000_001), "next number too high"),
+        (33, vec![17], "a time with nothing in work"),
+        (54, vec![48], "a byte of a time"),
+        (32, vec![1], "in work without a time, with best levels"),
+        (55, vec![1], "byte 55"),
+        (56, four(0), "no MPID first"),
+        (56, four(1_000_000), "an MPID too high"),
+        (60, four(10), "an MPID twice"),
+        (80, four(5), "an MPID behind a gap"),
+        (88, vec![0], "no mode"),
+        (88, vec![4], "mode 4"),
+        (93, vec![1], "a mode without an MPID"),
+        (96, vec![1], "a decision with nothing in work"),
+        (96, vec![2], "decision 2"),
+        (97, vec![0], "no orders on a level"),
+        (97, vec![16], "more orders than the total"),
+        (99, vec![1], "byte 99"),
+        (100, four(0), "level 0 with orders"),
+        (100, four(2_000_000_000), "a level too high"),
+        (104, four(u32::MAX), "a level far too high"),
+        (108, vec![1], "byte 108"),
+        (111, vec![1], "byte 111"),
+        (112, eight(1), "less than one a order"),
+        (112, eight(1_999_999_999), "more than two orders can have open"),
+        (112, eight(u64::MAX), "a total far too high"),
+        (120, eight(0), "a total of 0"),
+        (120, eight(1_000_000_000), "more than one order can have open"),
+    ] {
+        for side in [1, 2, 3] {
+            assert_eq!(top(&forged(&table, at, &with), side), Err(Refusal::NotAMarket), "{what}");
+        }
+        assert!(!is_market(&forged(&table, at, &with)), "{what}");
+    }
+    for length in [0, 1, RECORD - 1, RECORD, TABLE - 1, TABLE + 1] {
+        let other: Vec<u8> = table.iter().copied().chain([0]).take(length).collect();
+        assert_eq!(top(&other, 1), Err(Refusal::NotAMarket));
+    }
+    assert_eq!(top(&[0; TABLE], 1), Err(Refusal::NotAMarket));
+}
+
+#[test]
+fn top_looks_at_the_heading_alone() {
+    let table = bytes(&two_levels());
+    for (at, with) in [(place(1, 0), 0), (place(1, 44), 7), (place(1, 80), 3), (place(4, 0), 1), (TABLE - 1, 255)] {
+        let table = forged(&table, at, &[with]);
+        assert!(!is_market(&table));
+        assert_eq!(top(&table, 2), Ok(Some(Level { yield_thousandths: 100, total: 6, orders: 1 })));
+        assert_eq!(top(&table, 3), Err(Refusal::SideWrong));
+    }
+    let mut known = two_levels();
+    submit(&mut known, &order("d", "1", "7", "0.3"));
+    let in_work = bytes(&known);
+    for record in [1, 3, 4, 5, 255] {
+        let table = forged(&in_work, 32, &[record]);
+        assert_eq!(is_market(&table), record <= 4);
+        assert_eq!(top(&table, 1), Err(Refusal::OrderInWork));
+        assert_eq!(top(&table, 3), Err(Refusal::OrderInWork));
+        assert_eq!(top(&forged(&table, 96, &[1]), 1), Err(Refusal::OrderInWork), "no minimum can be seen in a heading");
+        assert_eq!(top(&forged(&table, 96, &[2]), 1), Err(Refusal::NotAMarket));
+        let best = [(97, vec![1]), (100, vec![1]), (112, vec![1])];
+        let best = best.iter().fold(table.clone(), |table, (at, with)| forged(&table, *at, with));
+        assert_eq!(top(&best, 1), Err(Refusal::NotAMarket), "a best level while an order is in work");
+    }
+    let late = forged(&in_work, 34, b"20261116-09:00:60");
+    assert_eq!((top(&late, 1), is_market(&late)), (Err(Refusal::NotAMarket), false));
 }

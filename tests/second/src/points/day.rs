@@ -30,6 +30,7 @@ fn fill(script: &mut Script) {
         script.level(2, k, level as i64 * 100, orders, orders);
     }
     script.no_level(2, 7);
+    script.top(2, 700, 36, 36);
 }
 
 /// Runs the buy, OrderID 262, against the 254 sells other than 100, 25 steps at a time: each is canceled, from the

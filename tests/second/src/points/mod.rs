@@ -19,6 +19,8 @@ pub mod day;
 
 pub mod feeds;
 
+pub mod forged;
+
 pub mod messages;
 
 pub mod minimums;
@@ -34,6 +36,8 @@ pub mod reports;
 pub mod running;
 
 pub mod session;
+
+pub mod top;
 
 pub mod turns;
 
@@ -193,6 +197,24 @@ points! {
         spent_numbers_stop_submit_only
         limits_of_open
         a_refused_open_changes_nothing
+    }
+    top {
+        refusals_of_top_come_in_the_order_of_their_numbers
+        top_is_the_lowest_buy_and_the_highest_sell
+        top_after_each_thing_that_happens
+        top_after_what_changes_nothing
+        top_of_large_levels_and_far_yields
+    }
+    forged {
+        bytes_stand_at_their_places
+        no_market_whatever_the_call
+        headings_that_are_none
+        best_levels_that_are_not_the_books
+        decisions_without_cause
+        minimums_out_of_their_rules
+        records_that_are_none
+        changed_tables_that_are_a_market
+        numbers_that_do_not_suffice
     }
     reports {
         whole_bytes_of_each_kind

@@ -12,6 +12,8 @@ pub fn before_open_submit_run_and_depth_are_refused_as_no_market(script: &mut Sc
     script.run_refused(1023, 1, 1);
     script.depth_refused(1, 0, 2);
     script.depth_refused(3, 0, 2);
+    script.top_refused(1, 2);
+    script.top_refused(3, 2);
     script.say("Refusal 9 here leaves no market behind");
     script.open_with(["V", "P", "350"], 0, &[(10, 1)], 9);
     script.depth_refused(1, 0, 2);

@@ -10,17 +10,9 @@ part-at-requires c κs = search needs
 all-zero-requires : tie.Need-all-zero-requires
 all-zero-requires c κs = search needs
 
-part-at-requires-2 : tie.Need-part-at-requires-2
-part-at-requires-2 c κs = search needs
-
-all-zero-requires-2 : tie.Need-all-zero-requires-2
-all-zero-requires-2 c κs = search needs
-
 returns : tie.Need-returns
 unfolding hasSpare
 returns c = cc
 
 pub has-spare-spec : {M : Type 1} → statement M
-has-spare-spec =
-    tie.close
-    (tie.spec part-at-requires all-zero-requires part-at-requires-2 all-zero-requires-2 returns)
+has-spare-spec = tie.close (tie.spec part-at-requires all-zero-requires returns)

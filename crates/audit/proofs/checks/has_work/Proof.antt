@@ -1,5 +1,5 @@
 -- `audit::has_work` meets its contract.
-use Rattle.audit.proofs.Checked.{work-none, work-some}
+use Rattle.audit.proofs.Checked.{work-is}
 use borrow.Author.Needs.{needs}
 use Rattle.audit.proofs.checks.has_work.Statement.{statement}
 use Rattle.audit.proofs.checks.has_work.Tie as tie
@@ -7,56 +7,11 @@ use Rattle.audit.proofs.checks.has_work.Tie as tie
 work-requires : tie.Need-work-requires
 work-requires c κs = search needs
 
-part-at-requires : tie.Need-part-at-requires
-part-at-requires c κs = search needs
-
-all-zero-requires : tie.Need-all-zero-requires
-all-zero-requires c κs = search needs
+has-stamp-requires : tie.Need-has-stamp-requires
+has-stamp-requires c κs = search needs
 
 returns : tie.Need-returns
-returns c = search (needs, work-none)
-
-shared-slice-read-wide : tie.Need-shared-slice-read-wide
-shared-slice-read-wide c = search needs
-
-wide-requires : tie.Need-wide-requires
-wide-requires c κs = search needs
-
-stamp-requires : tie.Need-stamp-requires
-stamp-requires c κs = search needs
-
-is-time-requires : tie.Need-is-time-requires
-is-time-requires c κs = search needs
-
-add-part-at : tie.Need-add-part-at
-add-part-at c = search needs
-
-room-left-requires : tie.Need-room-left-requires
-room-left-requires c κs = search needs
-
-part-at-requires-2 : tie.Need-part-at-requires-2
-part-at-requires-2 c κs = search needs
-
-all-zero-requires-2 : tie.Need-all-zero-requires-2
-all-zero-requires-2 c κs = search needs
-
-returns-2 : tie.Need-returns-2
-returns-2 c = search (needs, work-some)
+returns c = search (needs, work-is)
 
 pub has-work-spec : {M : Type 1} → statement M
-has-work-spec =
-    tie.close
-    (tie.spec
-    work-requires
-    part-at-requires
-    all-zero-requires
-    returns
-    shared-slice-read-wide
-    wide-requires
-    stamp-requires
-    is-time-requires
-    add-part-at
-    room-left-requires
-    part-at-requires-2
-    all-zero-requires-2
-    returns-2)
+has-work-spec = tie.close (tie.spec work-requires has-stamp-requires returns)

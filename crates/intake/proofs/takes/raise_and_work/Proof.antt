@@ -1,4 +1,4 @@
--- `intake::takes::raise_and_work` meets its contract: the number, then the work.
+-- `intake::takes::raise_and_work` meets its contract: the number, then the work, then no best levels.
 use Rattle.intake.proofs.Leaving.{raised-worked, stamp-short}
 use borrow.Author.Needs.{needs}
 use Rattle.intake.proofs.takes.raise_and_work.Statement.{statement}
@@ -16,6 +16,9 @@ text-of-requires c κs = search needs
 put-work-requires : tie.Need-put-work-requires
 put-work-requires c κs = (search needs, search (needs, stamp-short))
 
+clear-best-requires : tie.Need-clear-best-requires
+clear-best-requires c κs = search needs
+
 same-length : tie.Need-same-length
 same-length c = search needs
 
@@ -30,5 +33,6 @@ raise-and-work-spec =
     cast-put-work
     text-of-requires
     put-work-requires
+    clear-best-requires
     same-length
     returns)

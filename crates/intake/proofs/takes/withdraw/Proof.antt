@@ -1,4 +1,4 @@
--- `intake::takes::withdraw` meets its contract: the record, its report and the next number.
+-- `intake::takes::withdraw` meets its contract: the record, its report, the next number and the best levels.
 use Rattle.intake.proofs.Doing.{canceled-some, canceled-few, canceled-id-short, withdraw-due, withdraw-told, withdrawn-long}
 use Rattle.intake.proofs.Leaving.{withdraw-left}
 use borrow.Author.Needs.{needs}
@@ -31,8 +31,8 @@ tell-requires c κs =
       search needs,
     )
 
-raise-requires : tie.Need-raise-requires
-raise-requires c κs =
+raise-and-best-requires : tie.Need-raise-and-best-requires
+raise-and-best-requires c κs =
     let wrote = c .before .before .before .before .before .before .before .before .before in
     withdrawn-long _ _ _ _ (wrote .before .before .before .before .before .before .before .before .before .before .pre .0 .market .long) (wrote .withdraw .ensures)
 
@@ -55,7 +55,7 @@ withdraw-spec =
     withdraw-requires
     cause-with-requires
     tell-requires
-    raise-requires
+    raise-and-best-requires
     same-length
     same-length-2
     returns)

@@ -10,6 +10,9 @@ put-next-requires c κs = search needs
 end-work-requires : tie.Need-end-work-requires
 end-work-requires c κs = search needs
 
+put-best-requires : tie.Need-put-best-requires
+put-best-requires c κs = search needs
+
 same-length : tie.Need-same-length
 same-length c = search needs
 
@@ -28,4 +31,4 @@ returns-2 c = search (needs, finish-goes)
 pub finish-spec : {M : Type 1} → statement M
 finish-spec =
     tie.close
-    (tie.spec put-next-requires end-work-requires put-decided-requires same-length returns same-length-2 returns-2)
+    (tie.spec put-next-requires end-work-requires put-best-requires put-decided-requires same-length returns same-length-2 returns-2)
