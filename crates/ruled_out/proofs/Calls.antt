@@ -36,7 +36,7 @@ use Rattle.kamurjesh.specs.Numbers.{yieldOf}
 use lib.IntN.{pos}
 use Rattle.market.specs.Depth.{depthAnswer, depthNumber}
 use Rattle.octets.specs.Characters.{message}
-use Rattle.ruled_out.proofs.Books.{fresh, bookR, bookLeast, bookKill, full, left, over}
+use Rattle.clauses.proofs.Books.{fresh, bookR, bookLeast, bookKill, full, left, over}
 
 -- opens all definitions that a call on a table comes to
 pub computes : ℕ

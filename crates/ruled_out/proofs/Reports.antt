@@ -38,7 +38,7 @@ use Rattle.readback.specs.Says.{says}
 use Rattle.report.specs.declared.Part.the-variants.{Nowhere}
 use Rattle.calls.specs.Read.{readNumber}
 use Rattle.octets.specs.Characters.{message}
-use Rattle.ruled_out.proofs.Books.{fresh, bookR, mixed, bookLeast, bookKill}
+use Rattle.clauses.proofs.Books.{fresh, bookR, mixed, bookLeast, bookKill}
 
 -- opens all definitions
 computes : ℕ

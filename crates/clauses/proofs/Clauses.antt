@@ -17,7 +17,7 @@ use Rattle.table.specs.Market.{every, isPadded, isText, hasLength, hasNames, is
 use Rattle.table.specs.Best.{bestOn, ordersBytes, levelsBytes, totalsBytes, bestRow, bookRow, bestDue, putBest, clearBest}
 use Rattle.table.specs.Opened.{namedTable, freshTable}
 use Rattle.octets.specs.Characters.{message}
-use Rattle.ruled_out.proofs.Books.{fresh, bookR, mixed, bookLeast, bookKill, rested, largest}
+use Rattle.clauses.proofs.Books.{fresh, bookR, mixed, bookLeast, bookKill, rested, largest}
 
 -- opens all definitions
 computes : ℕ
