@@ -2,14 +2,16 @@
  * takes the difference, so that preparing costs nothing. Exit status 1 where a call answers something else than the scenario means,
  * 2 if there is no such scenario.
  *
- * Open orders of a scenario with N open are sells at N yields, all different, but in depth, where they are 127 buys and 128 sells. */
+ * Open orders of a scenario with N open are sells at N yields, all different, but in depth, where they are 127 buys and 128 sells. The
+ * name of a scenario with equities- before it is that scenario on an equities market. */
 #include <stdio.h>
 #include <stdlib.h>
 #include <string.h>
 
-#include "kamurjesh.h"
+#include "calls.h"
 #include "messages.h"
 
+static const struct calls *market = &bond_calls;
 static uint8_t table[KAMURJESH_TABLE_BYTES];
 static uint8_t area[300000];
 static uint64_t length, bytes, reports, steps;
@@ -25,8 +27,9 @@ static uint64_t open_with(uint64_t mode)
 {
     static const uint64_t mpids[] = {10, 11, 12, 13, 14};
     const uint64_t modes[] = {mode, mode, mode, mode, mode};
-    return kamurjesh_open(table, sizeof table, (const uint8_t *)"V", 1, (const uint8_t *)"P", 1, (const uint8_t *)"350", 3, 1,
-                          mpids, 5, modes, 5);
+    const char *code = market == &bond_calls ? "350" : "7203.T";
+    return market->open(table, sizeof table, (const uint8_t *)"V", 1, (const uint8_t *)"P", 1, (const uint8_t *)code, strlen(code), 1,
+                        mpids, 5, modes, 5);
 }
 
 static uint64_t open_market(void)
@@ -36,12 +39,12 @@ static uint64_t open_market(void)
 
 static uint64_t submit(const struct message *m)
 {
-    return kamurjesh_submit(table, sizeof table, m->bytes, m->length, area, sizeof area, &length);
+    return market->submit(table, sizeof table, m->bytes, m->length, area, sizeof area, &length);
 }
 
 static uint64_t run_steps(uint64_t budget)
 {
-    return kamurjesh_run(table, sizeof table, area, sizeof area, budget, &bytes, &reports, &steps);
+    return market->run(table, sizeof table, area, sizeof area, budget, &bytes, &reports, &steps);
 }
 
 static uint64_t run(void)
@@ -49,13 +52,22 @@ static uint64_t run(void)
     return run_steps(1000);
 }
 
-/* The n-th order of one side: 100 at a yield of its own, with a ClOrdID of 12 characters. */
+/* A Day order at a yield, or on an equities market at a price. */
+static struct message order(const char *id, int side, unsigned long quantity, const char *yield, const char *price, unsigned mpid)
+{
+    return market == &bond_calls ? new_order(id, side, quantity, yield, mpid, '0')
+                                 : share_order(id, side, quantity, price, mpid, '0', 1, 0);
+}
+
+/* The n-th order of one side: 100 at a yield or a price of its own, with a ClOrdID of 12 characters. */
 static struct message nth(unsigned n, int side)
 {
-    char id[32], yield[32];
+    char id[32], yield[32], price[32];
+    unsigned tenths = side == KAMURJESH_SELL ? 5000 - n : n;
     snprintf(id, sizeof id, "ORDER-%06u", n);
     snprintf(yield, sizeof yield, side == KAMURJESH_SELL ? "0.%03u" : "1.%03u", n);
-    return new_order(id, side, 100, yield, side == KAMURJESH_SELL ? 11 : 12, '0');
+    snprintf(price, sizeof price, "%u.%u", tenths / 10, tenths % 10);
+    return order(id, side, 100, yield, price, side == KAMURJESH_SELL ? 11 : 12);
 }
 
 static void enter(struct message m)
@@ -100,7 +112,7 @@ static void running(unsigned n, int calls)
 /* An order that trades with n resting ones and ends. */
 static void sweeping(unsigned n, int calls)
 {
-    struct message m = new_order("SWEEP", KAMURJESH_BUY, 100 * n, "0.000", 12, '0');
+    struct message m = order("SWEEP", KAMURJESH_BUY, 100 * n, "0.000", "500.0", 12);
     must(open_market() == 0);
     enter_sells(1, n);
     must(submit(&m) == 0);
@@ -148,7 +160,7 @@ static void topping(unsigned n, int calls)
     else
         enter_both();
     if (calls)
-        must(kamurjesh_top(table, sizeof table, KAMURJESH_BUY, &found, &yield, &total, &orders) == 0 && found == (n > 0) &&
+        must(market->top(table, sizeof table, KAMURJESH_BUY, &found, &yield, &total, &orders) == 0 && found == (n > 0) &&
              orders == (n > 0));
 }
 
@@ -158,14 +170,14 @@ static void depth(uint64_t k, int calls)
     int64_t yield;
     enter_both();
     if (calls)
-        must(kamurjesh_depth(table, sizeof table, KAMURJESH_BUY, k, &found, &yield, &total, &orders) == 0 && found == 1 &&
+        must(market->depth(table, sizeof table, KAMURJESH_BUY, k, &found, &yield, &total, &orders) == 0 && found == 1 &&
              total == 100 && orders == 1);
 }
 
 /* The second report of a trade: that of the order in work. */
 static const uint8_t *trade_report(size_t *size)
 {
-    struct message m = new_order("BUY", KAMURJESH_BUY, 50, "0.001", 12, '0');
+    struct message m = order("BUY", KAMURJESH_BUY, 50, "0.001", "499.9", 12);
     uint64_t start, digits;
     must(open_market() == 0);
     enter_sells(1, 1);
@@ -183,7 +195,7 @@ static void reading(int calls)
     uint64_t kind;
     const uint8_t *report = trade_report(&size);
     if (calls)
-        must(kamurjesh_read(report, size, &kind) == 0 && kind == KAMURJESH_IS_TRADE);
+        must(market->read(report, size, &kind) == 0 && kind == KAMURJESH_IS_TRADE);
 }
 
 static void finding(int calls)
@@ -203,8 +215,8 @@ static void copying(int calls)
     uint64_t after;
     const uint8_t *report = trade_report(&size);
     if (calls)
-        must(kamurjesh_copy(report, size, KAMURJESH_FULL, KAMURJESH_SHOWS_BOTH, (const uint8_t *)"PORT-1", 6,
-                            (const uint8_t *)"GROUP-7", 7, 1, copy, sizeof copy, &length, &after) == 0 &&
+        must(market->copy(report, size, KAMURJESH_FULL, KAMURJESH_SHOWS_BOTH, (const uint8_t *)"PORT-1", 6, (const uint8_t *)"GROUP-7", 7,
+                          1, copy, sizeof copy, &length, &after) == 0 &&
              length > size && after == 2);
 }
 
@@ -254,7 +266,7 @@ static void checking(unsigned n, int accounts, int calls)
     for (unsigned i = 1; i <= n; i++)
         enter(accounts ? with_account(i) : nth(i, KAMURJESH_SELL));
     if (calls)
-        must(kamurjesh_depth(table, sizeof table, 3, 0, &found, &yield, &total, &orders) == 10);
+        must(market->depth(table, sizeof table, 3, 0, &found, &yield, &total, &orders) == 10);
 }
 
 int main(int count, char **words)
@@ -265,6 +277,11 @@ int main(int count, char **words)
     int calls = words[2][0] == '1';
     unsigned n;
     char rest;
+    if (strncmp(name, "equities-", 9) == 0) {
+        market = &equities_calls;
+        name += 9;
+    }
+    int bonds = market == &bond_calls;
     if (strcmp(name, "open") == 0)
         opening(calls);
     else if (sscanf(name, "submit-%u%c", &n, &rest) == 1 && n <= 254)
@@ -273,13 +290,13 @@ int main(int count, char **words)
         running(n, calls);
     else if (sscanf(name, "sweep-%u%c", &n, &rest) == 1 && n >= 1 && n <= 254)
         sweeping(n, calls);
-    else if (sscanf(name, "first-%u%c", &n, &rest) == 1 && n >= 2 && n <= 254)
+    else if (bonds && sscanf(name, "first-%u%c", &n, &rest) == 1 && n >= 2 && n <= 254)
         deciding(n, 1, 0, calls);
-    else if (sscanf(name, "decide-%u%c", &n, &rest) == 1 && n >= 2 && n <= 254)
+    else if (bonds && sscanf(name, "decide-%u%c", &n, &rest) == 1 && n >= 2 && n <= 254)
         deciding(n, 1, 100 * n, calls);
-    else if (sscanf(name, "decide-oldest-%u%c", &n, &rest) == 1 && n >= 2 && n <= 254)
+    else if (bonds && sscanf(name, "decide-oldest-%u%c", &n, &rest) == 1 && n >= 2 && n <= 254)
         deciding(n, 2, 50 * (n / 2), calls);
-    else if (sscanf(name, "decide-lowered-%u%c", &n, &rest) == 1 && n >= 2 && n <= 254)
+    else if (bonds && sscanf(name, "decide-lowered-%u%c", &n, &rest) == 1 && n >= 2 && n <= 254)
         deciding(n, 3, 50 * (n / 2), calls);
     else if (sscanf(name, "top-%u%c", &n, &rest) == 1 && (n == 0 || n == 255))
         topping(n, calls);
@@ -289,7 +306,7 @@ int main(int count, char **words)
         garbling(n, calls);
     else if (sscanf(name, "check-%u%c", &n, &rest) == 1 && n <= 254)
         checking(n, 0, calls);
-    else if (sscanf(name, "check-accounts-%u%c", &n, &rest) == 1 && n <= 254)
+    else if (bonds && sscanf(name, "check-accounts-%u%c", &n, &rest) == 1 && n <= 254)
         checking(n, 1, calls);
     else if (strcmp(name, "read") == 0)
         reading(calls);

@@ -1,4 +1,5 @@
-/* The rehearsal bond market for C and C++: one bond, one FIX port, up to 255 open orders.
+/* The rehearsal market for C and C++: one bond or one share, one FIX port, up to 255 open orders. The calls for bonds come first, those
+ * for equities, kamurjesh_equities_.., at the end.
  *
  *     rt staticlib kamurjesh
  *     cc -Iinclude -o host examples/host.c target/staticlib/libkamurjesh.a        (on x86-64 Linux)
@@ -37,7 +38,7 @@ enum {
 enum kamurjesh_refusal {
     KAMURJESH_TAKEN = 0,          /* not refused */
     KAMURJESH_NO_ROOM = 1,        /* Submit, Run, a feed: the area is shorter than KAMURJESH_LEAST_AREA */
-    KAMURJESH_NO_MARKET = 2,      /* Submit, Run, Depth: the table is no market; top of book: its length or its heading is none */
+    KAMURJESH_NO_MARKET = 2,      /* Submit, Run, Depth: the table is no market of this kind; top of book: its length or its heading is none's */
     KAMURJESH_IN_WORK = 3,        /* Submit, Depth, top of book: an order is in work; Run first */
     KAMURJESH_NUMBERS_SPENT = 4,  /* Submit: the next report number is above 999,998,976; a feed: its next number is 0 or above 999,999,999 */
     KAMURJESH_GARBLED = 5,        /* Submit: the message is garbled */
@@ -162,6 +163,64 @@ uint64_t kamurjesh_copy(const uint8_t *report, size_t report_length,
  * and 0 if refused. kamurjesh_field says where its values stand. Nothing is changed.
  * Refusals: 11. */
 uint64_t kamurjesh_copy_read(const uint8_t *copy, size_t copy_length, uint64_t *kind);
+
+/* ---- Equities. Each call does what the bond call of its name does, on a table that kamurjesh_equities_open opened; a bond call on such a
+ * table, and one of these on a bond table, is refused with 2. What differs:
+ * - 44 and 31 are prices: 1 to 8 whole digits and at most one decimal, never below zero; AvgPx has four decimals. For a buy the higher price
+ *   is better.
+ * - sides are 1, 2, 5 (sell short) and 6 (sell short exempt); 5 and 6 sell. A cancel or a replacement names the side as it was sent.
+ *   Depth and top of book are asked for 1 or 2 alone, and 2 takes in every sell.
+ * - 55 is a symbol of up to 9 characters. A new order has 544 (1, 2 or 3) and may have 8214 (1 or 2, not with 544=1).
+ * - reports have 50=DAY, no 375, 382 or 423, and 544 and 8214 as sent. 109 of a copy has at most 20 characters. */
+
+/* symbol: 1 to 9 characters, 21 to 7E hex. All else as in kamurjesh_open.
+ * Refusals: 9. */
+uint64_t kamurjesh_equities_open(uint8_t *table, size_t table_length,
+                                 const uint8_t *venue, size_t venue_length,
+                                 const uint8_t *port, size_t port_length,
+                                 const uint8_t *symbol, size_t symbol_length,
+                                 uint64_t first,
+                                 const uint64_t *mpids, size_t mpids_count,
+                                 const uint64_t *modes, size_t modes_count);
+
+/* Refusals: 1 to 8. */
+uint64_t kamurjesh_equities_submit(uint8_t *table, size_t table_length,
+                                   const uint8_t *message, size_t message_length,
+                                   uint8_t *area, size_t area_length,
+                                   uint64_t *length);
+
+/* Refusals: 1, 2. */
+uint64_t kamurjesh_equities_run(uint8_t *table, size_t table_length,
+                                uint8_t *area, size_t area_length,
+                                uint64_t budget,
+                                uint64_t *bytes, uint64_t *reports, uint64_t *steps);
+
+/* price_tenths: 1001 is a price of 100.1.
+ * Refusals: 2, 3, 10. */
+uint64_t kamurjesh_equities_depth(const uint8_t *table, size_t table_length,
+                                  uint64_t side, uint64_t k,
+                                  uint64_t *found, int64_t *price_tenths, uint64_t *total, uint64_t *orders);
+
+/* Refusals: 2, 3, 10. */
+uint64_t kamurjesh_equities_top(const uint8_t *table, size_t table_length,
+                                uint64_t side,
+                                uint64_t *found, int64_t *price_tenths, uint64_t *total, uint64_t *orders);
+
+/* kamurjesh_field says where the values of a report or a copy of either market stand.
+ * Refusals: 11. */
+uint64_t kamurjesh_equities_read(const uint8_t *report, size_t report_length, uint64_t *kind);
+
+/* Refusals, in this order: 1, 11, 17, 4. */
+uint64_t kamurjesh_equities_copy(const uint8_t *report, size_t report_length,
+                                 uint64_t subscription, uint64_t shows,
+                                 const uint8_t *port, size_t port_length,
+                                 const uint8_t *group, size_t group_length,
+                                 uint64_t next,
+                                 uint8_t *area, size_t area_length,
+                                 uint64_t *length, uint64_t *next_after);
+
+/* Refusals: 11. */
+uint64_t kamurjesh_equities_copy_read(const uint8_t *copy, size_t copy_length, uint64_t *kind);
 
 #ifdef __cplusplus
 }

@@ -58,19 +58,47 @@ static struct message new_order(const char *id, int side, unsigned long quantity
     return order_with(id, side, quantity, yield, mpid, tif, 0);
 }
 
-static inline struct message replacement(const char *id, const char *original, int side, unsigned long quantity, const char *yield)
+/* An order for a share, with 544 and 8214, each missing if it is 0. */
+static inline struct message share_order(const char *id, int side, unsigned long quantity, const char *price, unsigned mpid, char tif,
+                                         unsigned cash, unsigned margin)
+{
+    char body[600], client[32] = "", paid[32] = "", on_margin[32] = "";
+    if (mpid > 0)
+        snprintf(client, sizeof client, "109=%u|", mpid);
+    if (cash > 0)
+        snprintf(paid, sizeof paid, "544=%u|", cash);
+    if (margin > 0)
+        snprintf(on_margin, sizeof on_margin, "8214=%u|", margin);
+    snprintf(body, sizeof body, "11=%s|21=1|38=%lu|40=2|44=%s|47=A|54=%d|55=7203.T|59=%c|60=20260105-09:00:00|%s%s8060=1|%s", id, quantity,
+             price, side, tif, client, paid, on_margin);
+    return sent("D", body);
+}
+
+/* A replacement and a cancel of a bond or a share. */
+static inline struct message replacement_of(const char *code, const char *id, const char *original, int side, unsigned long quantity,
+                                            const char *quote)
 {
     char body[600];
-    snprintf(body, sizeof body, "11=%s|21=1|38=%lu|40=2|41=%s|44=%s|54=%d|55=350|60=20260105-09:00:00|", id, quantity, original,
-             yield, side);
+    snprintf(body, sizeof body, "11=%s|21=1|38=%lu|40=2|41=%s|44=%s|54=%d|55=%s|60=20260105-09:00:00|", id, quantity, original, quote,
+             side, code);
     return sent("G", body);
+}
+
+static inline struct message cancellation_of(const char *code, const char *id, const char *original, int side)
+{
+    char body[600];
+    snprintf(body, sizeof body, "11=%s|41=%s|54=%d|55=%s|60=20260105-09:00:00|", id, original, side, code);
+    return sent("F", body);
+}
+
+static inline struct message replacement(const char *id, const char *original, int side, unsigned long quantity, const char *yield)
+{
+    return replacement_of("350", id, original, side, quantity, yield);
 }
 
 static inline struct message cancellation(const char *id, const char *original, int side)
 {
-    char body[600];
-    snprintf(body, sizeof body, "11=%s|41=%s|54=%d|55=350|60=20260105-09:00:00|", id, original, side);
-    return sent("F", body);
+    return cancellation_of("350", id, original, side);
 }
 
 #endif

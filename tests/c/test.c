@@ -1,11 +1,11 @@
-/* Tests of the C interface: every function with good and bad input, every refusal from 1 to 11 and 17, and around every call the bytes
- * that it must leave alone. Prints what failed and, last, how many checks there were; exit status 1 if any failed. */
+/* Tests of the C interface: every function with good and bad input, every refusal from 1 to 11 and 17, first of the bond market, then of
+ * the equities market, and around every call the bytes that it must leave alone. Prints what failed and, last, how many checks there were; exit status 1 if any failed. */
 #include <inttypes.h>
 #include <stdio.h>
 #include <stdlib.h>
 #include <string.h>
 
-#include "kamurjesh.h"
+#include "calls.h"
 #include "messages.h"
 
 /* ---- checks */
@@ -95,7 +95,9 @@ static int only_number_rose(void)
     return so;
 }
 
-/* ---- the calls, with all that holds around every call of theirs */
+/* ---- the calls of one market or of the other, with all that holds around every call of theirs */
+
+static const struct calls *calls = &bond_calls;
 
 struct settings {
     const char *venue, *port, *code;
@@ -111,9 +113,9 @@ static uint64_t open_in(size_t length, const struct settings *s)
     struct settings before = *s;
     guard(&lent_table, length);
     keep_table();
-    uint64_t number = kamurjesh_open(table, length, (const uint8_t *)s->venue, strlen(s->venue), (const uint8_t *)s->port,
-                                     strlen(s->port), (const uint8_t *)s->code, strlen(s->code), s->first, s->mpids,
-                                     s->mpids_count, s->modes, s->modes_count);
+    uint64_t number = calls->open(table, length, (const uint8_t *)s->venue, strlen(s->venue), (const uint8_t *)s->port,
+                                  strlen(s->port), (const uint8_t *)s->code, strlen(s->code), s->first, s->mpids,
+                                  s->mpids_count, s->modes, s->modes_count);
     EXPECT(is_guarded(&lent_table, length));
     EXPECT(memcmp(&before, s, sizeof before) == 0);
     EXPECT(number == 0 || number == 9);
@@ -153,7 +155,7 @@ static uint64_t submit_in(size_t table_length, size_t area_length, const uint8_t
         memcpy(copy, message, message_length);
     lend_area(area_length);
     keep_table();
-    uint64_t number = kamurjesh_submit(table, table_length, message, message_length, area, area_length, &length.value);
+    uint64_t number = calls->submit(table, table_length, message, message_length, area, area_length, &length.value);
     EXPECT(is_fine(&length));
     EXPECT(message_length == 0 || memcmp(copy, message, message_length) == 0);
     EXPECT(area_is_untouched_from((size_t)length.value, area_length));
@@ -183,7 +185,7 @@ static uint64_t run_in(size_t table_length, size_t area_length, uint64_t budget)
     lend_area(area_length);
     keep_table();
     uint64_t number =
-        kamurjesh_run(table, table_length, area, area_length, budget, &bytes.value, &reports.value, &steps.value);
+        calls->run(table, table_length, area, area_length, budget, &bytes.value, &reports.value, &steps.value);
     EXPECT(is_fine(&bytes) && is_fine(&reports) && is_fine(&steps));
     EXPECT(area_is_untouched_from((size_t)bytes.value, area_length));
     EXPECT(is_guarded(&lent_table, TABLE));
@@ -209,9 +211,10 @@ static void enter(struct message m)
     EXPECT(run() == 0);
 }
 
+/* quote: a yield in thousandths or a price in tenths */
 static struct {
     uint64_t found;
-    int64_t yield;
+    int64_t quote;
     uint64_t total, orders;
 } level;
 
@@ -219,19 +222,19 @@ static struct {
 static uint64_t level_in(size_t table_length, uint64_t side, const uint64_t *k)
 {
     struct out found = fresh, total = fresh, orders = fresh;
-    int64_t yield[3] = {-7777, INT64_MIN, -7777};
+    int64_t quote[3] = {-7777, INT64_MIN, -7777};
     keep_table();
     uint64_t number =
-        k != NULL ? kamurjesh_depth(table, table_length, side, *k, &found.value, &yield[1], &total.value, &orders.value)
-                  : kamurjesh_top(table, table_length, side, &found.value, &yield[1], &total.value, &orders.value);
+        k != NULL ? calls->depth(table, table_length, side, *k, &found.value, &quote[1], &total.value, &orders.value)
+                  : calls->top(table, table_length, side, &found.value, &quote[1], &total.value, &orders.value);
     EXPECT(is_fine(&found) && is_fine(&total) && is_fine(&orders));
-    EXPECT(yield[0] == -7777 && yield[2] == -7777 && yield[1] != INT64_MIN);
+    EXPECT(quote[0] == -7777 && quote[2] == -7777 && quote[1] != INT64_MIN);
     EXPECT(table_is_kept());
     EXPECT(number == 0 || number == 2 || number == 3 || number == 10);
     EXPECT(number == 0 || found.value == 0);
-    EXPECT(found.value == 1 || (found.value == 0 && yield[1] == 0 && total.value == 0 && orders.value == 0));
+    EXPECT(found.value == 1 || (found.value == 0 && quote[1] == 0 && total.value == 0 && orders.value == 0));
     level.found = found.value;
-    level.yield = yield[1];
+    level.quote = quote[1];
     level.total = total.value;
     level.orders = orders.value;
     return number;
@@ -248,16 +251,16 @@ static uint64_t top_in(size_t table_length, uint64_t side)
 }
 
 /* Whether top of book gives this level. */
-static int top_is(uint64_t side, int64_t yield, uint64_t total, uint64_t orders)
+static int top_is(uint64_t side, int64_t quote, uint64_t total, uint64_t orders)
 {
-    return top_in(TABLE, side) == 0 && level.found == 1 && level.yield == yield && level.total == total && level.orders == orders;
+    return top_in(TABLE, side) == 0 && level.found == 1 && level.quote == quote && level.total == total && level.orders == orders;
 }
 
 /* Whether Depth gives this level, or none, and for k = 0 top of book does too. */
-static int level_is(uint64_t side, uint64_t k, int64_t yield, uint64_t total, uint64_t orders)
+static int level_is(uint64_t side, uint64_t k, int64_t quote, uint64_t total, uint64_t orders)
 {
-    return depth_in(TABLE, side, k) == 0 && level.found == 1 && level.yield == yield && level.total == total &&
-           level.orders == orders && (k > 0 || top_is(side, yield, total, orders));
+    return depth_in(TABLE, side, k) == 0 && level.found == 1 && level.quote == quote && level.total == total &&
+           level.orders == orders && (k > 0 || top_is(side, quote, total, orders));
 }
 
 static int no_level(uint64_t side, uint64_t k)
@@ -269,7 +272,7 @@ static int no_level(uint64_t side, uint64_t k)
 static uint64_t kind_of(const uint8_t *report, size_t length)
 {
     struct out kind = fresh;
-    uint64_t number = kamurjesh_read(report, length, &kind.value);
+    uint64_t number = calls->read(report, length, &kind.value);
     EXPECT(is_fine(&kind));
     EXPECT((number == 11) == (kind.value == 0));
     EXPECT(number == 0 || number == 11);
@@ -900,7 +903,7 @@ static int is_as_lent(const struct lent *l, const uint8_t *bytes, size_t length)
 static uint64_t copy_kind_of(const uint8_t *copy, size_t length)
 {
     struct out kind = fresh;
-    uint64_t number = kamurjesh_copy_read(copy, length, &kind.value);
+    uint64_t number = calls->copy_read(copy, length, &kind.value);
     EXPECT(is_fine(&kind));
     EXPECT((number == 11) == (kind.value == 0));
     EXPECT(number == 0 || number == 11);
@@ -917,8 +920,8 @@ static uint64_t copy_in(const struct feed *f, const struct message *report, size
     const uint8_t *port = lend(&lent_port, f->port.bytes, f->port.length);
     const uint8_t *group = lend(&lent_group, f->group.bytes, f->group.length);
     lend_area(area_length);
-    uint64_t number = kamurjesh_copy(bytes, report->length, f->subscription, f->shows, port, f->port.length, group, f->group.length,
-                                     f->next, area, area_length, &length.value, &next.value);
+    uint64_t number = calls->copy(bytes, report->length, f->subscription, f->shows, port, f->port.length, group, f->group.length,
+                                  f->next, area, area_length, &length.value, &next.value);
     EXPECT(is_fine(&length) && is_fine(&next));
     EXPECT(is_as_lent(&lent_report, report->bytes, report->length));
     EXPECT(is_as_lent(&lent_port, f->port.bytes, f->port.length));
@@ -1125,6 +1128,191 @@ static void test_copy_read(void)
     }
 }
 
+/* ---- equities: the same calls by their other names, on a share */
+
+static const struct settings usual_share = {"V", "P", "7203.T", 1, {10, 11, 12, 13, 14}, {1, 1, 1, 1, 1}, 5, 5};
+
+static uint64_t open_share(void)
+{
+    return open_in(TABLE, &usual_share);
+}
+
+/* An order for the share by cash, Day. */
+static struct message share(const char *id, int side, unsigned long quantity, const char *price, unsigned mpid)
+{
+    return share_order(id, side, quantity, price, mpid, '0', 1, 0);
+}
+
+static void test_share_open(void)
+{
+    const char *const good[] = {"8306", "A", "!~!~!~!~!", "7203.T", "350"}, *const bad[] = {"", "1234567890", "7203 T", "A\001", "\x7f", "\x80"};
+    struct settings s = usual_share;
+    for (size_t i = 0; i < sizeof good / sizeof *good; i++) {
+        s.code = good[i];
+        EXPECT(open_in(TABLE, &s) == 0 && table[55] == 1);
+    }
+    for (size_t i = 0; i < sizeof bad / sizeof *bad; i++) {
+        s.code = bad[i];
+        EXPECT(open_in(TABLE, &s) == 9);
+    }
+    s = usual_share;
+    EXPECT(open_in(TABLE - 1, &s) == 9 && open_in(TABLE + 1, &s) == 9 && open_in(0, &s) == 9);
+    s.first = 1000000000;
+    EXPECT(open_in(TABLE, &s) == 9);
+    s = usual_share, s.modes[4] = 4;
+    EXPECT(open_in(TABLE, &s) == 9);
+    s = usual_share, s.mpids[1] = 10;
+    EXPECT(open_in(TABLE, &s) == 9);
+    s = usual_share, s.venue = "V W";
+    EXPECT(open_in(TABLE, &s) == 9);
+    EXPECT(kamurjesh_equities_open(NULL, 0, NULL, 0, NULL, 0, NULL, 0, 1, NULL, 0, NULL, 0) == 9);
+}
+
+/* Prices, sides and marks as they are sent; a replacement and a cancel name the side exactly. */
+static void test_share_taken(void)
+{
+    EXPECT(open_share() == 0);
+    EXPECT(submit(share_order("A-1", 5, 500, "100", 10, '0', 3, 2)) == 0);
+    EXPECT(kind_of(area, (size_t)report_length) == KAMURJESH_IS_ACCEPTED);
+    EXPECT(says(50, "DAY") && says(44, "100.0") && says(6, "0.0000") && says(54, "5") && says(55, "7203.T") && says(544, "3") && says(8214, "2"));
+    EXPECT(says(375, NULL) && says(382, NULL) && says(423, NULL) && says(109, "10"));
+    EXPECT(run() == 0 && ran.steps == 1);
+    EXPECT(level_is(2, 0, 1000, 500, 1) && no_level(1, 0));
+    EXPECT(submit(replacement_of("7203.T", "A-2", "A-1", 2, 700, "99.9")) == 8 && says(102, "2"));
+    EXPECT(submit(replacement_of("7203.T", "A-2", "A-1", 5, 700, "99.9")) == 0);
+    EXPECT(kind_of(area, (size_t)report_length) == KAMURJESH_IS_REPLACED && says(44, "99.9") && says(544, "3") && says(8214, "2"));
+    EXPECT(run() == 0 && level_is(2, 0, 999, 700, 1));
+    EXPECT(submit(cancellation_of("7203.T", "A-3", "A-2", 6)) == 8 && says(102, "2"));
+    EXPECT(submit(cancellation_of("7203.T", "A-3", "A-2", 5)) == 0);
+    EXPECT(kind_of(area, (size_t)report_length) == KAMURJESH_IS_CANCELED && says(54, "5") && no_level(2, 0));
+    enter(share("Z-1", 1, 1, "0", 10));
+    EXPECT(level_is(1, 0, 0, 1, 1)); /* a price of zero */
+    enter(share("Z-2", 6, 1, "99999999.9", 10));
+    EXPECT(level_is(2, 0, 999999999, 1, 1));
+}
+
+static void test_share_refused(void)
+{
+    struct message good = share("A-1", 1, 500, "100.1", 10);
+    struct settings s = usual_share;
+    EXPECT(open_share() == 0);
+    /* 1 before all others, 2, 5 */
+    EXPECT(submit_in(TABLE, 1023, good.bytes, good.length) == 1 && submit_in(TABLE - 1, 1023, good.bytes, good.length) == 1);
+    EXPECT(submit_in(TABLE - 1, 1024, good.bytes, good.length) == 2 && submit_in(0, 1024, good.bytes, good.length) == 2);
+    EXPECT(submit_in(TABLE, AREA, NULL, 0) == 5 && submit_in(TABLE, AREA, good.bytes, good.length - 1) == 5);
+    table[55] = 2; /* no such kind */
+    EXPECT(submit(good) == 2 && run() == 2 && depth_in(TABLE, 1, 0) == 2 && top_in(TABLE, 1) == 2);
+    table[55] = 1;
+    /* 6 */
+    const struct {
+        struct message m;
+        const char *tag, *reason;
+    } bad[] = {
+        {share("A-1", 1, 500, "-100.1", 10), "44", "6"},
+        {share("A-1", 1, 500, "100.10", 10), "44", "6"},
+        {share("A-1", 1, 500, "100.", 10), "44", "6"},
+        {share("A-1", 1, 500, "123456789", 10), "44", "6"},
+        {share("A-1", 3, 500, "100.1", 10), "54", "5"},
+        {share_order("A-1", 1, 500, "100.1", 10, '0', 0, 0), "544", "1"},
+        {share_order("A-1", 1, 500, "100.1", 10, '0', 4, 0), "544", "5"},
+        {share_order("A-1", 1, 500, "100.1", 10, '0', 2, 3), "8214", "5"},
+        {share_order("A-1", 1, 500, "100.1", 10, '0', 1, 1), "8214", "5"},
+        {share_order("A-1", 1, 500, "100.1", 10, '0', 0, 1), "544", "1"},
+        {sent("F", "11=B|41=A|54=1|55=7203.T|60=20260105-09:00:00|544=1|"), "544", "2"},
+        {cancellation_of("7203.TOKYO", "B", "A", 1), "55", "6"},
+    };
+    for (size_t i = 0; i < sizeof bad / sizeof *bad; i++) {
+        EXPECT(submit(bad[i].m) == 6 && says(371, bad[i].tag) && says(373, bad[i].reason) && says(50, "DAY"));
+        EXPECT(kind_of(area, (size_t)report_length) == KAMURJESH_IS_SESSION_REJECT);
+    }
+    /* 7, 8 */
+    EXPECT(submit(share("A-1", 1, 5, "100.1", 99)) == 7 && says(103, "99") && says(544, NULL) && says(50, "DAY"));
+    EXPECT(kind_of(area, (size_t)report_length) == KAMURJESH_IS_REJECTED);
+    EXPECT(submit(new_order("A-1", 1, 5, "100.1", 10, '0')) == 6 && says(371, "544")); /* a bond's order */
+    EXPECT(submit(cancellation_of("7203.T", "A-2", "A-9", 1)) == 8 && says(102, "1"));
+    EXPECT(kind_of(area, (size_t)report_length) == KAMURJESH_IS_CANCEL_REJECT);
+    /* 3, 10 and 4 */
+    EXPECT(submit(good) == 0);
+    EXPECT(submit(good) == 3 && depth_in(TABLE, 1, 0) == 3 && top_in(TABLE, 1) == 3);
+    EXPECT(run_in(TABLE, 1023, 1) == 1 && run_in(TABLE - 1, AREA, 1) == 2 && run() == 0);
+    for (uint64_t side = 0; side <= 7; side++)
+        EXPECT(depth_in(TABLE, side, 0) == (side == 1 || side == 2 ? 0 : 10) && top_in(TABLE, side) == (side == 1 || side == 2 ? 0 : 10));
+    EXPECT(depth_in(TABLE - 1, 1, 0) == 2 && top_in(TABLE - 1, 1) == 2);
+    s.first = 999998976;
+    EXPECT(open_in(TABLE, &s) == 0);
+    enter(good);
+    EXPECT(submit(good) == 4);
+}
+
+/* Every sell trades with a buy, the lowest price first; AvgPx has four decimals, and a price is rounded as a price. */
+static void test_share_trades(void)
+{
+    EXPECT(open_share() == 0);
+    enter(share("S-1", 2, 1, "100.1", 11));
+    enter(share("S-2", 5, 10, "100.0", 12));
+    enter(share_order("S-3", 6, 5, "100.0", 13, '0', 2, 1));
+    EXPECT(level_is(2, 0, 1000, 15, 2) && level_is(2, 1, 1001, 1, 1) && no_level(2, 2));
+    EXPECT(submit(share("B-1", 1, 16, "100.1", 14)) == 0);
+    EXPECT(run() == 0 && ran.steps == 4 && ran.reports == 6);
+    const char *const sides[] = {"5", "1", "6", "1", "2", "1"}, *const prices[] = {"100.0", "100.0", "100.0", "100.0", "100.1", "100.1"},
+                      *const averages[] = {"100.0000", "100.0000", "100.0000", "100.0000", "100.1000", "100.0063"};
+    for (unsigned i = 0; i < 6; i++) {
+        struct message m = ran_report(i);
+        EXPECT(kind_of(m.bytes, m.length) == KAMURJESH_IS_TRADE);
+        EXPECT(field_is(m.bytes, m.length, 54, sides[i]) && field_is(m.bytes, m.length, 31, prices[i]));
+        EXPECT(field_is(m.bytes, m.length, 6, averages[i]) && field_is(m.bytes, m.length, 375, NULL));
+        uint64_t kind = 0;
+        EXPECT(kamurjesh_read(m.bytes, m.length, &kind) == 11 && kind == 0); /* no report of bonds */
+    }
+    EXPECT(no_level(1, 0) && no_level(2, 0));
+}
+
+/* A call of one market on a table of the other: 2, and 1 before it; nothing changes. */
+static void test_other_market(void)
+{
+    struct message bond = new_order("A-1", 1, 5, "0.100", 10, '0'), for_share = share("A-1", 1, 5, "100.1", 10);
+    for (int i = 0; i < 2; i++) {
+        calls = i == 0 ? &bond_calls : &equities_calls;
+        EXPECT(i == 0 ? open_usual(1) == 0 : open_share() == 0);
+        enter(i == 0 ? bond : for_share);
+        calls = i == 0 ? &equities_calls : &bond_calls;
+        EXPECT(submit(bond) == 2 && submit(for_share) == 2 && submit_in(TABLE, 1023, bond.bytes, bond.length) == 1);
+        EXPECT(run() == 2 && run_in(TABLE, 1023, 1) == 1);
+        for (uint64_t side = 0; side <= 3; side++)
+            EXPECT(depth_in(TABLE, side, 0) == 2 && top_in(TABLE, side) == 2);
+    }
+    calls = &equities_calls;
+}
+
+static void test_share_feed(void)
+{
+    struct message accepted, traded, copied, broken, bond = samples[TRADE_SAMPLE];
+    EXPECT(open_share() == 0);
+    accepted = submitted(share_order("S-1", 5, 300, "100.1", 11, '0', 2, 1));
+    EXPECT(submit(share("B-1", 1, 100, "100.1", 14)) == 0 && run() == 0 && ran.reports == 2);
+    traded = ran_report(0);
+    broken = traded, broken.bytes[broken.length - 2] ^= 1; /* CheckSum */
+    for (size_t n = 0; n <= 32; n++) {
+        struct feed f = feed_of(KAMURJESH_FULL, KAMURJESH_SHOWS_PORT);
+        f.port = text_of(n);
+        EXPECT(copy(&f, &traded) == (n >= 1 && n <= 20 ? 0 : 17) && copy(&f, &accepted) == (n >= 1 && n <= 20 ? 0 : 17));
+        copied = copy_of(&traded, &f);
+        EXPECT(copy_kind_of(copied.bytes, copied.length) == (n >= 1 && n <= 20 ? KAMURJESH_IS_TRADE : 0));
+    }
+    struct feed f = feed_of(KAMURJESH_RECONCILIATION, KAMURJESH_SHOWS_BOTH), spent = f;
+    EXPECT(copy(&f, &accepted) == 0 && copy_length == 0);
+    EXPECT(copy(&f, &traded) == 0 && field_is(area, copy_length, 544, "2") && field_is(area, copy_length, 8214, "1"));
+    EXPECT(field_is(area, copy_length, 109, "P1-G-7") && field_is(area, copy_length, 50, "DAY"));
+    EXPECT(copy_in(&f, &traded, 1023) == 1 && copy(&f, &broken) == 11);
+    EXPECT(copy(&f, &bond) == 11 && kind_of(bond.bytes, bond.length) == 0); /* of the other market */
+    spent.next = 0;
+    EXPECT(copy(&spent, &traded) == 4);
+    copied = copy_of(&traded, &f);
+    uint64_t kind = 1;
+    EXPECT(kamurjesh_copy_read(copied.bytes, copied.length, &kind) == 11 && kind == 0);
+    EXPECT(copy_kind_of(NULL, 0) == 0 && copy_kind_of(traded.bytes, traded.length) == 0);
+}
+
 int main(void)
 {
     test_open();
@@ -1149,6 +1337,13 @@ int main(void)
     test_identifier_lengths();
     test_identifier_bytes();
     test_copy_read();
+    calls = &equities_calls;
+    test_share_open();
+    test_share_taken();
+    test_share_refused();
+    test_share_trades();
+    test_other_market();
+    test_share_feed();
     printf("%u checks, %u failed\n", checks, failures);
     return failures > 0;
 }

@@ -7,13 +7,14 @@
 #include <stdlib.h>
 #include <string.h>
 
-#include "kamurjesh.h"
+#include "calls.h"
 
 #define SOH '\001'
 #define LONGEST_LINE 8192
 #define LARGEST_AREA 65536
 #define UNTOUCHED 0xa7
 
+static const struct calls *calls = &bond_calls;
 static uint8_t table[KAMURJESH_TABLE_BYTES];
 static uint8_t area[LARGEST_AREA];
 static unsigned long line_number;
@@ -156,8 +157,8 @@ static void open_market(const char *at)
     }
     take_end(&at);
     printf("o %" PRIu64 "\n",
-           kamurjesh_open(table, sizeof table, venue.bytes, venue.length, port.bytes, port.length, code.bytes, code.length, first,
-                          mpids, n, modes, n));
+           calls->open(table, sizeof table, venue.bytes, venue.length, port.bytes, port.length, code.bytes, code.length, first, mpids, n,
+                       modes, n));
 }
 
 static void submit(const char *at)
@@ -169,7 +170,7 @@ static void submit(const char *at)
     take_end(&at);
     uint64_t length = UINT64_MAX;
     memset(area, UNTOUCHED, sizeof area);
-    uint64_t number = kamurjesh_submit(table, sizeof table, message.bytes, message.length, area, area_length, &length);
+    uint64_t number = calls->submit(table, sizeof table, message.bytes, message.length, area, area_length, &length);
     check_rest(area_length, length);
     printf("s %" PRIu64 " %" PRIu64, number, length);
     say_written(length);
@@ -183,7 +184,7 @@ static void run(const char *at)
     take_end(&at);
     uint64_t bytes = UINT64_MAX, reports = UINT64_MAX, steps = UINT64_MAX;
     memset(area, UNTOUCHED, sizeof area);
-    uint64_t number = kamurjesh_run(table, sizeof table, area, area_length, budget, &bytes, &reports, &steps);
+    uint64_t number = calls->run(table, sizeof table, area, area_length, budget, &bytes, &reports, &steps);
     check_rest(area_length, bytes);
     printf("r %" PRIu64 " %" PRIu64 " %" PRIu64 " %" PRIu64, number, bytes, reports, steps);
     say_written(bytes);
@@ -196,9 +197,9 @@ static void depth(const char *at)
     uint64_t k = take_number(&at);
     take_end(&at);
     uint64_t found = UINT64_MAX, total = UINT64_MAX, orders = UINT64_MAX;
-    int64_t yield = INT64_MIN;
-    uint64_t number = kamurjesh_depth(table, sizeof table, side, k, &found, &yield, &total, &orders);
-    printf("d %" PRIu64 " %" PRIu64 " %" PRId64 " %" PRIu64 " %" PRIu64 "\n", number, found, yield, total, orders);
+    int64_t quote = INT64_MIN; /* a yield in thousandths or a price in tenths */
+    uint64_t number = calls->depth(table, sizeof table, side, k, &found, &quote, &total, &orders);
+    printf("d %" PRIu64 " %" PRIu64 " %" PRId64 " %" PRIu64 " %" PRIu64 "\n", number, found, quote, total, orders);
 }
 
 static void top(const char *at)
@@ -206,9 +207,9 @@ static void top(const char *at)
     uint64_t side = take_number(&at);
     take_end(&at);
     uint64_t found = UINT64_MAX, total = UINT64_MAX, orders = UINT64_MAX;
-    int64_t yield = INT64_MIN;
-    uint64_t number = kamurjesh_top(table, sizeof table, side, &found, &yield, &total, &orders);
-    printf("t %" PRIu64 " %" PRIu64 " %" PRId64 " %" PRIu64 " %" PRIu64 "\n", number, found, yield, total, orders);
+    int64_t quote = INT64_MIN;
+    uint64_t number = calls->top(table, sizeof table, side, &found, &quote, &total, &orders);
+    printf("t %" PRIu64 " %" PRIu64 " %" PRId64 " %" PRIu64 " %" PRIu64 "\n", number, found, quote, total, orders);
 }
 
 /* Puts a byte into the table and says which one was there. */
@@ -280,11 +281,22 @@ static void copy(const char *at)
     take_end(&at);
     uint64_t length = UINT64_MAX, next_after = UINT64_MAX;
     memset(area, UNTOUCHED, sizeof area);
-    uint64_t number = kamurjesh_copy(report.bytes, report.length, subscription, shows, port.bytes, port.length, group.bytes,
-                                     group.length, next, area, area_length, &length, &next_after);
+    uint64_t number = calls->copy(report.bytes, report.length, subscription, shows, port.bytes, port.length, group.bytes, group.length,
+                                  next, area, area_length, &length, &next_after);
     check_rest(area_length, length);
     printf("c %" PRIu64 " %" PRIu64 " %" PRIu64, number, length, next_after);
     say_written(length);
+}
+
+/* The calls from here on are those of the bond market or of the equities market. */
+static void choose(const char *at)
+{
+    uint64_t kind = take_number(&at);
+    take_end(&at);
+    if (kind > 1)
+        fail("no such market");
+    calls = kind == 0 ? &bond_calls : &equities_calls;
+    printf("q %" PRIu64 "\n", kind);
 }
 
 static void answer(const char *line)
@@ -303,9 +315,10 @@ static void answer(const char *line)
     case 'd': depth(line + 2); break;
     case 't': top(line + 2); break;
     case 'b': put_byte(line + 2); break;
-    case 'x': read_by(kamurjesh_read, 'x', line + 2); break;
+    case 'x': read_by(calls->read, 'x', line + 2); break;
     case 'c': copy(line + 2); break;
-    case 'y': read_by(kamurjesh_copy_read, 'y', line + 2); break;
+    case 'y': read_by(calls->copy_read, 'y', line + 2); break;
+    case 'q': choose(line + 2); break;
     default: fail("no command");
     }
 }

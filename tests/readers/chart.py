@@ -4,15 +4,17 @@
     tests/readers/chart.py PICTURE < REHEARSED
 
 REHEARSED is what ./rehearse wrote beside the picture, and ends with the depth. Says nothing where all is well, and else what is not,
-with exit status 1: a bar for each level, by yield with the buys above, its length in the ratio of the totals and the longest as long as
-there is room for; its yield, total and number of orders in figures in the same row; rows apart from each other and inside the picture;
-colours that can be read on white and on black, and no background.
+with exit status 1: a bar for each level, by yield or price with the buys above and the best in the middle, its length in the ratio of
+the totals and the longest as long as there is room for; its yield or price, total and number of orders in figures in the same row; rows
+apart from each other and inside the picture; colours that can be read on white and on black, and no background.
 """
 import sys
 import xml.etree.ElementTree as xml
 
 SVG = "{http://www.w3.org/2000/svg}"
 LONGEST = 480
+HEADING = "side {} quantity orders\n"
+SENSES = {"yield": -1, "price": 1}
 LETTER = 7.3  # a monospace letter of 12 pixels is not wider
 
 
@@ -22,10 +24,11 @@ def require(holds, what):
 
 
 def levels(rehearsed):
-    """Side, yield, total and orders of each level, by yield from the top."""
-    lines = rehearsed[rehearsed.index("side yield quantity orders\n") + 1 :]
+    """Side, quote, total and orders of each level, from the top: by falling yield, or by rising price."""
+    heading, sense = next((line, sense) for line in rehearsed for name, sense in SENSES.items() if line == HEADING.format(name))
+    lines = rehearsed[rehearsed.index(heading) + 1 :]
     found = [(side, at, int(total), int(orders)) for side, at, total, orders in map(str.split, lines)]
-    return sorted(found, key=lambda level: -float(level[1]))
+    return sorted(found, key=lambda level: sense * float(level[1]))
 
 
 def bars(root):

@@ -1,9 +1,10 @@
 #!/usr/bin/env python3
-"""Whether share/quickfix/KAMURJESH42.xml has every field of every kind of report and of drop copy, with its value.
+"""Whether the dictionaries of share/quickfix have every field of every kind of report and of drop copy, with its value: KAMURJESH42.xml
+those of the bond market, KAMURJESH42-EQUITIES.xml those of the equities market.
 
     tests/readers/dictionary.py
 
-Takes the messages of docs/SAMPLES.md and those that the market writes in tests/vectors/transcript. Says nothing where all is well, and
+Takes the messages of docs/SAMPLES.md and those that the markets write in tests/vectors/transcript; SenderSubID (50) says of which. Says nothing where all is well, and
 else what is not, a line each: a field that the dictionary lacks, or has elsewhere; a value that is not of the field's type or set;
 a required field that is missing; a field of the dictionary that no message has; a kind of which there is no message.
 Exit status 1 where it says something.
@@ -23,6 +24,8 @@ SHAPES = {
     "STRING": r".+",
     "UTCTIMESTAMP": r"\d{8}-\d\d:\d\d:\d\d(\.\d{3})?",
 }
+# by 50
+DICTIONARIES = {"DJGB": "KAMURJESH42.xml", "DAY": "KAMURJESH42-EQUITIES.xml"}
 # by 150, of the messages with 35=8
 EXECUTIONS = {"0": "Accepted", "5": "Replaced", "4": "Canceled", "1": "Trade", "2": "Trade", "8": "Rejected"}
 COPIED = ["Accepted", "Replaced", "Canceled", "Trade"]
@@ -107,18 +110,26 @@ def unused(dictionary, seen):
                 yield f"no message with 35={msg_type} has {tag}"
 
 
-def main():
-    dictionary = Dictionary(os.path.join(ROOT, "share/quickfix/KAMURJESH42.xml"))
+def complaints_of(market, messages):
+    """What is not well with the dictionary of a market and its messages."""
+    dictionary = Dictionary(os.path.join(ROOT, "share/quickfix", DICTIONARIES[market]))
     complaints, kinds, seen = {}, set(), {}
-    for message in messages():
-        fields = fields_of(message)
+    for message, fields in messages:
         kinds.add(kind_of(fields))
         seen.setdefault(dict(fields)[35], set()).update(dict(fields))
         for what in wrong_in(dictionary, fields):
             complaints.setdefault(f"{kind_of(fields)}: {what}", message)
     lines = [f"{what}, in {message}" for what, message in complaints.items()]
     lines += [f"there is no {kind} to look at" for kind in KINDS if kind not in kinds]
-    lines += unused(dictionary, seen)
+    return lines + list(unused(dictionary, seen))
+
+
+def main():
+    by_market = {market: [] for market in DICTIONARIES}
+    for message in messages():
+        fields = fields_of(message)
+        by_market[dict(fields)[50]].append((message, fields))
+    lines = [f"{DICTIONARIES[market]}: {line}" for market, all_of in by_market.items() for line in complaints_of(market, all_of)]
     for line in lines:
         print(f"dictionary: {line}")
     return 1 if lines else 0

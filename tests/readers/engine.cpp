@@ -1,6 +1,7 @@
-// engine: prints new orders as QuickFIX's own session sends them from port P to venue V, one a line, with | for SOH. Only the order's fields
-// are given here: header, number, SendingTime, BodyLength and CheckSum are the engine's, with its default settings, which stamp
-// SendingTime (52) to the millisecond. TransactTime (60) of the first order has no milliseconds and of the second has them.
+// engine: prints new orders as QuickFIX's own session sends them from port P to venue V, one a line, with | for SOH: two for a bond, and
+// two sells short of shares on margin. Only the order's fields are given here: header, number, SendingTime, BodyLength and CheckSum are the engine's, with its default settings, which stamp
+// SendingTime (52) to the millisecond. TransactTime (60) of the first order of two has no milliseconds and of the
+// second has them.
 #include <algorithm>
 #include <iostream>
 #include <set>
@@ -23,11 +24,11 @@ class Printed : public FIX::NullApplication {
     }
 };
 
-static FIX42::NewOrderSingle order(const std::string &id, const FIX::TransactTime &time)
+static FIX42::NewOrderSingle order(const std::string &id, const char *symbol, char side, double price, const FIX::TransactTime &time)
 {
-    FIX42::NewOrderSingle m(FIX::ClOrdID(id), FIX::HandlInst('1'), FIX::Symbol("350"), FIX::Side('1'), time, FIX::OrdType('2'));
+    FIX42::NewOrderSingle m(FIX::ClOrdID(id), FIX::HandlInst('1'), FIX::Symbol(symbol), FIX::Side(side), time, FIX::OrdType('2'));
     m.set(FIX::OrderQty(100));
-    m.set(FIX::Price(0.1));
+    m.set(FIX::Price(price));
     m.set(FIX::Rule80A('A'));
     m.set(FIX::TimeInForce('0'));
     m.setField(8060, "1");
@@ -43,7 +44,13 @@ int main()
                          FIX::TimeRange(midnight, midnight), 30, nullptr);
     const FIX::UtcTimeStamp now = FIX::UtcTimeStamp();
     for (int decimals : {0, 3}) {
-        FIX42::NewOrderSingle m = order("engine-" + std::to_string(decimals), FIX::TransactTime(now, decimals));
+        FIX42::NewOrderSingle m = order("engine-" + std::to_string(decimals), "350", '1', 0.1, FIX::TransactTime(now, decimals));
+        session.send(m);
+    }
+    for (int decimals : {0, 3}) {
+        FIX42::NewOrderSingle m = order("shares-" + std::to_string(decimals), "7203", '5', 100.1, FIX::TransactTime(now, decimals));
+        m.setField(544, "2");
+        m.setField(8214, "1");
         session.send(m);
     }
     return 0;

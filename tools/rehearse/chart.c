@@ -6,6 +6,7 @@
 #include <inttypes.h>
 
 #include "kamurjesh.h"
+#include "kind.h"
 #include "market.h"
 
 #define TEXT_COLOUR "#757575"
@@ -13,7 +14,7 @@
 #define SELL_COLOUR "#bd5a00"
 
 /* Sizes in pixels: a row, the bar in it, its letters and the line on which they stand; the columns, and the gap beside a bar. */
-enum { ROW = 18, BAR = 12, LETTERS = 12, BASE = 13, YIELDS = 100, LONGEST = 480, FIGURES = 220, GAP = 6 };
+enum { ROW = 18, BAR = 12, LETTERS = 12, BASE = 13, QUOTES = 100, LONGEST = 480, FIGURES = 220, GAP = 6 };
 
 /* A side of the book and where it is drawn. */
 struct side {
@@ -61,39 +62,39 @@ static void write_bars(FILE *out, const struct side *side, size_t row_of(size_t 
 {
     fprintf(out, "<g fill=\"%s\">\n", side->colour);
     for (size_t k = 0; k < side->count; k++)
-        fprintf(out, "<rect x=\"%d\" y=\"%zu\" width=\"%.15g\" height=\"%d\"/>\n", YIELDS, row_of(k) * ROW + (ROW - BAR) / 2,
+        fprintf(out, "<rect x=\"%d\" y=\"%zu\" width=\"%.15g\" height=\"%d\"/>\n", QUOTES, row_of(k) * ROW + (ROW - BAR) / 2,
                 scale * (double)side->levels[k].total, BAR);
     fputs("</g>\n", out);
 }
 
-/* The yield before each bar, and behind it the total and the number of orders. */
+/* The quote before each bar, and behind it the total and the number of orders. */
 static void write_figures(FILE *out, const struct side *side, size_t row_of(size_t k), double scale)
 {
     for (size_t k = 0; k < side->count; k++) {
         const struct level *level = &side->levels[k];
-        begin_text(out, YIELDS - GAP, row_of(k), " text-anchor=\"end\"");
-        print_yield(out, level->yield);
+        begin_text(out, QUOTES - GAP, row_of(k), " text-anchor=\"end\"");
+        print_quote(out, level->quote);
         fputs("</text>", out);
-        begin_text(out, YIELDS + GAP + scale * (double)level->total, row_of(k), "");
+        begin_text(out, QUOTES + GAP + scale * (double)level->total, row_of(k), "");
         fprintf(out, "%" PRIu64 " in %" PRIu64 " order%s</text>\n", level->total, level->orders, level->orders == 1 ? "" : "s");
     }
 }
 
 static void write_caption(FILE *out, const struct side *side, size_t row)
 {
-    begin_text(out, YIELDS, row, "");
+    begin_text(out, QUOTES, row, "");
     fprintf(out, "%s%s</text>\n", side->count == 0 ? "no " : "", side->name);
 }
 
 static void write_picture(FILE *out)
 {
     double scale = LONGEST / (double)largest_total();
-    int width = YIELDS + LONGEST + FIGURES;
+    int width = QUOTES + LONGEST + FIGURES;
     size_t height = rows() * ROW, middle = row_of_sell(0) * ROW;
     fprintf(out, "<svg xmlns=\"http://www.w3.org/2000/svg\" width=\"%d\" height=\"%zu\" viewBox=\"0 0 %d %zu\"\n", width, height,
             width, height);
     fprintf(out, "  font-family=\"monospace\" font-size=\"%d\" fill=\"%s\">\n", LETTERS, TEXT_COLOUR);
-    fputs("<title>The book that is left, by yield: buys above, sells below, the best in the middle</title>\n", out);
+    fprintf(out, "<title>The book that is left, by %s: buys above, sells below, the best in the middle</title>\n", kind->quote_name);
     write_bars(out, &buys, row_of_buy, scale);
     write_bars(out, &sells, row_of_sell, scale);
     fprintf(out, "<path d=\"M0 %zuH%d\" stroke=\"%s\"/>\n", middle, width, TEXT_COLOUR);

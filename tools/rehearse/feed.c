@@ -6,9 +6,8 @@
 #include <string.h>
 
 #include "kamurjesh.h"
+#include "kind.h"
 #include "market.h"
-
-enum { LONGEST_109 = 30 };
 
 static struct feed feed;
 static uint64_t next;
@@ -55,7 +54,7 @@ static void print_bad_feed(void)
     printf("    copy refused (17): ");
     size_t length = identifier(feed.port).length + (shows() == KAMURJESH_SHOWS_BOTH) + identifier(feed.group).length;
     if (!print_wrong("port", feed.port) && !print_wrong("group", feed.group))
-        printf("109 would have %zu characters, and has at most %d", length, LONGEST_109);
+        printf("109 would have %zu characters, and has at most %zu", length, kind->longest_109);
     putchar('\n');
 }
 
@@ -75,8 +74,8 @@ void print_copy(struct part report)
     uint64_t length, after;
     if (feed.subscription == 0)
         return;
-    uint64_t refusal = kamurjesh_copy(report.bytes, report.length, feed.subscription, shows(), port.bytes, port.length, group.bytes,
-                                      group.length, next, area, sizeof area, &length, &after);
+    uint64_t refusal = kind->copy(report.bytes, report.length, feed.subscription, shows(), port.bytes, port.length, group.bytes,
+                                  group.length, next, area, sizeof area, &length, &after);
     switch (refusal) {
     case KAMURJESH_TAKEN: print_taken(length, after); break;
     case KAMURJESH_BAD_FEED: print_bad_feed(); break;

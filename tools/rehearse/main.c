@@ -4,6 +4,7 @@
 
 #include "chart.h"
 #include "feed.h"
+#include "kind.h"
 #include "lines.h"
 #include "market.h"
 #include "options.h"
@@ -27,6 +28,8 @@ int main(int count, char **words)
     enum asked asked = ask(&options, count, words);
     if (asked != ASKED_TO_REHEARSE)
         return asked == ASKED_FOR_HELP ? 0 : 2;
+    if (options.equities)
+        kind = &equities;
     open_market();
     open_feed(options.feed);
     if (!take_lines(options.input)) {

@@ -3,9 +3,11 @@
 
 #include <inttypes.h>
 #include <stdlib.h>
+#include <string.h>
 
 #include "garbled.h"
 #include "kamurjesh.h"
+#include "kind.h"
 #include "meanings.h"
 #include "minimum.h"
 #include "reports.h"
@@ -27,8 +29,8 @@ void open_market(void)
     static const uint64_t mpids[] = {10, 11, 12, 13, 14};
     static const uint64_t modes[] = {KAMURJESH_CANCEL_NEWEST, KAMURJESH_CANCEL_NEWEST, KAMURJESH_CANCEL_NEWEST,
                                      KAMURJESH_CANCEL_NEWEST, KAMURJESH_CANCEL_NEWEST};
-    expect_taken("Open", kamurjesh_open(table, sizeof table, (const uint8_t *)"V", 1, (const uint8_t *)"P", 1,
-                                        (const uint8_t *)"350", 3, 1, mpids, 5, modes, 5));
+    expect_taken("Open", kind->open(table, sizeof table, (const uint8_t *)"V", 1, (const uint8_t *)"P", 1,
+                                    (const uint8_t *)kind->code, strlen(kind->code), 1, mpids, 5, modes, 5));
 }
 
 /* Run is called until it takes no step: it stops where the area has no room for what may follow. */
@@ -36,7 +38,7 @@ static void run_to_the_end(void)
 {
     uint64_t bytes, reports, steps;
     do {
-        expect_taken("Run", kamurjesh_run(table, sizeof table, area, sizeof area, UINT64_MAX, &bytes, &reports, &steps));
+        expect_taken("Run", kind->run(table, sizeof table, area, sizeof area, UINT64_MAX, &bytes, &reports, &steps));
         print_reports((struct part){area, (size_t)bytes});
     } while (steps > 0);
 }
@@ -63,7 +65,7 @@ void take_message(const struct message *message)
 {
     uint64_t length;
     note_before(table, message);
-    uint64_t refusal = kamurjesh_submit(table, sizeof table, message->bytes, message->kept, area, sizeof area, &length);
+    uint64_t refusal = kind->submit(table, sizeof table, message->bytes, message->kept, area, sizeof area, &length);
     struct part report = {area, (size_t)length};
     print_answer(refusal, message, report);
     print_reports(report);
@@ -76,16 +78,16 @@ size_t take_levels(uint64_t side, struct level *levels)
     uint64_t found = 1;
     while (count < MOST_LEVELS && found) {
         struct level *level = &levels[count];
-        expect_taken("Depth", kamurjesh_depth(table, sizeof table, side, count, &found, &level->yield, &level->total, &level->orders));
+        expect_taken("Depth", kind->depth(table, sizeof table, side, count, &found, &level->quote, &level->total, &level->orders));
         count += found;
     }
     return count;
 }
 
-void print_yield(FILE *out, int64_t yield)
+void print_quote(FILE *out, int64_t quote)
 {
-    int64_t size = yield < 0 ? -yield : yield;
-    fprintf(out, "%s%" PRId64 ".%03" PRId64, yield < 0 ? "-" : "", size / 1000, size % 1000);
+    int64_t size = quote < 0 ? -quote : quote;
+    fprintf(out, "%s%" PRId64 ".%0*" PRId64, quote < 0 ? "-" : "", size / kind->unit, kind->decimals, size % kind->unit);
 }
 
 static void print_side(uint64_t side)
@@ -94,14 +96,14 @@ static void print_side(uint64_t side)
     size_t count = take_levels(side, levels);
     for (size_t k = 0; k < count; k++) {
         printf("%" PRIu64 " ", side);
-        print_yield(stdout, levels[k].yield);
+        print_quote(stdout, levels[k].quote);
         printf(" %" PRIu64 " %" PRIu64 "\n", levels[k].total, levels[k].orders);
     }
 }
 
 void print_depth(void)
 {
-    puts("side yield quantity orders");
+    printf("side %s quantity orders\n", kind->quote_name);
     print_side(KAMURJESH_BUY);
     print_side(KAMURJESH_SELL);
 }

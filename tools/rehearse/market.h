@@ -7,15 +7,15 @@
 /* Stops with a word where the market refuses what this program never gives it. */
 void expect_taken(const char *call, uint64_t refusal);
 
-/* Opens the market that ./book has. */
+/* Opens a market of the kind that is rehearsed; the bond market is that of ./book. */
 void open_market(void);
 
 /* Takes a message to its end and prints the answer in words behind what stands in the line already, then the reports. */
 void take_message(const struct message *message);
 
-/* A level of the book; its yield in thousandths. */
+/* A level of the book; its quote in the library's steps. */
 struct level {
-    int64_t yield;
+    int64_t quote;
     uint64_t total, orders;
 };
 
@@ -24,10 +24,10 @@ enum { MOST_LEVELS = 255 };
 /* The levels of a side, best first, into room for MOST_LEVELS; gives how many they are. */
 size_t take_levels(uint64_t side, struct level *levels);
 
-/* Prints a yield with its three decimals. */
-void print_yield(FILE *out, int64_t yield);
+/* Prints a quote with its decimals. */
+void print_quote(FILE *out, int64_t quote);
 
-/* Prints the depth as ./book prints it. */
+/* Prints the depth, that of bonds as ./book prints it. */
 void print_depth(void);
 
 #endif

@@ -10,6 +10,7 @@ struct meaning {
 };
 
 extern const struct meaning order_statuses[]; /* 39 and 150 */
+extern const struct meaning order_sides[];    /* 54 */
 extern const struct meaning restatements[];   /* 378 */
 
 /* The words of a code in a table. */

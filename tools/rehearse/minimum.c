@@ -5,6 +5,7 @@
 #include <string.h>
 
 #include "kamurjesh.h"
+#include "kind.h"
 
 static uint8_t before[KAMURJESH_TABLE_BYTES];
 static struct message noted;
@@ -82,10 +83,10 @@ static bool could_trade(uint64_t *quantity)
     *quantity = 0;
     memcpy(table, before, sizeof table);
     write_plain(&plain);
-    if (kamurjesh_submit(table, sizeof table, plain.bytes, plain.kept, area, sizeof area, &bytes) != KAMURJESH_TAKEN)
+    if (kind->submit(table, sizeof table, plain.bytes, plain.kept, area, sizeof area, &bytes) != KAMURJESH_TAKEN)
         return false;
     do {
-        if (kamurjesh_run(table, sizeof table, area, sizeof area, UINT64_MAX, &bytes, &reports, &steps) != KAMURJESH_TAKEN)
+        if (kind->run(table, sizeof table, area, sizeof area, UINT64_MAX, &bytes, &reports, &steps) != KAMURJESH_TAKEN)
             return false;
         *quantity += traded((struct part){area, (size_t)bytes});
     } while (steps > 0);

@@ -12,11 +12,13 @@ static const char help_before[] =
     "Takes the messages of FILE into a market, one a line with | for SOH, and says of each line what the market answers:\n"
     "taken, or why not. The reports follow, with | for SOH, and in the end the depth, buys then sells, best first.\n"
     "With no FILE, or with -, it reads standard input. With --feed, each report that the feed copies has its copy behind it.\n"
-    "With --chart, the levels of the depth are drawn as bars, by yield with the best in the middle, in the ratio of their totals.\n"
+    "With --chart, the levels of the depth are drawn as bars, by yield or price with the best in the middle, in the ratio of their\n"
+    "totals. With --equities, the market is the one for shares, and the words of a report tell the order's side and price.\n"
     "\n";
 static const char help_after[] =
     "\n"
     "The market is that of ./book: venue V, port P, bond code 350, MPIDs 10 to 14, all Cancel Newest, first report number 1.\n"
+    "The equities market has symbol 7203 in place of the bond code, and is as this one else.\n"
     "A line ends with LF. Every other byte belongs to its message: a CR at the end makes it garbled, as ./book takes it, and\n"
     "the answer says so. A last line needs no LF.\n"
     "109 of the copies shows what is given of --port and --group, with a hyphen between; copies are numbered from 1.\n"
@@ -72,6 +74,13 @@ static int take_chart(struct options *options, char **words)
     return take_value(&options->chart, words);
 }
 
+static int take_equities(struct options *options, char **words)
+{
+    (void)words;
+    options->equities = true;
+    return 1;
+}
+
 static int take_help(struct options *options, char **words)
 {
     (void)words;
@@ -84,6 +93,7 @@ static const struct row {
     const char *help;
     taker *take;
 } rows[] = {
+    {"--equities", "rehearse the equities market, not the bond market", take_equities},
     {"--feed SUBSCRIPTION", "print the copies of a feed: full, or reconciliation for trades alone", take_feed},
     {"--port ID", "the order entry port that 109 of the copies shows", take_port},
     {"--group ID", "the trade group that it shows", take_group},

@@ -9,6 +9,7 @@
 
 struct options {
     bool help;
+    bool equities; /* the equities market, and not the bond market */
     struct feed feed;
     const char *chart; /* NULL for none */
     const char *file;  /* NULL, or -, for standard input */

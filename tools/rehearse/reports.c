@@ -6,6 +6,7 @@
 
 #include "feed.h"
 #include "kamurjesh.h"
+#include "kind.h"
 #include "lines.h"
 #include "meanings.h"
 #include "minimum.h"
@@ -53,6 +54,20 @@ bool take_report(struct part *reports, struct part *report)
     return true;
 }
 
+/* The side of an order and its price, and of a trade how much of it traded at which price. */
+static void print_side(struct part report)
+{
+    struct part quantity = value_of(report, 32);
+    printf(", %s at ", meaning_of(order_sides, value_of(report, 54)));
+    print_part(value_of(report, 44));
+    if (quantity.length == 0)
+        return;
+    printf(", ");
+    print_part(quantity);
+    printf(" at ");
+    print_part(value_of(report, 31));
+}
+
 /* Which order, and what has become of it; of the two rejects that are no execution reports, that they are rejects. */
 static void print_words(struct part report)
 {
@@ -63,6 +78,8 @@ static void print_words(struct part report)
     }
     printf("order ");
     print_part(order);
+    if (kind->tells_sides)
+        print_side(report);
     printf(", %s", meaning_of(order_statuses, happened));
     if (reason.length == 0)
         return;

@@ -13,10 +13,12 @@ use borrow.Author.Tests.{le-leb, lt-leb, eq-eqb, ne-eqb, eqb-true, eqb-false}
 use Rattle.octets.specs.Octets.{leAt, partAt, textAt, sameBytes, allZero}
 use Rattle.octets.proofs.Bools.{split, both-not-r}
 use Rattle.octets.proofs.Zeros.{zero-append}
-use Rattle.decimal.specs.Reading.{isTime}
-use Rattle.table.specs.Heading.{workOf, stampOf}
+use Rattle.decimal.specs.declared.Instrument.{Instrument}
+use Rattle.decimal.specs.declared.Instrument.the-variants.{Bonds, Equities}
+use Rattle.decimal.specs.Reading.{isDigit, isTime}
+use Rattle.table.specs.Heading.{workOf, stampOf, instrumentOf}
 use Rattle.table.specs.Orders.{filled}
-use Rattle.table.specs.Market.{every, isPadded, isText, hasStamp, hasWork}
+use Rattle.table.specs.Market.{every, isCodeCharacter, isPadded, isText, hasNames, isCash, hasStamp, hasWork}
 
 -- ---- two numbers that were read are the same, or differ
 pub differ-not : (a b x y : ℕ) → x ≡ a → y ≡ b → x ≡ y → not (eqb a b) ≡ false
@@ -99,20 +101,40 @@ sum-four t p a b c d e f g h l =
     sum-join t p 12 4 (a + b + c) d
     (sum-join t p 8 4 (a + b) c (sum-join t p 4 4 a b (zeros-read 4 t p a e (omega arith)) f (omega arith)) g (omega arith)) h (omega arith)
 
-pub sum-unused : (t : List ℕ) (p a b x : ℕ) → eqb a 0 ≡ allZero (partAt t p 16) → eqb b 0 ≡ allZero (partAt t (p + 16) 16) → x ≡ leAt 4 t (p + 32)
-    → p + 36 ≤ length t → eqb (a + b + x) 0 ≡ allZero (partAt t p 36)
+pub sum-unused : (t : List ℕ) (p a b x : ℕ) → eqb a 0 ≡ allZero (partAt t p 16) → eqb b 0 ≡ allZero (partAt t (p + 16) 16) → x ≡ leAt 2 t (p + 32)
+    → p + 34 ≤ length t → eqb (a + b + x) 0 ≡ allZero (partAt t p 34)
 sum-unused t p a b x e f g l =
     let two : eqb (a + b) 0 ≡ allZero (partAt t p 32) = sum-zero a b ∙ zero-join t p 16 16 e f in
-    sum-join t p 32 4 (a + b) x two g (omega arith)
+    sum-join t p 32 2 (a + b) x two g (omega arith)
+
+-- ---- CashMargin and MarginTransactionType: a bond order has neither
+take-none : (xs : List ℕ) → take 0 xs ≡ []
+take-none [] = refl
+take-none (x ∷ xs) = refl
+
+part-two : (t : List ℕ) (p : ℕ) → p + 2 ≤ length t → partAt t p 2 ≡ getD t p 0 ∷ getD t (p + 1) 0 ∷ []
+unfolding partAt
+part-two t p l =
+    let a : drop p t ≡ getD t p 0 ∷ drop (p + 1) t = rw add-one (drop-cons t p 0 (omega arith)) in
+    let b : drop (p + 1) t ≡ getD t (p + 1) 0 ∷ drop (suc (p + 1)) t = drop-cons t (p + 1) 0 (omega arith) in
+    rw (a, b, take-none (drop (suc (p + 1)) t))
+
+pub cash-bonds : (t : List ℕ) (p r : ℕ) (z : Bool) → r ≡ p + 92 → p + 94 ≤ length t → z ≡ allZero (partAt t r 2) → z ≡ isCash Bonds (getD t (p + 92) 0) (getD t (p + 93) 0)
+unfolding isCash allZero
+cash-bonds t p r z d l e =
+    let one : p + 92 + 1 ≡ p + 93 = omega arith in
+    e ∙ rw (d, part-two t (p + 92) (omega arith), one, and-true)
+
+pub cash-equities : (t : List ℕ) (p r cash margin : ℕ) (c : Bool) → r ≡ p + 92 → cash ≡ getD t r 0 → margin ≡ getD t (r + 1) 0 → c ≡ isCash Equities cash margin
+    → c ≡ isCash Equities (getD t (p + 92) 0) (getD t (p + 93) 0)
+cash-equities t p r cash margin c d e f g =
+    let one : p + 92 + 1 ≡ p + 93 = omega arith in
+    g ∙ rw (e, f, d, one)
 
 -- ---- a text of no bytes is zeros in all its room
 part-empty : (t : List ℕ) (p : ℕ) → partAt t p 0 ≡ []
 unfolding partAt
-part-empty t p = go (drop p t)
-  where
-    go : (xs : List ℕ) → take 0 xs ≡ []
-    go [] = refl
-    go (x ∷ xs) = refl
+part-empty t p = take-none (drop p t)
 
 text-empty : (f : ℕ → Bool) (room : ℕ) (t : List ℕ) (p : ℕ) (z : Bool) → getD t p 0 ≡ 0 → z ≡ allZero (partAt t (p + 1) room) → z ≡ isText f 0 room t p
 unfolding isText isPadded textAt every
@@ -142,7 +164,22 @@ module _ (f : ℕ → Bool) (least room : ℕ) (t : List ℕ) (p n : ℕ) (e : n
   unfolding isText isPadded
   text-whole xs ys a b l m x y g h = rw (g, h, x, y, ← e, le-leb least n l, le-leb n room m)
 
--- ---- the heading: the order in work and its 52
+-- ---- the heading: the names, the code by what the market trades
+
+pub code-digits : (t : List ℕ) (a : Bool) → a ≡ isText (λ x. leb 48 x && leb x 57) 1 9 t 18 → a ≡ isText (isCodeCharacter Bonds) 1 9 t 18
+unfolding isCodeCharacter isDigit
+code-digits t a e = e
+
+pub code-graphic : (t : List ℕ) (a : Bool) → a ≡ isText (λ x. leb 33 x && leb x 126) 1 9 t 18 → a ≡ isText (isCodeCharacter Equities) 1 9 t 18
+unfolding isCodeCharacter
+code-graphic t a e = e
+
+pub names-are : (t : List ℕ) (q : Instrument) (a b c : Bool) → q ≡ instrumentOf t → a ≡ isText (λ x. leb 33 x && leb x 126) 1 8 t 0
+    → b ≡ isText (λ x. leb 33 x && leb x 126) 1 8 t 9 → c ≡ isText (isCodeCharacter q) 1 9 t 18 → (a && b && c) ≡ hasNames t
+unfolding hasNames
+names-are t q a b c e f g h = rw (f, g, h, e)
+
+-- ---- the order in work and its 52
 module _ (t : List ℕ) (w : ℕ) (e : w ≡ workOf t) where
   pub stamp-none : (xs : List ℕ) (r : Bool) → w ≡ 0 → xs ≡ partAt t 33 22 → r ≡ allZero xs → r ≡ hasStamp t
   unfolding hasStamp

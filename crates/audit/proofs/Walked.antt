@@ -15,13 +15,15 @@ use Rattle.octets.specs.Tests.{allUpTo}
 use Rattle.octets.proofs.Bools.{both-not-r}
 use Rattle.octets.proofs.Places.{below-or, length-put}
 use Rattle.octets.proofs.Parts.{part-in}
+use Rattle.decimal.specs.declared.Instrument.{Instrument}
 use Rattle.matching.specs.declared.Order.{Order}
 use Rattle.matching.specs.Matching.{none, at, openOf, isOpen, isBuy, isImmediate, minimumOf, opposite, opposed, opposedTo, sumOver, countOf}
-use Rattle.table.specs.Heading.{nextOf, workOf, decidedOf}
+use Rattle.table.specs.Heading.{nextOf, workOf, kindNumber, decidedOf}
 use Rattle.table.specs.declared.best.BestLevel.{BestLevel}
 use Rattle.table.specs.Orders.{orderAt, filled, bookOf}
 use Rattle.table.specs.Best.{bestOn, bestRow, bookRow}
-use Rattle.table.specs.Market.{hasLength, hasSettings, hasNext, hasWork, hasSpare, restZero, hasOrders, hasIds, hasOrderIds, isDone, noIoc, noCross, hasNumbers, isBook, hasDecision, hasBest, isMarket}
+use Rattle.table.specs.Market.{hasLength, hasSettings, hasNext, hasWork, hasKind, restZero, hasOrders, hasIds, hasOrderIds, isDone, noIoc, noCross, hasNumbers, isBook, hasDecision, hasBest, isMarket, isOf, isMarketOf}
+use Rattle.table.proofs.Facts.{market-facts}
 use Rattle.table.proofs.Stores.{length-row}
 use Rattle.table.proofs.Books.{length-book, at-book}
 use Rattle.table.proofs.Bests.{due-idle, due-busy}
@@ -251,14 +253,26 @@ unfolding isMarket hasLength
 not-long t h = rw (ne-eqb (length t) 32768 h)
 
 pub market-is : (t : List ℕ) (n : ℕ) (a b c d e f g o h : Bool) → length t ≡ 32768 → n ≡ filled t
-    → a ≡ hasSettings t → b ≡ hasNext t → c ≡ hasWork t → d ≡ hasSpare t → e ≡ allZero (drop (128 * (n + 1)) t) → f ≡ hasOrders t
+    → a ≡ hasSettings t → b ≡ hasNext t → c ≡ hasWork t → d ≡ hasKind t → e ≡ allZero (drop (128 * (n + 1)) t) → f ≡ hasOrders t
     → g ≡ hasIds t → o ≡ hasOrderIds t → h ≡ (isBook (bookOf t) (workOf t) (nextOf t) && hasDecision (bookOf t) (workOf t) (decidedOf t) && hasBest t)
     → (a && b && c && d && e && f && g && o && h) ≡ isMarket t
 unfolding isMarket hasLength restZero
 market-is t n a b c d e f g o h l pn pa pb pc pd pe pf pg po ph =
     rw (eq-eqb (length t) 32768 l, pa, pb, pc, pd, pe, pf, pg, po, ph, pn)
-    (regroup (hasSettings t && hasNext t && hasWork t && hasSpare t && allZero (drop (128 * (filled t + 1)) t) && hasOrders t && hasIds t && hasOrderIds t)
+    (regroup (hasSettings t && hasNext t && hasWork t && hasKind t && allZero (drop (128 * (filled t + 1)) t) && hasOrders t && hasIds t && hasOrderIds t)
     (isBook (bookOf t) (workOf t) (nextOf t)) (hasDecision (bookOf t) (workOf t) (decidedOf t)) (hasBest t))
   where
     regroup : (x y z v : Bool) → (x && (y && z && v)) ≡ (x && y && z && v)
     regroup x y z v = sym (and-assoc x (y && z) v) ∙ ap (λ (u : Bool). u && v) (sym (and-assoc x y z))
+
+-- a market of bonds, or one of equities
+pub market-not : (q : Instrument) (t : List ℕ) (a : Bool) → a ≡ isMarket t → a ≡ false → false ≡ isMarketOf q t
+unfolding isMarketOf
+market-not q t a e f = rw (sym e ∙ f)
+
+pub market-kind : (q : Instrument) (t : List ℕ) (a : Bool) (k : ℕ) → a ≡ isMarket t → a ≡ true → k ≡ kindNumber q → eqb (getD t 55 0) k ≡ isMarketOf q t
+unfolding isMarketOf isOf
+market-kind q t a k e f g = rw (sym e ∙ f, g)
+
+pub market-inside : (t : List ℕ) (a : Bool) → a ≡ isMarket t → a ≡ true → 55 < length t
+market-inside t a e f = omega (arith, market-facts t (sym e ∙ f) .long)

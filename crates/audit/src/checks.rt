@@ -6,10 +6,11 @@ ghost use lib.Dec.{eqb, leb};
 ghost use lib.ListN.{length};
 ghost use Rattle.octets.specs.Octets.{allZero, partAt};
 ghost use Rattle.octets.specs.Tests.{allUpTo};
-ghost use Rattle.table.specs.Places.{tableBytes};
-ghost use Rattle.table.specs.Heading.{mpidAt, entries};
+ghost use Rattle.table.specs.Places.{tableBytes, codeByte, codeRoom};
+ghost use Rattle.table.specs.Heading.{instrumentOf, mpidAt, entries};
 ghost use Rattle.table.specs.Orders.{filled};
-ghost use Rattle.table.specs.Market.{every, isText, hasNames, isEntry, hasList, hasSettings, hasNext, hasStamp, hasWork, hasSpare};
+ghost use Rattle.table.specs.Market.{every, isCodeCharacter, isText, hasNames, isEntry, hasList, hasSettings, hasNext, hasStamp, hasWork, hasKind};
+use decimal::Instrument;
 use table::entries::mode_at;
 use table::entries::mpid_at;
 use table::heading::next;
@@ -73,14 +74,25 @@ pub fn sum_of_four(t: &[u8], p: usize) -> u64
         + octets::le_at(t, p + 12, 4)
 }
 
-// Whether venue, port and code are such.
-fn has_names(t: &[u8]) -> bool
+// Whether the code is one that such a market may have.
+fn has_code(q: Instrument, t: &[u8]) -> bool
     requires { ⌜ length (now t) ≡ tableBytes ⌝ }
+    ensures { λ r. ⌜ r ≡ isText (isCodeCharacter q) 1 codeRoom (now (t .entry)) codeByte ⌝ }
+{
+    match q {
+        Instrument::Bonds => is_text(t, places::CODE, 1, places::CODE_ROOM, 48, 57),
+        Instrument::Equities => is_text(t, places::CODE, 1, places::CODE_ROOM, 33, 126),
+    }
+}
+
+// Whether venue, port and code are such; q is what the market trades.
+fn has_names(q: Instrument, t: &[u8]) -> bool
+    requires { ⌜ (length (now t) ≡ tableBytes) × (q ≡ instrumentOf (now t)) ⌝ }
     ensures { λ r. ⌜ r ≡ hasNames (now (t .entry)) ⌝ }
 {
     is_text(t, places::VENUE, 1, places::ID_ROOM, 33, 126)
         & is_text(t, places::PORT, 1, places::ID_ROOM, 33, 126)
-        & is_text(t, places::CODE, 1, places::CODE_ROOM, 48, 57)
+        & has_code(q, t)
 }
 
 // Whether none of the entries before entry k has its MPID.
@@ -134,12 +146,12 @@ fn has_list(t: &[u8], n: usize) -> bool
         & octets::all_zero(octets::part_at(t, places::MODES + n, places::MOST_MPIDS - n))
 }
 
-// Whether the settings keep the ranges of opening; n is the number of MPIDs.
-pub fn has_settings(t: &[u8], n: usize) -> bool
-    requires { ⌜ (length (now t) ≡ tableBytes) × (n ≡ entries (now t)) × (n ≤ 8) ⌝ }
+// Whether the settings keep the ranges of opening; q is what the market trades, n the number of MPIDs.
+pub fn has_settings(q: Instrument, t: &[u8], n: usize) -> bool
+    requires { ⌜ (length (now t) ≡ tableBytes) × (q ≡ instrumentOf (now t)) × (n ≡ entries (now t)) × (n ≤ 8) ⌝ }
     ensures { λ r. ⌜ r ≡ hasSettings (now (t .entry)) ⌝ }
 {
-    has_names(t) & has_list(t, n)
+    has_names(q, t) & has_list(t, n)
 }
 
 // Whether the next number is in its range.
@@ -176,10 +188,10 @@ pub fn has_work(t: &[u8], n: usize) -> bool
     (work(t) <= n) & has_stamp(t)
 }
 
-// Whether the byte of the heading that nothing uses is zero.
-pub fn has_spare(t: &[u8]) -> bool
+// Whether it is noted what the market trades.
+pub fn has_kind(t: &[u8]) -> bool
     requires { ⌜ length (now t) ≡ tableBytes ⌝ }
-    ensures { λ r. ⌜ r ≡ hasSpare (now (t .entry)) ⌝ }
+    ensures { λ r. ⌜ r ≡ hasKind (now (t .entry)) ⌝ }
 {
-    octets::all_zero(octets::part_at(t, places::SPARE, 1))
+    octets::wide(t[places::KIND]) <= 1
 }

@@ -6,3 +6,4 @@ pub mod sound;
 pub mod whole;
 
 pub use whole::is_market;
+pub use whole::is_market_of;

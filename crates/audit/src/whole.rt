@@ -6,20 +6,23 @@ ghost use lib.ListN.{length};
 ghost use Rattle.table.specs.Places.{tableBytes};
 ghost use Rattle.table.specs.Heading.{nextOf, workOf, decidedOf};
 ghost use Rattle.table.specs.Orders.{filled, bookOf};
-ghost use Rattle.table.specs.Market.{isBook, hasDecision, hasBest, isMarket};
+ghost use Rattle.table.specs.Market.{isBook, hasDecision, hasBest, isMarket, isMarketOf};
 use crate::book::has_best;
 use crate::book::has_decision;
 use crate::book::is_book;
+use crate::checks::has_kind;
 use crate::checks::has_next;
 use crate::checks::has_settings;
-use crate::checks::has_spare;
 use crate::checks::has_work;
 use crate::marks::has_ids;
 use crate::marks::has_order_ids;
 use crate::sound::has_orders;
+use decimal::Instrument;
 use table::book::filled;
 use table::entries::entries;
 use table::heading::decided;
+use table::heading::instrument;
+use table::heading::kind_number;
 use table::heading::next;
 use table::heading::work;
 use table::places;
@@ -41,15 +44,26 @@ pub fn is_market(t: &[u8]) -> bool
     if t.len() != places::TABLE {
         return false;
     }
+    let q = instrument(t);
     let m = entries(t);
     let n = filled(t);
-    has_settings(t, m)
+    has_settings(q, t, m)
         & has_next(t)
         & has_work(t, n)
-        & has_spare(t)
+        & has_kind(t)
         & octets::rest_zero(t, places::RECORD * (n + 1))
-        & has_orders(t, m, n)
+        & has_orders(q, t, m, n)
         & has_ids(t, n)
         & has_order_ids(t, n)
         & has_book(t, n)
+}
+
+// Whether they are a market of bonds, or one of equities.
+pub fn is_market_of(q: Instrument, t: &[u8]) -> bool
+    ensures { λ r. ⌜ r ≡ isMarketOf q (now (t .entry)) ⌝ }
+{
+    if !is_market(t) {
+        return false;
+    }
+    t[places::KIND] == kind_number(q)
 }

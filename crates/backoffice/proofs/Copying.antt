@@ -8,6 +8,7 @@ use lib.Dec.{eqb, ltb}
 use lib.ListN.{length}
 use borrow.Author.Tests.{ne-eqb, le-ltb}
 use Rattle.octets.proofs.Bools.{split}
+use Rattle.decimal.specs.declared.Instrument.{Instrument}
 use Rattle.report.specs.declared.Field.{Field}
 use Rattle.report.specs.declared.Kind.{Kind}
 use Rattle.report.specs.declared.Kind.the-variants.{Accepted, Replaced, Canceled, Trade, Rejected, CancelReject, SessionReject, Refused}
@@ -76,12 +77,12 @@ module _ (x y : Reading) (s : Same x y) where
       ap (λ (n : ℕ). cond (eqb n k) (afterReport (x .kind) x a) a) (s .order)
       ∙ ap (λ (b : Account). cond (eqb (says 37 y) k) b a) (after-same (x .kind) a ∙ ap (λ (j : Kind). afterReport j y a) (s .kind))
 
-  pub traded-same : (side : ℕ) → tradedFor side x ≡ tradedFor side y
+  pub traded-same : (takes : ℕ → Bool) → tradedFor takes x ≡ tradedFor takes y
   unfolding tradedFor
-  traded-same side =
-      ap (λ (j : Kind). cond (isTrade j && eqb (says 54 x) side) (says 32 x) 0) (s .kind)
-      ∙ ap (λ (n : ℕ). cond (isTrade (y .kind) && eqb n side) (says 32 x) 0) (s .side)
-      ∙ ap (λ (n : ℕ). cond (isTrade (y .kind) && eqb (says 54 y) side) n 0) (s .executed)
+  traded-same takes =
+      ap (λ (j : Kind). cond (isTrade j && takes (says 54 x)) (says 32 x) 0) (s .kind)
+      ∙ ap (λ (n : ℕ). cond (isTrade (y .kind) && takes n) (says 32 x) 0) (s .side)
+      ∙ ap (λ (n : ℕ). cond (isTrade (y .kind) && takes (says 54 y)) n 0) (s .executed)
 
 -- a report that a full feed does not copy changes no account, and one that a reconciliation feed does not copy trades nothing
 after-other : (k : Kind) (r : Reading) (a : Account) → copiedBy 2 k ≡ false → afterReport k r a ≡ a
@@ -108,39 +109,39 @@ trades-none CancelReject e = refl
 trades-none SessionReject e = refl
 trades-none Refused e = refl
 
-pub traded-other : (side : ℕ) (r : Reading) → copiedBy 1 (r .kind) ≡ false → tradedFor side r ≡ 0
+pub traded-other : (takes : ℕ → Bool) (r : Reading) → copiedBy 1 (r .kind) ≡ false → tradedFor takes r ≡ 0
 unfolding tradedFor
-traded-other side r e = rw (trades-none (r .kind) e)
+traded-other takes r e = rw (trades-none (r .kind) e)
 
 -- ---- the copy of a report
 says-at : (tag : ℕ) (fs : List Field) → saysIn tag fs ≡ atTag numberOf 0 tag fs
 says-at tag [] = refl
 says-at tag (f ∷ fs) = ap (cond (eqb (f .tag) tag) (numberOf (f .value))) (says-at tag fs)
 
-module _ (report : List ℕ) (some : isNone (readOf report .kind) ≡ false) (client : List ℕ) (n : ℕ) (given : Given report client n) (c : copiedBy 2 (readOf report .kind) ≡ true) where
+module _ (q : Instrument) (report : List ℕ) (some : isNone (readOf q report .kind) ≡ false) (client : List ℕ) (n : ℕ) (given : Given q report client n) (c : copiedBy 2 (readOf q report .kind) ≡ true) where
   abbrev copy : List ℕ
-  copy = copyBytes report n client (readOf report .fields)
+  copy = copyBytes report n client (readOf q report .fields)
 
   abbrev copied : List Field
-  copied = copyRow n (length client) (readOf report .fields)
+  copied = copyRow n (length client) (readOf q report .fields)
 
   -- what the copy says is what its row says
-  read-says : (tag : ℕ) → says tag (readCopyOf copy) ≡ atTag numberOf 0 tag copied
+  read-says : (tag : ℕ) → says tag (readCopyOf q copy) ≡ atTag numberOf 0 tag copied
   unfolding says
   read-says tag =
-      ap (λ (r : Reading). saysIn tag (r .fields)) (is-read report some client n given c)
+      ap (λ (r : Reading). saysIn tag (r .fields)) (is-read q report some client n given c)
       ∙ backs-say report client tag (start (rowBytes report client copied)) copied
       ∙ says-at tag copied
 
-  kept-says : (tag : ℕ) → isKept (isFillOrKill (readOf report .fields)) tag ≡ true → says tag (readCopyOf copy) ≡ says tag (readOf report)
+  kept-says : (tag : ℕ) → isKept (isFillOrKill (readOf q report .fields)) tag ≡ true → says tag (readCopyOf q copy) ≡ says tag (readOf q report)
   unfolding says
-  kept-says tag k = read-says tag ∙ row-kept report some client n given numberOf 0 tag k ∙ sym (says-at tag (readOf report .fields))
+  kept-says tag k = read-says tag ∙ row-kept q report some client n given numberOf 0 tag k ∙ sym (says-at tag (readOf q report .fields))
 
-  pub copy-same : Same (readCopyOf copy) (readOf report)
+  pub copy-same : Same (readCopyOf q copy) (readOf q report)
   unfolding isKept
   copy-same =
       record {
-        kind = ap (λ (r : Reading). r .kind) (is-read report some client n given c);
+        kind = ap (λ (r : Reading). r .kind) (is-read q report some client n given c);
         order = kept-says 37 refl;
         quantity = kept-says 38 refl;
         left = kept-says 151 refl;
@@ -149,26 +150,26 @@ module _ (report : List ℕ) (some : isNone (readOf report .kind) ≡ false) (cl
         side = kept-says 54 refl;
       }
 
-  pub copy-34 : says 34 (readCopyOf copy) ≡ n
-  copy-34 = read-says 34 ∙ row-34 report some client n given c numberOf 0
+  pub copy-34 : says 34 (readCopyOf q copy) ≡ n
+  copy-34 = read-says 34 ∙ row-34 q report some client n given c numberOf 0
 
-  pub copy-17 : says 17 (readCopyOf copy) ≡ n
-  copy-17 = read-says 17 ∙ row-17 report some client n given c numberOf 0
+  pub copy-17 : says 17 (readCopyOf q copy) ≡ n
+  copy-17 = read-says 17 ∙ row-17 q report some client n given c numberOf 0
 
 -- ---- what a feed does with a report that Read takes
-module _ (subscription shows : ℕ) (port group : List ℕ) (set : isSetting subscription shows port group ≡ true) (report : List ℕ) (some : isNone (readOf report .kind) ≡ false)
+module _ (q : Instrument) (subscription shows : ℕ) (port group : List ℕ) (set : isSetting q subscription shows port group ≡ true) (report : List ℕ) (some : isNone (readOf q report .kind) ≡ false)
     (n : ℕ) (low : 1 ≤ n) (high : n ≤ 999999999) where
-  pub given-so : Given report (clientOf shows port group) n
-  given-so = record { low = low; high = high; text = setting-text subscription shows port group set; short = setting-short subscription shows port group set }
+  pub given-so : Given q report (clientOf shows port group) n
+  given-so = record { low = low; high = high; text = setting-text q subscription shows port group set; short = setting-short q subscription shows port group set }
 
   left : (eqb n 0 || ltb 999999999 n) ≡ false
   left = let z : eqb n 0 ≡ false = ne-eqb n 0 (λ e. omega (arith, e)) in rw (z, le-ltb 999999999 n high)
 
-  pub fed-copied : copiedBy subscription (readOf report .kind) ≡ true
-      → fed report subscription shows port group n 1024 ≡ fedWith n (copyBytes report n (clientOf shows port group) (readOf report .fields))
+  pub fed-copied : copiedBy subscription (readOf q report .kind) ≡ true
+      → fed q report subscription shows port group n 1024 ≡ fedWith n (copyBytes report n (clientOf shows port group) (readOf q report .fields))
   unfolding fed
   fed-copied c = rw (some, set, left, c)
 
-  pub fed-not : copiedBy subscription (readOf report .kind) ≡ false → fed report subscription shows port group n 1024 ≡ unfed (NotCopied n)
+  pub fed-not : copiedBy subscription (readOf q report .kind) ≡ false → fed q report subscription shows port group n 1024 ≡ unfed (NotCopied n)
   unfolding fed
   fed-not c = rw (some, set, left, c)

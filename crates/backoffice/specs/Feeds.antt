@@ -1,11 +1,10 @@
--- Reports handed to a feed one by one, each with the number that the one before left, and what a back office tells from the copies alone
--- (document 02, T-01; 01, "The reports", what demand 3 takes from reports). A copy is read as `read_copy` gives it, and an account takes
--- from it what it takes from a report. Assumes nothing.
+-- Reports handed to a feed one by one, each with the number that the one before left (document 02, T-01), and the numbers of the copies.
+-- What a back office tells from the copies, as `read_copy` gives them, is what a member tells from reports. Assumes nothing.
 use mathlib.Core.Path.{_≡_}
 use mathlib.Core.List.{List, [], _∷_, _++_}
 use Prim.Native.Nat.{ℕ, _+_}
+use Rattle.decimal.specs.declared.Instrument.{Instrument}
 use Rattle.readback.specs.Says.{says}
-use Rattle.promises.specs.Tallies.{Account, blank, noted, tradedFor}
 use Rattle.feed.specs.declared.CopyAnswer.{CopyAnswer}
 use Rattle.feed.specs.declared.CopyAnswer.the-variants.{NoRoom, NoReport, BadSetting, NumbersSpent, NotCopied, Copied}
 use Rattle.feed.specs.Copies.{Fed, fed, readCopyOf}
@@ -31,28 +30,15 @@ nextAfter n (NotCopied next) = next
 nextAfter n (Copied len next) = next
 
 -- the copies of reports, from number n on, each in an area of 1,024 bytes
-unfoldable pub copiesFrom : ℕ → ℕ → List ℕ → List ℕ → ℕ → List (List ℕ) → List (List ℕ)
-copiesFrom subscription shows port group n [] = []
-copiesFrom subscription shows port group n (r ∷ rs) =
-    let f = fed r subscription shows port group n 1024 in
-    writtenBy (f .answer) (f .bytes) ++ copiesFrom subscription shows port group (nextAfter n (f .answer)) rs
+unfoldable pub copiesFrom : Instrument → ℕ → ℕ → List ℕ → List ℕ → ℕ → List (List ℕ) → List (List ℕ)
+copiesFrom q subscription shows port group n [] = []
+copiesFrom q subscription shows port group n (r ∷ rs) =
+    let f = fed q r subscription shows port group n 1024 in
+    writtenBy (f .answer) (f .bytes) ++ copiesFrom q subscription shows port group (nextAfter n (f .answer)) rs
 
--- ---- what is told from them
-
--- the account of the order with OrderID k (37), copy by copy
-unfoldable pub copyAccountFrom : ℕ → Account → List (List ℕ) → Account
-copyAccountFrom k a [] = a
-copyAccountFrom k a (c ∷ cs) = copyAccountFrom k (noted k a (readCopyOf c)) cs
-
-abbrev pub copyAccountOf : ℕ → List (List ℕ) → Account
-copyAccountOf k cs = copyAccountFrom k blank cs
-
--- bought (side 1) and sold (side 2) in all
-unfoldable pub copyTraded : ℕ → List (List ℕ) → ℕ
-copyTraded s [] = 0
-copyTraded s (c ∷ cs) = tradedFor s (readCopyOf c) + copyTraded s cs
+-- ---- their numbers
 
 -- 34 and 17 are n, n + 1, n + 2 and so on
-abbrev pub NumberedFrom : ℕ → List (List ℕ) → Type 0
-NumberedFrom n [] = Unit {0}
-NumberedFrom n (c ∷ cs) = (says 34 (readCopyOf c) ≡ n) × (says 17 (readCopyOf c) ≡ n) × NumberedFrom (n + 1) cs
+abbrev pub NumberedFrom : Instrument → ℕ → List (List ℕ) → Type 0
+NumberedFrom q n [] = Unit {0}
+NumberedFrom q n (c ∷ cs) = (says 34 (readCopyOf q c) ≡ n) × (says 17 (readCopyOf q c) ≡ n) × NumberedFrom q (n + 1) cs

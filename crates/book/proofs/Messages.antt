@@ -13,8 +13,9 @@ use Rattle.octets.proofs.Bools.{split}
 use Rattle.fix.specs.Garbled.{garbledMessage}
 use Rattle.request.specs.declared.Asked.the-variants.{Garbled}
 use Rattle.request.specs.Asks.{askedOf}
-use Rattle.table.specs.Heading.{venueOf, portOf, nextOf, workOf}
-use Rattle.table.specs.Market.{isMarket}
+use Rattle.decimal.specs.declared.Instrument.{Instrument}
+use Rattle.table.specs.Heading.{instrumentOf, venueOf, portOf, nextOf, workOf}
+use Rattle.table.specs.Market.{isMarketOf}
 use Rattle.octets.proofs.Places.{length-put}
 use Rattle.calls.specs.Told.{joined, areaAfter, roomAsked}
 use Rattle.calls.specs.Submit.{submitted}
@@ -64,36 +65,36 @@ length-message (c ∷ s) = ap suc (length-message s)
 
 -- ---- too long for a message
 
-asked-long : (venue port m : List ℕ) → 1024 < length m → askedOf venue port m ≡ Garbled
+asked-long : (q : Instrument) (venue port m : List ℕ) → 1024 < length m → askedOf q venue port m ≡ Garbled
 unfolding askedOf garbledMessage
-asked-long venue port m h = rw (le-leb 1 (length m) (omega arith), lt-leb (length m) 1024 h)
+asked-long q venue port m h = rw (le-leb 1 (length m) (omega arith), lt-leb (length m) 1024 h)
 
-submitted-long : (t m : List ℕ) (room : ℕ) → 1024 < length m → submitted t m room .table ≡ t
+submitted-long : (q : Instrument) (t m : List ℕ) (room : ℕ) → 1024 < length m → submitted q t m room .table ≡ t
 unfolding submitted
-submitted-long t m room h =
+submitted-long q t m room h =
     split (ltb room roomAsked) (λ a. rw a)
-    (λ a. split (not (isMarket t)) (λ b. rw (a, b))
+    (λ a. split (not (isMarketOf q t)) (λ b. rw (a, b))
     (λ b. split (not (eqb (workOf t) 0)) (λ c. rw (a, b, c))
     (λ c. split (ltb 999998976 (nextOf t)) (λ d. rw (a, b, c, d))
-    (λ d. rw (a, b, c, d, asked-long (venueOf t) (portOf t) m h)))))
+    (λ d. rw (a, b, c, d, asked-long (instrumentOf t) (venueOf t) (portOf t) m h)))))
 
-pub taken-long : (t l k : List ℕ) → 1024 < length l → 1024 < length k → lineTaken t l ≡ lineTaken t k
+pub taken-long : (q : Instrument) (t l k : List ℕ) → 1024 < length l → 1024 < length k → lineTaken q t l ≡ lineTaken q t k
 unfolding lineTaken
-taken-long t l k h i =
-    ap (λ (x : List ℕ). ran x areaBytes stepsAllowed .table)
-    (submitted-long t (messageOf l) areaBytes (omega (arith, h, length-message l))
-    ∙ sym (submitted-long t (messageOf k) areaBytes (omega (arith, i, length-message k))))
+taken-long q t l k h i =
+    ap (λ (x : List ℕ). ran q x areaBytes stepsAllowed .table)
+    (submitted-long q t (messageOf l) areaBytes (omega (arith, h, length-message l))
+    ∙ sym (submitted-long q t (messageOf k) areaBytes (omega (arith, i, length-message k))))
 
 -- ---- a line is taken: submitted, then run
 
-module _ (t line area line₂ t₂ area₂ : List ℕ) (e : line₂ ≡ messageOf line) (h : length area ≡ areaBytes)
-    (p : t₂ ≡ submitted t line₂ (length area) .table) (q : area₂ ≡ areaAfter area (submitted t line₂ (length area) .reports)) where
+module _ (q : Instrument) (t line area line₂ t₂ area₂ : List ℕ) (e : line₂ ≡ messageOf line) (h : length area ≡ areaBytes)
+    (p : t₂ ≡ submitted q t line₂ (length area) .table) (o : area₂ ≡ areaAfter area (submitted q t line₂ (length area) .reports)) where
   area-kept : length area₂ ≡ areaBytes
-  area-kept = ap length q ∙ length-put area 0 (joined (submitted t line₂ (length area) .reports)) ∙ h
+  area-kept = ap length o ∙ length-put area 0 (joined (submitted q t line₂ (length area) .reports)) ∙ h
 
-  pub line-table : {t₃ : List ℕ} → t₃ ≡ ran t₂ (length area₂) stepsAllowed .table → t₃ ≡ lineTaken t line
+  pub line-table : {t₃ : List ℕ} → t₃ ≡ ran q t₂ (length area₂) stepsAllowed .table → t₃ ≡ lineTaken q t line
   unfolding lineTaken
   line-table r = r ∙ rw (area-kept, p, h, e)
 
-  pub line-area : {area₃ : List ℕ} → area₃ ≡ areaAfter area₂ (ran t₂ (length area₂) stepsAllowed .reports) → length area₃ ≡ areaBytes
-  line-area r = ap length r ∙ length-put area₂ 0 (joined (ran t₂ (length area₂) stepsAllowed .reports)) ∙ area-kept
+  pub line-area : {area₃ : List ℕ} → area₃ ≡ areaAfter area₂ (ran q t₂ (length area₂) stepsAllowed .reports) → length area₃ ≡ areaBytes
+  line-area r = ap length r ∙ length-put area₂ 0 (joined (ran q t₂ (length area₂) stepsAllowed .reports)) ∙ area-kept

@@ -10,9 +10,11 @@ use lib.ListN.{length}
 use Rattle.octets.proofs.Bools.{split}
 use Rattle.matching.specs.Matching.{Book, at, faces, countOf, metBy}
 use Rattle.matching.proofs.Books.{sum-most}
+use Rattle.decimal.specs.declared.Instrument.{Instrument}
 use Rattle.table.specs.Heading.{workOf}
 use Rattle.table.specs.Orders.{bookOf}
-use Rattle.table.specs.Market.{isMarket}
+use Rattle.table.specs.Market.{isMarketOf}
+use Rattle.table.proofs.Instruments.{of-market}
 use Rattle.table.proofs.Same.{filled-few}
 use Rattle.table.proofs.Books.{length-book}
 use Rattle.calls.specs.Submit.{submitted}
@@ -34,41 +36,41 @@ met-few b w =
     )
 
 -- Run with so much room and so many steps ends the work
-ends : (t : List ℕ) → isMarket t ≡ true → workOf (ran t areaBytes stepsAllowed .table) ≡ 0
+ends : (q : Instrument) (t : List ℕ) → isMarketOf q t ≡ true → workOf (ran q t areaBytes stepsAllowed .table) ≡ 0
 unfolding ran
-ends t m =
+ends q t m =
     let few : metBy (bookOf t) (workOf t) ≤ 255 = omega (arith, met-few (bookOf t) (workOf t), length-book t, filled-few t) in
-    rw m (run-ends stepsAllowed t areaBytes m (omega (arith, few)) (omega (arith, few)) .ended)
+    rw m (run-ends stepsAllowed t areaBytes (of-market q t m) (omega (arith, few)) (omega (arith, few)) .ended)
 
 -- ---- a line
 
-module _ (t line : List ℕ) (m : isMarket t ≡ true) where
-  -- it leaves a market
-  pub line-keeps : isMarket (lineTaken t line) ≡ true
+module _ (q : Instrument) (t line : List ℕ) (m : isMarketOf q t ≡ true) where
+  -- it leaves a market that trades the same
+  pub line-keeps : isMarketOf q (lineTaken q t line) ≡ true
   unfolding lineTaken
-  line-keeps = run-keeps (submitted t (messageOf line) areaBytes .table) areaBytes stepsAllowed (submit-keeps t (messageOf line) areaBytes m)
+  line-keeps = run-keeps q (submitted q t (messageOf line) areaBytes .table) areaBytes stepsAllowed (submit-keeps q t (messageOf line) areaBytes m)
 
   -- and its message is run to its end
-  pub line-ends : workOf (lineTaken t line) ≡ 0
+  pub line-ends : workOf (lineTaken q t line) ≡ 0
   unfolding lineTaken
-  line-ends = ends (submitted t (messageOf line) areaBytes .table) (submit-keeps t (messageOf line) areaBytes m)
+  line-ends = ends q (submitted q t (messageOf line) areaBytes .table) (submit-keeps q t (messageOf line) areaBytes m)
 
 -- ---- all lines
 
-pub lines-keep : (ls : List (List ℕ)) (t : List ℕ) → isMarket t ≡ true → isMarket (linesTaken t ls) ≡ true
+pub lines-keep : (q : Instrument) (ls : List (List ℕ)) (t : List ℕ) → isMarketOf q t ≡ true → isMarketOf q (linesTaken q t ls) ≡ true
 unfolding linesTaken
-lines-keep [] t m = m
-lines-keep (l ∷ ls) t m = lines-keep ls (lineTaken t l) (line-keeps t l m)
+lines-keep q [] t m = m
+lines-keep q (l ∷ ls) t m = lines-keep q ls (lineTaken q t l) (line-keeps q t l m)
 
-pub lines-end : (ls : List (List ℕ)) (t : List ℕ) → isMarket t ≡ true → workOf t ≡ 0 → workOf (linesTaken t ls) ≡ 0
+pub lines-end : (q : Instrument) (ls : List (List ℕ)) (t : List ℕ) → isMarketOf q t ≡ true → workOf t ≡ 0 → workOf (linesTaken q t ls) ≡ 0
 unfolding linesTaken
-lines-end [] t m w = w
-lines-end (l ∷ ls) t m w = lines-end ls (lineTaken t l) (line-keeps t l m) (line-ends t l m)
+lines-end q [] t m w = w
+lines-end q (l ∷ ls) t m w = lines-end q ls (lineTaken q t l) (line-keeps q t l m) (line-ends q t l m)
 
 -- ---- the program
 
 -- whatever it reads, it prints the levels of the book that is left
-pub prints-levels : (input : List ℕ) → bookPrinted input ≡ heading ++ bothSides (bookOf (linesTaken rehearsal (linesOf input)))
+pub prints-levels : (q : Instrument) (input : List ℕ) → bookPrinted q input ≡ heading q ++ bothSides q (bookOf (linesTaken q (rehearsal q) (linesOf input)))
 unfolding bookPrinted sheetOf
-prints-levels input =
-    rw (lines-keep (linesOf input) rehearsal rehearsal-market, lines-end (linesOf input) rehearsal rehearsal-market rehearsal-idle)
+prints-levels q input =
+    rw (lines-keep q (linesOf input) (rehearsal q) (rehearsal-market q), lines-end q (linesOf input) (rehearsal q) (rehearsal-market q) (rehearsal-idle q))

@@ -6,14 +6,15 @@ use mathlib.Core.List.{List, [], _∷_, _++_}
 use Prim.Native.Nat.{ℕ, _≤_}
 use lib.Dec.{eqb}
 use lib.ListN.{length, take}
+use Rattle.decimal.specs.declared.Instrument.{Instrument}
 use Rattle.book.specs.Sheet.{lineEnd}
 use Rattle.book.specs.Book.{lineTaken, bookPrinted}
 use Rattle.octets.specs.Written.{Wrote}
 
 -- the table in the end, where s is still to be read and p has been read of a line that is not ended
-unfoldable pub readOn : List ℕ → List ℕ → List ℕ → List ℕ
-readOn t p [] = cond (eqb (length p) 0) t (lineTaken t p)
-readOn t p (c ∷ s) = cond (eqb c lineEnd) (readOn (lineTaken t p) [] s) (readOn t (p ++ (c ∷ [])) s)
+unfoldable pub readOn : Instrument → List ℕ → List ℕ → List ℕ → List ℕ
+readOn q t p [] = cond (eqb (length p) 0) t (lineTaken q t p)
+readOn q t p (c ∷ s) = cond (eqb c lineEnd) (readOn q (lineTaken q t p) [] s) (readOn q t (p ++ (c ∷ [])) s)
 
 -- one byte more than a message may have
 abbrev pub lineBytes : ℕ
@@ -25,18 +26,18 @@ pub record Held (line : List ℕ) (held : ℕ) : Type 0 where
   pub few : held ≤ lineBytes
 
 -- after the bytes s were read, whatever comes behind them
-pub record Onward (t line : List ℕ) (held : ℕ) (s t₂ line₂ : List ℕ) (held₂ : ℕ) : Type 0 where
+pub record Onward (q : Instrument) (t line : List ℕ) (held : ℕ) (s t₂ line₂ : List ℕ) (held₂ : ℕ) : Type 0 where
   pub buffer : Held line₂ held₂
-  pub same : (u : List ℕ) → readOn t (take held line) (s ++ u) ≡ readOn t₂ (take held₂ line₂) u
+  pub same : (u : List ℕ) → readOn q t (take held line) (s ++ u) ≡ readOn q t₂ (take held₂ line₂) u
 
 -- after some input was read; no contract says which bytes a read gives, so it is known that there is such an input and no more
-pub record Came (t line : List ℕ) (held : ℕ) (t₂ line₂ : List ℕ) (held₂ : ℕ) : Type 0 where
+pub record Came (q : Instrument) (t line : List ℕ) (held : ℕ) (t₂ line₂ : List ℕ) (held₂ : ℕ) : Type 0 where
   pub input : List ℕ
-  pub onward : Onward t line held input t₂ line₂ held₂
+  pub onward : Onward q t line held input t₂ line₂ held₂
 
 -- the n bytes at the start of out are what the program prints for the input that it read
-pub record Printed (out : List ℕ) (n : ℕ) (after : List ℕ) : Type 0 where
+pub record Printed (q : Instrument) (out : List ℕ) (n : ℕ) (after : List ℕ) : Type 0 where
   pub input : List ℕ
-  pub wrote : Wrote out 0 (bookPrinted input) n after
+  pub wrote : Wrote out 0 (bookPrinted q input) n after
   pub fits : n ≤ length after
   pub front : n ≡ length (take n after)

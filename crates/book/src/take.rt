@@ -5,6 +5,7 @@ ghost use mathlib.Core.List.{_∷_, []};
 ghost use lib.ListN.{length, take};
 ghost use Rattle.book.specs.Book.{areaBytes, byteFor, messageOf, lineTaken};
 ghost use Rattle.book.specs.Reading.{readOn, Held, Onward};
+use decimal::Instrument;
 use market::run;
 use market::submit;
 
@@ -30,22 +31,29 @@ fn as_message(line: &mut [u8])
 }
 
 // A line is taken: its message is submitted, and what it put in work is run to its end.
-fn take_line(t: &mut [u8], line: &mut [u8], area: &mut [u8])
+fn take_line(q: Instrument, t: &mut [u8], line: &mut [u8], area: &mut [u8])
     requires { ⌜ length (now area) ≡ areaBytes ⌝ }
-    ensures { λ _. ⌜ (now (t .exit) ≡ lineTaken (now (t .entry)) (now (line .entry))) × (length (now (area .exit)) ≡ areaBytes) ⌝ }
+    ensures { λ _. ⌜ (now (t .exit) ≡ lineTaken q (now (t .entry)) (now (line .entry))) × (length (now (area .exit)) ≡ areaBytes) ⌝ }
 {
     as_message(line);
-    submit(t, line, area);
-    run(t, area, 256);
+    submit(q, t, line, area);
+    run(q, t, area, 256);
 }
 
 // One byte more: it ends the line, or is a byte of it. How many bytes of the line are held is given back.
-fn take_byte(t: &mut [u8], line: &mut [u8], held: usize, area: &mut [u8], c: u8) -> usize
+fn take_byte(
+    q: Instrument,
+    t: &mut [u8],
+    line: &mut [u8],
+    held: usize,
+    area: &mut [u8],
+    c: u8,
+) -> usize
     requires { ⌜ Held (now line) held × (length (now area) ≡ areaBytes) ⌝ }
-    ensures { λ r. ⌜ Onward (now (t .entry)) (now (line .entry)) held (c ∷ []) (now (t .exit)) (now (line .exit)) r × (length (now (area .exit)) ≡ areaBytes) ⌝ }
+    ensures { λ r. ⌜ Onward q (now (t .entry)) (now (line .entry)) held (c ∷ []) (now (t .exit)) (now (line .exit)) r × (length (now (area .exit)) ≡ areaBytes) ⌝ }
 {
     if c == b'\n' {
-        take_line(t, &mut line[..held], area);
+        take_line(q, t, &mut line[..held], area);
         return 0;
     }
     if held == 1025 {
@@ -56,25 +64,32 @@ fn take_byte(t: &mut [u8], line: &mut [u8], held: usize, area: &mut [u8], c: u8)
 }
 
 // The bytes of a part of the input, one after another.
-pub fn take_bytes(t: &mut [u8], line: &mut [u8], held: usize, area: &mut [u8], part: &[u8]) -> usize
+pub fn take_bytes(
+    q: Instrument,
+    t: &mut [u8],
+    line: &mut [u8],
+    held: usize,
+    area: &mut [u8],
+    part: &[u8],
+) -> usize
     requires { ⌜ Held (now line) held × (length (now area) ≡ areaBytes) ⌝ }
-    ensures { λ r. ⌜ Onward (now (t .entry)) (now (line .entry)) held (now (part .entry)) (now (t .exit)) (now (line .exit)) r × (length (now (area .exit)) ≡ areaBytes) ⌝ }
+    ensures { λ r. ⌜ Onward q (now (t .entry)) (now (line .entry)) held (now (part .entry)) (now (t .exit)) (now (line .exit)) r × (length (now (area .exit)) ≡ areaBytes) ⌝ }
 {
     let mut n = held;
     let mut i = 0;
     while i < part.len() {
-        n = take_byte(t, line, n, area, part[i]);
+        n = take_byte(q, t, line, n, area, part[i]);
         i += 1;
     }
     n
 }
 
 // The input ends: a line that is not ended is taken.
-pub fn take_end(t: &mut [u8], line: &mut [u8], held: usize, area: &mut [u8])
+pub fn take_end(q: Instrument, t: &mut [u8], line: &mut [u8], held: usize, area: &mut [u8])
     requires { ⌜ Held (now line) held × (length (now area) ≡ areaBytes) ⌝ }
-    ensures { λ _. ⌜ now (t .exit) ≡ readOn (now (t .entry)) (take held (now (line .entry))) [] ⌝ }
+    ensures { λ _. ⌜ now (t .exit) ≡ readOn q (now (t .entry)) (take held (now (line .entry))) [] ⌝ }
 {
     if 0 < held {
-        take_line(t, &mut line[..held], area);
+        take_line(q, t, &mut line[..held], area);
     }
 }

@@ -1,14 +1,15 @@
--- What Run answers and leaves (document 01, "The table and its calls", Run and refusals 1 and 2; "Matching, step by step"): for any
--- bytes of a table, any length of the report area and any budget of steps. Assumes nothing.
+-- What Run answers and leaves (document 01, "The table and its calls", Run and refusals 1 and 2; "Matching, step by step"; document
+-- 02, T-08): for any bytes of a table, any length of the report area and any budget of steps. Assumes nothing.
 use mathlib.Core.Bool.{Bool, cond, not, _||_}
 use mathlib.Core.List.{List, [], _∷_, _++_}
 use Prim.Native.Nat.{ℕ, zero, suc, _+_, _-_}
 use lib.Dec.{eqb, ltb}
 use lib.ListN.{length}
+use Rattle.decimal.specs.declared.Instrument.{Instrument}
 use Rattle.matching.specs.declared.Event.{Event}
 use Rattle.table.specs.Heading.{nextOf, workOf}
 use Rattle.table.specs.Orders.{applied}
-use Rattle.table.specs.Market.{isMarket}
+use Rattle.table.specs.Market.{isMarketOf}
 use Rattle.table.specs.Changes.{stepEvents, stepped}
 use Rattle.ticket.specs.Tickets.{ticketOf, keptCause}
 use Rattle.calls.specs.declared.RunAnswer.{RunAnswer}
@@ -75,10 +76,11 @@ done w =
       reports = w .reports;
     }
 
-unfoldable pub ran : List ℕ → ℕ → ℕ → Ran
-ran t room budget =
+-- the call for bonds takes a market of bonds, and that for equities one of equities
+unfoldable pub ran : Instrument → List ℕ → ℕ → ℕ → Ran
+ran q t room budget =
     cond (ltb room roomAsked) (unmoved t answer.NoRoom)
-    (cond (not (isMarket t)) (unmoved t answer.NoMarket)
+    (cond (not (isMarketOf q t)) (unmoved t answer.NoMarket)
     (done (worked budget t room)))
 
 -- the paper's number

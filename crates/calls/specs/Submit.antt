@@ -1,10 +1,11 @@
--- What Submit answers and leaves (document 01, "The table and its calls", Submit and refusals 1 to 8; document 02, T-09): for any
+-- What Submit answers and leaves (document 01, "The table and its calls", Submit and refusals 1 to 8; document 02, T-08 and T-09): for any
 -- bytes of a table, of a message, and any length of the report area. Assumes nothing.
 use mathlib.Core.Bool.{Bool, true, false, cond, not}
 use mathlib.Core.List.{List, [], _∷_}
 use Prim.Native.Nat.{ℕ}
 use lib.Dec.{eqb, ltb}
 use lib.ListN.{length}
+use Rattle.decimal.specs.declared.Instrument.{Instrument}
 use Rattle.fix.specs.declared.frame.Part.{Part}
 use Rattle.request.specs.declared.Refusal.{Refusal}
 use Rattle.request.specs.declared.NewOrder.{NewOrder}
@@ -17,9 +18,10 @@ use Rattle.matching.specs.declared.Order.{Order}
 use Rattle.matching.specs.declared.Event.{Event}
 use Rattle.matching.specs.declared.Event.the-variants.{Accepted, Replaced, Withdrawn}
 use Rattle.matching.specs.Matching.{openOf}
-use Rattle.table.specs.Heading.{venueOf, portOf, nextOf, workOf}
+use Rattle.table.specs.declared.record.Marks.{Marks}
+use Rattle.table.specs.Heading.{venueOf, portOf, nextOf, workOf, instrumentOf}
 use Rattle.table.specs.Orders.{orderAt, recordFor, accepted, replaced, withdrawn}
-use Rattle.table.specs.Market.{isMarket}
+use Rattle.table.specs.Market.{isMarketOf}
 use Rattle.table.specs.Changes.{numbered, entered, renewed, taken}
 use Rattle.report.specs.declared.Place.{Place}
 use Rattle.report.specs.declared.Field.{Field}
@@ -60,6 +62,10 @@ noText = record { sent = false; start = 0; length = 0 }
 -- the message that causes a report: its 52 and, if it has one, its 41
 abbrev pub causeOf : Part → Place → Cause
 causeOf time orig = record { time = sentAt time; orig = orig }
+
+-- what of a new order only reports read
+abbrev pub marksOf : NewOrder → Marks
+marksOf o = record { capacity = o .terms .capacity; class = o .terms .class; cash = o .terms .cash; margin = o .terms .margin }
 
 module _ (t message : List ℕ) where
   -- ---- what is rejected: a report that takes the next number, and nothing else changes
@@ -109,8 +115,8 @@ module _ (t message : List ℕ) where
       let k = recordFor t in
       let clOrdId = textOf message (o .id) in
       let account = textOf message (o .account) in
-      reported (entered t k clOrdId account (o .terms .capacity) (o .terms .class) (newOrderOf o) (textOf message (o .time)))
-      (ticketOf (accepted t k (nextOf t) clOrdId account (o .terms .capacity) (o .terms .class) (newOrderOf o)) message (nextOf t) (causeOf (o .time) noText) (Accepted k (newOrderOf o)))
+      reported (entered t k clOrdId account (marksOf o) (newOrderOf o) (textOf message (o .time)))
+      (ticketOf (accepted t k (nextOf t) clOrdId account (marksOf o) (newOrderOf o)) message (nextOf t) (causeOf (o .time) noText) (Accepted k (newOrderOf o)))
       (λ n. answer.Taken n)
 
   -- a replacement of record k: the place that it may take is the number of this report
@@ -153,14 +159,15 @@ module _ (t message : List ℕ) where
   handled (Replaces o) = replacing o (replaceStands t message o)
   handled (Cancels o) = canceling o (cancelStands t message o)
 
-  -- room is the length of the report area; no message is taken above this number, so that its work cannot run out of numbers
-  unfoldable pub submitted : ℕ → Submitted
-  submitted room =
-      cond (ltb room roomAsked) (unchanged t answer.NoRoom)
-      (cond (not (isMarket t)) (unchanged t answer.NoMarket)
-      (cond (not (eqb (workOf t) 0)) (unchanged t answer.InWork)
-      (cond (ltb 999998976 (nextOf t)) (unchanged t answer.NumbersSpent)
-      (handled (askedOf (venueOf t) (portOf t) message)))))
+-- room is the length of the report area; the call for bonds takes a market of bonds, and that for equities one of equities; no
+-- message is taken above this number, so that its work cannot run out of numbers
+unfoldable pub submitted : Instrument → List ℕ → List ℕ → ℕ → Submitted
+submitted q t message room =
+    cond (ltb room roomAsked) (unchanged t answer.NoRoom)
+    (cond (not (isMarketOf q t)) (unchanged t answer.NoMarket)
+    (cond (not (eqb (workOf t) 0)) (unchanged t answer.InWork)
+    (cond (ltb 999998976 (nextOf t)) (unchanged t answer.NumbersSpent)
+    (handled t message (askedOf (instrumentOf t) (venueOf t) (portOf t) message)))))
 
 -- the paper's number
 abbrev pub submitNumber : SubmitAnswer → ℕ

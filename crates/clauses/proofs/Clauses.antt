@@ -1,5 +1,5 @@
--- Book R's table, with a buy in work, is a market; with any one clause broken it is none. By computing: the definitions are
--- run on all 32,768 bytes.
+-- Book R's table, with a buy in work, is a market; with any one clause broken it is none. So is a book of equities. By computing: the
+-- definitions are run on all 32,768 bytes.
 use mathlib.Core.Path.{_≡_, refl}
 use mathlib.Core.Bool.{true, false}
 use mathlib.Core.List.{_++_}
@@ -8,20 +8,21 @@ use lib.ListN.{set}
 use Rattle.octets.specs.Octets.{leAt, bytesOf, put, partAt, textAt, textBytes, sameBytes, allZero}
 use Rattle.octets.specs.Tests.{allUpTo, firstFrom}
 use Rattle.decimal.specs.Reading.{isDigit, digitOf, isTime, isTimeLength, timeShaped, timeRanged, twoAt}
-use Rattle.matching.specs.Matching.{openOf, meets, opposed, opposedTo, countOf, sumOver, minimumOf}
+use Rattle.decimal.specs.declared.Instrument.the-variants.{Bonds, Equities}
+use Rattle.matching.specs.Matching.{openOf, isSideOf, meets, opposed, opposedTo, countOf, sumOver, minimumOf}
 use Rattle.matching.specs.Depth.{stands, behind, nearer, next, levelAt, onLevel, share, total, orders, depth}
 use Rattle.matching.specs.Held.{mayMinimum}
-use Rattle.table.specs.Heading.{entries, entryOf, isListed, modeOf, mpidBytes, putNext, putDecided, endWork}
-use Rattle.table.specs.Orders.{orderAt, filled, ordersFrom, bookOf, termBytes, amountBytes, tailBytes, fieldBytes, recordOf, accepted}
-use Rattle.table.specs.Market.{every, isPadded, isText, hasLength, hasNames, isEntry, hasList, hasSettings, hasNext, hasStamp, hasWork, hasSpare, restZero, isCapacity, isClass, isRecord, isRanged, isKnown, isWithin, isShut, isPriced, isOrder, hasOrders, isFreshId, hasIds, isFresh, areFresh, hasOrderIds, hasPlaces, isDone, noIoc, isClear, noCross, hasNumbers, isBook, hasDecision, hasBest, isMarket}
+use Rattle.table.specs.Heading.{instrumentOf, entries, entryOf, isListed, modeOf, mpidBytes, putNext, putDecided, endWork}
+use Rattle.table.specs.Orders.{marksAt, orderAt, filled, ordersFrom, bookOf, termBytes, amountBytes, endBytes, tailBytes, fieldBytes, recordOf, accepted}
+use Rattle.table.specs.Market.{every, isCodeCharacter, isPadded, isText, hasLength, hasNames, isEntry, hasList, hasSettings, hasNext, hasStamp, hasWork, hasKind, restZero, isCapacity, isClass, isCash, isMarked, isRecord, isRanged, isKnown, isWithin, isShut, isPriced, isOrder, hasOrders, isFreshId, hasIds, isFresh, areFresh, hasOrderIds, hasPlaces, isDone, noIoc, isClear, noCross, hasNumbers, isBook, hasDecision, hasBest, isMarket, isOf, isMarketOf}
 use Rattle.table.specs.Best.{bestOn, ordersBytes, levelsBytes, totalsBytes, bestRow, bookRow, bestDue, putBest, clearBest}
 use Rattle.table.specs.Opened.{namedTable, freshTable}
 use Rattle.octets.specs.Characters.{message}
-use Rattle.clauses.proofs.Books.{fresh, bookR, mixed, bookLeast, bookKill, rested, largest}
+use Rattle.clauses.proofs.Books.{fresh, bookR, mixed, bookLeast, bookKill, rested, largest, price, shares}
 
 -- opens all definitions
 computes : ℕ
-unfolding leAt bytesOf put partAt textAt textBytes sameBytes allZero allUpTo firstFrom isDigit digitOf isTime isTimeLength timeShaped timeRanged twoAt openOf meets opposed opposedTo countOf sumOver minimumOf mayMinimum stands behind nearer next levelAt onLevel share total orders depth entries entryOf isListed modeOf mpidBytes orderAt filled ordersFrom bookOf termBytes amountBytes tailBytes fieldBytes recordOf accepted every isPadded isText hasLength hasNames isEntry hasList hasSettings hasNext hasStamp hasWork hasSpare restZero isCapacity isClass isRecord isRanged isKnown isWithin isShut isPriced isOrder hasOrders isFreshId hasIds isFresh areFresh hasOrderIds hasPlaces isDone noIoc isClear noCross hasNumbers isBook hasDecision hasBest isMarket bestOn ordersBytes levelsBytes totalsBytes bestRow bookRow bestDue namedTable freshTable
+unfolding leAt bytesOf put partAt textAt textBytes sameBytes allZero allUpTo firstFrom isDigit digitOf isTime isTimeLength timeShaped timeRanged twoAt openOf meets opposed opposedTo countOf sumOver minimumOf isSideOf mayMinimum stands behind nearer next levelAt onLevel share total orders depth instrumentOf entries entryOf isListed modeOf mpidBytes marksAt orderAt filled ordersFrom bookOf termBytes amountBytes endBytes tailBytes fieldBytes recordOf accepted every isCodeCharacter isPadded isText hasLength hasNames isEntry hasList hasSettings hasNext hasStamp hasWork hasKind restZero isCapacity isClass isCash isMarked isRecord isRanged isKnown isWithin isShut isPriced isOrder hasOrders isFreshId hasIds isFresh areFresh hasOrderIds hasPlaces isDone noIoc isClear noCross hasNumbers isBook hasDecision hasBest isMarket isOf isMarketOf bestOn ordersBytes levelsBytes totalsBytes bestRow bookRow bestDue namedTable freshTable
 computes = 0
 
 -- a table just opened, and book R's
@@ -50,7 +51,7 @@ mode-four : isMarket (set (bookR 1) 88 4) ≡ false
 unfolding computes
 mode-four = refl
 
--- ---- the heading: a next number of 0, an order in work that is none, a 52 without one, a 52 that is no time, the unused byte
+-- ---- the heading: a next number of 0, an order in work that is none, a 52 without one, a 52 that is no time, the kind of equities
 next-zero : isMarket (set (bookR 1) 28 0) ≡ false
 unfolding computes
 next-zero = refl
@@ -67,11 +68,12 @@ stamp-wrong : isMarket (set (bookR 1) 38 57) ≡ false
 unfolding computes
 stamp-wrong = refl
 
-heading-unused : isMarket (set (bookR 1) 55 1) ≡ false
+kind-other : isMarket (set (bookR 1) 55 1) ≡ false
 unfolding computes
-heading-unused = refl
+kind-other = refl
 
--- ---- the records: a gap, a byte behind the last one, an unused byte behind MinQty, a capacity B, a side 3, an MPID that is not listed
+-- ---- the records: a gap, a byte behind the last one, an unused byte at the end, a CashMargin, a capacity B, sides 3 and 5, an MPID that
+-- is not listed
 gap : isMarket (set (bookR 1) 384 0) ≡ false
 unfolding computes
 gap = refl
@@ -80,9 +82,13 @@ rest : isMarket (set (bookR 1) 32767 1) ≡ false
 unfolding computes
 rest = refl
 
-record-rest : isMarket (set (bookR 1) 220 1) ≡ false
+record-rest : isMarket (set (bookR 1) 222 1) ≡ false
 unfolding computes
 record-rest = refl
+
+cash-bond : isMarket (set (bookR 1) 220 1) ≡ false
+unfolding computes
+cash-bond = refl
 
 capacity-b : isMarket (set (bookR 1) 174 66) ≡ false
 unfolding computes
@@ -91,6 +97,10 @@ capacity-b = refl
 side-three : isMarket (set (bookR 1) 172 3) ≡ false
 unfolding computes
 side-three = refl
+
+side-five : isMarket (set (bookR 1) 172 5) ≡ false
+unfolding computes
+side-five = refl
 
 mpid-unlisted : isMarket (set (bookR 1) 188 15) ≡ false
 unfolding computes
@@ -257,3 +267,63 @@ busy-orders = refl
 busy-last : isMarket (set (bookR 1) 127 1) ≡ false
 unfolding computes
 busy-last = refl
+
+-- ---- equities: a book of them is a market of equities and none of bonds, and a bond book the other way round
+shares-is : isMarketOf Equities shares ≡ true
+unfolding computes
+shares-is = refl
+
+shares-bonds : isMarketOf Bonds shares ≡ false
+unfolding computes
+shares-bonds = refl
+
+bonds-shares : isMarketOf Equities (bookR 1) ≡ false
+unfolding computes
+bonds-shares = refl
+
+-- a kind 2, a space in the symbol, a side 3
+kind-two : isMarket (set shares 55 2) ≡ false
+unfolding computes
+kind-two = refl
+
+symbol-space : isMarket (set shares 20 32) ≡ false
+unfolding computes
+symbol-space = refl
+
+share-side : isMarket (set shares 172 3) ≡ false
+unfolding computes
+share-side = refl
+
+-- a price of zero is one, and a level above it is none; a sum likewise
+price-zero : isMarket (put shares 176 (bytesOf 4 (price 0))) ≡ true
+unfolding computes
+price-zero = refl
+
+price-below : isMarket (put shares 176 (bytesOf 4 1000000001)) ≡ false
+unfolding computes
+price-below = refl
+
+sum-zero : isMarket (put shares 192 (bytesOf 8 1000000000 ++ bytesOf 4 1)) ≡ true
+unfolding computes
+sum-zero = refl
+
+sum-below : isMarket (put shares 192 (bytesOf 8 1000000001 ++ bytesOf 4 1)) ≡ false
+unfolding computes
+sum-below = refl
+
+-- no CashMargin, a CashMargin 4, a MarginCode 3, a MarginCode where CashMargin is 1
+cash-none : isMarket (put shares 220 (bytesOf 2 0)) ≡ false
+unfolding computes
+cash-none = refl
+
+cash-four : isMarket (set shares 220 4) ≡ false
+unfolding computes
+cash-four = refl
+
+margin-three : isMarket (set shares 221 3) ≡ false
+unfolding computes
+margin-three = refl
+
+margin-cash : isMarket (set shares 220 1) ≡ false
+unfolding computes
+margin-cash = refl

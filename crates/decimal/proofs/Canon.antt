@@ -5,18 +5,21 @@ use mathlib.Core.List.{List}
 use mathlib.Core.Bool.{Bool, true, false, cond, not, _&&_, _||_, and-false}
 use native.Mathlib.Omega.{arith}
 use native.Mathlib.Nat.{pow-le-pow-right, mul-le-mul-left, mul-le-mul-right, add-mul}
-use lib.Dec.{ltb, leb, eqb}
+use lib.Dec.{ltb, leb, eqb, lit<, lit≤}
 use lib.ListN.{length, getD, take, drop, List·getD-eq-default}
 use mir.Syntax.{w64}
 use mir.Val.{Fits}
 use borrow.Author.Tests.{eq-eqb, ne-eqb}
+use Rattle.decimal.specs.declared.Instrument.{Instrument}
+use Rattle.decimal.specs.declared.Instrument.the-variants.{Bonds, Equities}
 use Rattle.decimal.specs.declared.Said.{Said}
 use Rattle.decimal.specs.declared.Said.the-variants.{Value, Wrong}
+use Rattle.decimal.specs.Instruments.{decimals}
 use Rattle.decimal.specs.Reading.{digitRun, number, numOf}
 use Rattle.decimal.specs.Writing.{Scale, zeroOf}
-use Rattle.decimal.specs.Canonical.{bare, bareOf, within, exactlyOf, joined, amountOf, belowZero, aboveZero, fixedOf}
-use Rattle.decimal.proofs.Scans.{rest-is}
-use Rattle.decimal.proofs.RoundTrip.{bare-small, exactly-small, amount-small, byte-within}
+use Rattle.decimal.specs.Canonical.{bare, bareOf, within, exactlyOf, joined, amountOf, belowZero, aboveZero, fixedOf, levelIn, meanIn}
+use Rattle.decimal.proofs.Scans.{rest-is, byte-within}
+use Rattle.decimal.proofs.RoundTrip.{bare-small, exactly-small, amount-small}
 
 -- ---- numbers without needless zero
 module _ (m : ℕ) (s : List ℕ) (b : ℕ) (e : b ≡ getD s 0 0) where
@@ -54,17 +57,17 @@ module _ (low high : ℕ) (p : Said) where
   within-wrong q e h = rw (← e, h)
 
 -- ---- amounts
-module _ (k : ℕ) (s : List ℕ) (w : ℕ) (e : w ≡ digitRun s) where
-  pub amount-end : length s ≤ w → Wrong ≡ amountOf k s
+module _ (most k : ℕ) (s : List ℕ) (w : ℕ) (e : w ≡ digitRun s) where
+  pub amount-end : length s ≤ w → Wrong ≡ amountOf most k s
   unfolding amountOf
   amount-end h = rw (← e, List·getD-eq-default s 0 {n = w} h)
 
-  pub amount-other : (getD s w 0 ≡ 46 → ⊥) → Wrong ≡ amountOf k s
+  pub amount-other : (getD s w 0 ≡ 46 → ⊥) → Wrong ≡ amountOf most k s
   unfolding amountOf
   amount-other h = rw (← e) (simp (ne-eqb (getD s w 0) 46 h))
 
-  module _ (h : getD s w 0 ≡ 46) (p : Said) (pe : p ≡ bareOf 6 (take w s)) where
-    pub amount-whole : p ≡ Wrong → Wrong ≡ amountOf k s
+  module _ (h : getD s w 0 ≡ 46) (p : Said) (pe : p ≡ bareOf most (take w s)) where
+    pub amount-whole : p ≡ Wrong → Wrong ≡ amountOf most k s
     unfolding amountOf
     amount-whole pw = rw (← e) (simp (eq-eqb (getD s w 0) 46 h, ← pe, pw))
 
@@ -72,29 +75,30 @@ module _ (k : ℕ) (s : List ℕ) (w : ℕ) (e : w ≡ digitRun s) where
       part : q ≡ exactlyOf k (drop (w + 1) s)
       part = qe ∙ ap (exactlyOf k) (rest-is s (w + 1))
 
-      pub amount-part : q ≡ Wrong → Wrong ≡ amountOf k s
+      pub amount-part : q ≡ Wrong → Wrong ≡ amountOf most k s
       unfolding amountOf
       amount-part qw = let z = part in rw (← e) (simp (eq-eqb (getD s w 0) 46 h, ← pe, pa, ← z, qw))
 
       module _ (unit : ℕ) (scale : Scale k unit) (b : ℕ) (qb : q ≡ Value b) where
-        pub amount-yes : Value (a * unit + b) ≡ amountOf k s
+        pub amount-yes : Value (a * unit + b) ≡ amountOf most k s
         unfolding amountOf
         amount-yes = let z = part in let u : unit ≡ 10 ^ k = scale .unit-is in rw (← e) (simp (eq-eqb (getD s w 0) 46 h, ← pe, pa, ← z, qb, u))
 
--- a whole part of six digits and the decimals fit
-module _ (k : ℕ) (unit : ℕ) (scale : Scale k unit) (s t : List ℕ) (p : Said) (pe : p ≡ bareOf 6 s) (a : ℕ) (pa : p ≡ Value a) where
+-- a whole part of at most eight digits and the decimals fit
+module _ (most : ℕ) (few : most ≤ 8) (k : ℕ) (unit : ℕ) (scale : Scale k unit) (s t : List ℕ) (p : Said) (pe : p ≡ bareOf most s) (a : ℕ) (pa : p ≡ Value a) where
+  whole-small : a * unit ≤ 100000000 * unit
+  whole-small =
+      let l = bare-small most s a (omega arith) (sym pe ∙ pa) in
+      let m : 10 ^ most ≤ 100000000 = pow-le-pow-right {n = 10} (omega arith) few in
+      mul-le-mul-right unit (omega (arith, l, m))
+
   pub whole-fits : Fits w64 (a * unit)
-  whole-fits =
-      let l = bare-small 6 s a (omega arith) (sym pe ∙ pa) in
-      let m : a * unit ≤ 1000000 * unit = mul-le-mul-right unit (omega arith) in
-      record { fits = omega (arith, scale .most) }
+  whole-fits = record { fits = omega (arith, whole-small, scale .most) }
 
   pub part-fits : (q : Said) → q ≡ exactlyOf k t → (b : ℕ) → q ≡ Value b → Fits w64 (a * unit + b)
   part-fits q qe b qb =
-      let l = bare-small 6 s a (omega arith) (sym pe ∙ pa) in
-      let m : a * unit ≤ 1000000 * unit = mul-le-mul-right unit (omega arith) in
       let n = exactly-small k t b (sym qe ∙ qb) in
-      record { fits = omega (arith, scale .most, scale .unit-is) }
+      record { fits = omega (arith, whole-small, scale .most, scale .unit-is) }
 
 -- ---- numbers with k decimals
 module _ (k unit : ℕ) (scale : Scale k unit) (s : List ℕ) (b : ℕ) (be : b ≡ getD s 0 0) where
@@ -102,35 +106,90 @@ module _ (k unit : ℕ) (scale : Scale k unit) (s : List ℕ) (b : ℕ) (be : b 
     pub minus-some : 1 ≤ length s
     minus-some = byte-within s 0 44 (sym be ∙ h)
 
-    module _ (p : Said) (pe : p ≡ amountOf k (take (length s - 1) (drop 1 s))) where
-      below : p ≡ amountOf k (drop 1 s)
-      below = pe ∙ ap (amountOf k) (rest-is s 1)
+    module _ (p : Said) (pe : p ≡ amountOf 6 k (take (length s - 1) (drop 1 s))) where
+      below : p ≡ amountOf 6 k (drop 1 s)
+      below = pe ∙ ap (amountOf 6 k) (rest-is s 1)
 
-      pub below-wrong : p ≡ Wrong → Wrong ≡ fixedOf k s
+      pub below-wrong : p ≡ Wrong → Wrong ≡ fixedOf Bonds k s
       unfolding fixedOf
       below-wrong pw = let z = below in rw (← be) (simp (eq-eqb b 45 h, ← z, pw))
 
       module _ (m : ℕ) (pm : p ≡ Value m) where
-        pub below-none : m ≡ 0 → Wrong ≡ fixedOf k s
+        pub below-none : m ≡ 0 → Wrong ≡ fixedOf Bonds k s
         unfolding fixedOf
         below-none n = let z = below in rw (← be) (simp (eq-eqb b 45 h, ← z, pm, eq-eqb m 0 n))
 
-        pub below-some : (m ≡ 0 → ⊥) → Value (unit * 1000000 - m) ≡ fixedOf k s
+        pub below-some : (m ≡ 0 → ⊥) → Value (unit * 1000000 - m) ≡ fixedOf Bonds k s
         unfolding fixedOf
         below-some n = let z = below in let u : unit ≡ 10 ^ k = scale .unit-is in rw (← be) (simp (eq-eqb b 45 h, ← z, pm, ne-eqb m 0 n, u))
 
         pub below-le : m ≤ unit * 1000000
-        below-le = let l = amount-small k (drop 1 s) m (sym below ∙ pm) in omega (arith, scale .unit-is)
+        below-le = let l = amount-small 6 k (drop 1 s) m (omega arith) (sym below ∙ pm) in omega (arith, scale .unit-is)
 
-  module _ (h : b ≡ 45 → ⊥) (p : Said) (pe : p ≡ amountOf k s) where
-    pub above-wrong : p ≡ Wrong → Wrong ≡ fixedOf k s
+    -- no price has a minus
+    no-minus : (p : Said) → belowZero Equities k p ≡ Wrong
+    no-minus (Value m) = refl
+    no-minus Wrong = refl
+
+    pub price-minus : Wrong ≡ fixedOf Equities k s
     unfolding fixedOf
-    above-wrong pw = rw (← be) (simp (ne-eqb b 45 h, ← pe, pw))
+    price-minus = rw (← be, eq-eqb b 45 h) (sym (no-minus (amountOf 8 k (drop 1 s))))
 
-    module _ (m : ℕ) (pm : p ≡ Value m) where
-      pub above-some : Value (unit * 1000000 + m) ≡ fixedOf k s
+  module _ (h : b ≡ 45 → ⊥) (p : Said) where
+    module _ (pe : p ≡ amountOf 6 k s) where
+      pub above-wrong : p ≡ Wrong → Wrong ≡ fixedOf Bonds k s
       unfolding fixedOf
-      above-some = let u : unit ≡ 10 ^ k = scale .unit-is in rw (← be) (simp (ne-eqb b 45 h, ← pe, pm, u))
+      above-wrong pw = rw (← be) (simp (ne-eqb b 45 h, ← pe, pw))
 
-      pub above-fits : Fits w64 (unit * 1000000 + m)
-      above-fits = let l = amount-small k s m (sym pe ∙ pm) in record { fits = omega (arith, scale .unit-is, scale .most) }
+      module _ (m : ℕ) (pm : p ≡ Value m) where
+        pub above-some : Value (unit * 1000000 + m) ≡ fixedOf Bonds k s
+        unfolding fixedOf
+        above-some = let u : unit ≡ 10 ^ k = scale .unit-is in rw (← be) (simp (ne-eqb b 45 h, ← pe, pm, u))
+
+        pub above-fits : Fits w64 (unit * 1000000 + m)
+        above-fits = let l = amount-small 6 k s m (omega arith) (sym pe ∙ pm) in record { fits = omega (arith, scale .unit-is, scale .most) }
+
+    module _ (pe : p ≡ amountOf 8 k s) where
+      pub price-wrong : p ≡ Wrong → Wrong ≡ fixedOf Equities k s
+      unfolding fixedOf
+      price-wrong pw = rw (← be) (simp (ne-eqb b 45 h, ← pe, pw))
+
+      module _ (m : ℕ) (pm : p ≡ Value m) where
+        pub price-some : Value (unit * 100000000 - m) ≡ fixedOf Equities k s
+        unfolding fixedOf
+        price-some = let u : unit ≡ 10 ^ k = scale .unit-is in rw (← be) (simp (ne-eqb b 45 h, ← pe, pm, u))
+
+        pub price-le : m ≤ unit * 100000000
+        price-le = let l = amount-small 8 k s m (omega arith) (sym pe ∙ pm) in omega (arith, scale .unit-is)
+
+-- ---- levels and means, by what is traded
+module _ (q : Instrument) (k : ℕ) (s : List ℕ) (r : Said) where
+  pub fixed-bonds : q ≡ Bonds → r ≡ fixedOf Bonds k s → r ≡ fixedOf q k s
+  fixed-bonds e h = rw e h
+
+  pub fixed-equities : q ≡ Equities → r ≡ fixedOf Equities k s → r ≡ fixedOf q k s
+  fixed-equities e h = rw e h
+
+  pub level-is : k ≡ decimals q → r ≡ fixedOf q k s → r ≡ levelIn q s
+  unfolding levelIn
+  level-is e h = h ∙ ap (λ (n : ℕ). fixedOf q n s) e
+
+  pub mean-is : k ≡ decimals q → r ≡ fixedOf q (k + 3) s → r ≡ meanIn q s
+  unfolding meanIn
+  mean-is e h = h ∙ ap (λ (n : ℕ). fixedOf q (n + 3) s) e
+
+-- the decimals of each, with their unit
+decimals-scale : (q : Instrument) → Scale (decimals q) (10 ^ decimals q)
+decimals-scale Bonds = record { unit-is = refl; some = lit< tt; most = lit≤ tt }
+decimals-scale Equities = record { unit-is = refl; some = lit< tt; most = lit≤ tt }
+
+mean-decimals-scale : (q : Instrument) → Scale (decimals q + 3) (10 ^ decimals q * 1000)
+mean-decimals-scale Bonds = record { unit-is = refl; some = lit< tt; most = lit≤ tt }
+mean-decimals-scale Equities = record { unit-is = refl; some = lit< tt; most = lit≤ tt }
+
+module _ (q : Instrument) (k u : ℕ) (ke : k ≡ decimals q) (ue : u ≡ 10 ^ decimals q) where
+  pub level-scale : Scale k u
+  level-scale = rw (ke, ue) (decimals-scale q)
+
+  pub mean-scale : Scale (k + 3) (u * 1000)
+  mean-scale = rw (ke, ue) (mean-decimals-scale q)

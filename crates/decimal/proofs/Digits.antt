@@ -14,7 +14,9 @@ use borrow.Author.Tests.{lt-ltb, le-ltb}
 use Rattle.octets.specs.Octets.{put}
 use Rattle.octets.specs.Written.{Room, Wrote}
 use Rattle.octets.proofs.Places.{put-put, put-comm}
-use Rattle.decimal.specs.Writing.{decimalIn, decimal, places, Scale, zeroOf, plain, fixed}
+use Rattle.decimal.specs.declared.Instrument.{Instrument}
+use Rattle.decimal.specs.declared.Instrument.the-variants.{Bonds, Equities}
+use Rattle.decimal.specs.Writing.{decimalIn, decimal, places, Scale, zeroOf, plain, fixed, levelText, meanText}
 
 -- ---- a number without needless zeros
 small : (k n : ℕ) → n < 10 → decimalIn (suc k) n ≡ (48 + n) ∷ []
@@ -199,10 +201,54 @@ unfolding plain
 plain-is k unit m s = rw (s .unit-is)
 
 module _ (k unit v : ℕ) (s : Scale k unit) where
-  pub fixed-below : v < unit * 1000000 → fixed k v ≡ (45 ∷ []) ++ plain k (unit * 1000000 - v)
+  pub signed-below : v < unit * 1000000 → fixed Bonds k v ≡ (45 ∷ []) ++ plain k (unit * 1000000 - v)
   unfolding fixed
-  fixed-below h = let e : unit ≡ 10 ^ k = s .unit-is in rw (← e) (simp (lt-ltb v (unit * 1000000) h))
+  signed-below h = let e : unit ≡ 10 ^ k = s .unit-is in rw (← e) (simp (lt-ltb v (unit * 1000000) h))
 
-  pub fixed-above : unit * 1000000 ≤ v → fixed k v ≡ plain k (v - unit * 1000000)
+  pub signed-above : unit * 1000000 ≤ v → fixed Bonds k v ≡ plain k (v - unit * 1000000)
   unfolding fixed
-  fixed-above h = let e : unit ≡ 10 ^ k = s .unit-is in rw (← e) (simp (le-ltb v (unit * 1000000) h))
+  signed-above h = let e : unit ≡ 10 ^ k = s .unit-is in rw (← e) (simp (le-ltb v (unit * 1000000) h))
+
+  pub unsigned-is : fixed Equities k v ≡ plain k (unit * 100000000 - v)
+  unfolding fixed
+  unsigned-is = let e : unit ≡ 10 ^ k = s .unit-is in rw (← e) refl
+
+  pub unsigned-room : (m : ℕ) {area : List ℕ} {at : ℕ} → m ≡ unit * 100000000 - v → Room area at (fixed Equities k v) → Room area at (plain k m)
+  unsigned-room m e r = rw (e, ← unsigned-is) r
+
+  pub unsigned-wrote : (m : ℕ) {area : List ℕ} {at next : ℕ} {after : List ℕ} → m ≡ unit * 100000000 - v → Wrote area at (plain k m) next after → Wrote area at (fixed Equities k v) next after
+  unsigned-wrote m e w = rw (e, ← unsigned-is) at w
+
+-- ---- levels and means, by what is traded
+module _ (q : Instrument) (v : ℕ) {area : List ℕ} {at : ℕ} where
+  pub level-room-bonds : q ≡ Bonds → Room area at (levelText q v) → Room area at (fixed Bonds 3 v)
+  unfolding levelText
+  level-room-bonds e r = rw e at r
+
+  pub level-wrote-bonds : {next : ℕ} {after : List ℕ} → q ≡ Bonds → Wrote area at (fixed Bonds 3 v) next after → Wrote area at (levelText q v) next after
+  unfolding levelText
+  level-wrote-bonds e w = rw e w
+
+  pub level-room-equities : q ≡ Equities → Room area at (levelText q v) → Room area at (fixed Equities 1 v)
+  unfolding levelText
+  level-room-equities e r = rw e at r
+
+  pub level-wrote-equities : {next : ℕ} {after : List ℕ} → q ≡ Equities → Wrote area at (fixed Equities 1 v) next after → Wrote area at (levelText q v) next after
+  unfolding levelText
+  level-wrote-equities e w = rw e w
+
+  pub mean-room-bonds : q ≡ Bonds → Room area at (meanText q v) → Room area at (fixed Bonds 6 v)
+  unfolding meanText
+  mean-room-bonds e r = rw e at r
+
+  pub mean-wrote-bonds : {next : ℕ} {after : List ℕ} → q ≡ Bonds → Wrote area at (fixed Bonds 6 v) next after → Wrote area at (meanText q v) next after
+  unfolding meanText
+  mean-wrote-bonds e w = rw e w
+
+  pub mean-room-equities : q ≡ Equities → Room area at (meanText q v) → Room area at (fixed Equities 4 v)
+  unfolding meanText
+  mean-room-equities e r = rw e at r
+
+  pub mean-wrote-equities : {next : ℕ} {after : List ℕ} → q ≡ Equities → Wrote area at (fixed Equities 4 v) next after → Wrote area at (meanText q v) next after
+  unfolding meanText
+  mean-wrote-equities e w = rw e w

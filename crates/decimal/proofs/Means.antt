@@ -1,4 +1,4 @@
--- AvgPx: a share is the nearest millionth, halves up; dividing first and then the rest gives the same; a mean and its mirror
+-- AvgPx: a share is the nearest thousandth, halves up; dividing first and then the rest gives the same; a mean and its mirror
 -- below zero round alike; the range of a mean.
 use Prim.Native.Nat.{ℕ, _+_, _-_, _*_, _/_, _%_, _≤_, _<_}
 use mathlib.Core.Path.{_≡_, refl, sym, ap, _∙_}
@@ -9,6 +9,9 @@ use native.Mathlib.Nat.{add-mul, div-add-mod', div-le-self, div-le-of-le-mul, mo
 use mir.Val.{Fits}
 use mir.Syntax.{w64}
 use borrow.Author.Tests.{eq-eqb, ne-eqb, lt-ltb, le-ltb}
+use Rattle.decimal.specs.declared.Instrument.{Instrument}
+use Rattle.decimal.specs.declared.Instrument.the-variants.{Bonds, Equities}
+use Rattle.decimal.specs.Instruments.{highest, highestMean}
 use Rattle.decimal.specs.Writing.{shareOf, meanOf}
 
 -- ---- nearest
@@ -76,7 +79,7 @@ module _ (d e : ℕ) (some : 0 < e) where
   pub parts-up : e ≤ 2 * (d % e * 1000 % e) → d / e * 1000 + d % e * 1000 / e + 1 ≡ shareOf d e
   parts-up l = rw (← cut-parts) (share-up d e (rw rest-parts l))
 
-  -- a share of at most a thousand million thousandths each is at most 1,000,000,000,000 millionths
+  -- a share of at most a thousand million each is at most 1,000,000,000,000 thousandths
   pub share-size : (r : ℕ) → d ≤ e * 1000000000 → r ≡ shareOf d e → r ≤ 1000000000000
   share-size r l q = rw q (share-most d e 1000000000000 some (omega arith))
 
@@ -154,16 +157,36 @@ mean-mirror sum e h =
           ]
     ]
 
--- yields of at most 999999.999 in size have a mean of at most 999999.999 in size
-pub mean-range : (sum e : ℕ) → e ≤ sum → sum ≤ e * 1999999999 → (0 < meanOf sum e) × (meanOf sum e < 2000000000000)
-unfolding meanOf
-mean-range sum e l h =
+-- levels from 1 to the highest have a mean from 1 to the highest: yields of at most 999999.999 in size one of at most that size, and
+-- prices of at most 99999999.9 one that is not below zero and at most that
+module _ (sum e : ℕ) (some : 0 < e) where
+  mean-low : e ≤ sum → sum < e * 1000000000 → (0 < meanOf sum e) × (meanOf sum e ≤ 1000000000000)
+  mean-low l h =
+      let m = mean-below sum e _ (λ z. omega arith) h refl in
+      omega (arith, m, share-most (e * 1000000000 - sum) e 999999999000 some (omega (arith, l)))
+
+  mean-high : (most : ℕ) → e * 1000000000 ≤ sum → sum ≤ e * 1000000000 + e * most → (0 < meanOf sum e) × (meanOf sum e ≤ 1000000000000 + most * 1000)
+  mean-high most l h =
+      let m = mean-above sum e _ (λ z. omega arith) l refl in
+      let t : (sum - e * 1000000000) * 1000 ≤ most * 1000 * e = omega (arith, h) in
+      omega (arith, m, share-most (sum - e * 1000000000) e (most * 1000) some t)
+
+pub mean-range : (q : Instrument) (sum e : ℕ) → e ≤ sum → sum ≤ e * highest q → (0 < meanOf sum e) × (meanOf sum e ≤ highestMean q)
+mean-range Bonds sum e l h =
     elim (decLt 0 e) [
-      | no p ↦ rw (eq-eqb e 0 (omega (arith, p))) (omega arith)
+      | no p ↦ omega (arith, mean-none sum e (omega (arith, p)))
       | yes p ↦
-          rw (ne-eqb e 0 (λ z. omega (arith, z, p)))
-          (elim (decLt sum (e * 1000000000)) [
-            | yes q ↦ rw (lt-ltb sum (e * 1000000000) q) (omega (arith, share-most (e * 1000000000 - sum) e 999999999000 p (omega (arith, l))))
-            | no q ↦ rw (le-ltb sum (e * 1000000000) (omega (arith, q))) (omega (arith, share-most (sum - e * 1000000000) e 999999999000 p (omega (arith, h))))
-          ])
+          elim (decLt sum (e * 1000000000)) [
+            | yes r ↦ omega (arith, mean-low sum e p l r)
+            | no r ↦ omega (arith, mean-high sum e p 999999999 (omega (arith, r)) (omega (arith, h)))
+          ]
+    ]
+mean-range Equities sum e l h =
+    elim (decLt 0 e) [
+      | no p ↦ omega (arith, mean-none sum e (omega (arith, p)))
+      | yes p ↦
+          elim (decLt sum (e * 1000000000)) [
+            | yes r ↦ omega (arith, mean-low sum e p l r)
+            | no r ↦ omega (arith, mean-high sum e p 0 (omega (arith, r)) (omega (arith, h)))
+          ]
     ]

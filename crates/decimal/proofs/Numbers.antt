@@ -145,15 +145,27 @@ module _ (m : ℕ) (s : List ℕ) where
       let z : number s ≡ n = inv .said ∙ number-end n s i h in
       simp (lt-ltb 0 (length s) (omega arith), le-leb (length s) m q, eq-eqb (digitRun s) (length s) r, z)
 
--- a number of 1 to m digits is below that power of ten
-pub num-below : (m : ℕ) (s : List ℕ) (n : ℕ) → numOf m s ≡ Value n → n < 10 ^ m
-unfolding numOf isNumber
-num-below m s n e =
-    let p = let-through (isNumber m s) (number s) n e in
-    let a = ltb 0 (length s) in
-    let l = leb-true (length s) m (both-r a (leb (length s) m) (both-l (a && leb (length s) m) (eqb (digitRun s) (length s)) (p .0))) in
-    let b = number-below s (eqb-true (digitRun s) (length s) (both-r (a && leb (length s) m) (eqb (digitRun s) (length s)) (p .0))) in
-    omega (arith, p .1, pow-le-pow-right {n = 10} (omega arith) l)
+-- a number of 1 to m digits is below the power of ten of its length, and of m
+module _ (m : ℕ) (s : List ℕ) (n : ℕ) (e : numOf m s ≡ Value n) where
+  tested : (isNumber m s ≡ true) × (number s ≡ n)
+  unfolding numOf
+  tested = let-through (isNumber m s) (number s) n e
+
+  pub num-length : length s ≤ m
+  unfolding isNumber
+  num-length =
+      let a = ltb 0 (length s) in
+      leb-true (length s) m (both-r a (leb (length s) m) (both-l (a && leb (length s) m) (eqb (digitRun s) (length s)) (tested .0)))
+
+  pub num-within : n < 10 ^ length s
+  unfolding isNumber
+  num-within =
+      let a = ltb 0 (length s) in
+      let b = number-below s (eqb-true (digitRun s) (length s) (both-r (a && leb (length s) m) (eqb (digitRun s) (length s)) (tested .0))) in
+      omega (arith, tested .1)
+
+  pub num-below : n < 10 ^ m
+  num-below = omega (arith, num-within, pow-le-pow-right {n = 10} (omega arith) num-length)
 
 -- the digits that s starts with, as the code's `&s[..k]` gives them
 module _ (s : List ℕ) (k : ℕ) (e : k ≡ digitRun s) where

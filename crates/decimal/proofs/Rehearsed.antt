@@ -3,36 +3,71 @@ use mathlib.Core.Path.{_≡_, refl}
 use mathlib.Core.Bool.{Bool, true, false}
 use Prim.Native.Nat.{ℕ}
 use Rattle.octets.specs.Characters.{bytes}
+use Rattle.decimal.specs.declared.Instrument.the-variants.{Bonds, Equities}
 use Rattle.decimal.specs.declared.Said.{Said}
 use Rattle.decimal.specs.declared.Said.the-variants.{Value, Wrong}
-use Rattle.decimal.specs.Reading.{isDigit, digitOf, runOf, numberAfter, isNumber, numOf, digitAt, isFraction, fractionOf, sizeOf, levelOf, isTimeLength, twoAt, timeShaped, timeRanged, isTime}
+use Rattle.decimal.specs.Reading.{isDigit, digitOf, runOf, numberAfter, isNumber, numOf, fractionOf, sizeOf, levelOf, isTimeLength, twoAt, timeShaped, timeRanged, isTime}
 
 opened : ℕ
-unfolding isDigit digitOf runOf numberAfter isNumber numOf digitAt isFraction fractionOf sizeOf levelOf isTimeLength twoAt timeShaped timeRanged isTime
+unfolding isDigit digitOf runOf numberAfter isNumber numOf fractionOf sizeOf levelOf isTimeLength twoAt timeShaped timeRanged isTime
 opened = 0
 
 -- -0.005 (case 9) is five thousandths below the level of zero
-pub case-9 : levelOf (bytes "-0.005") ≡ Value 999999995
+pub case-9 : levelOf Bonds (bytes "-0.005") ≡ Value 999999995
 unfolding opened
 case-9 = refl
 
 -- -0 and -0.000 are zero
-pub minus-zero : levelOf (bytes "-0") ≡ Value 1000000000
+pub minus-zero : levelOf Bonds (bytes "-0") ≡ Value 1000000000
 unfolding opened
 minus-zero = refl
 
-pub minus-zeros : levelOf (bytes "-0.000") ≡ Value 1000000000
+pub minus-zeros : levelOf Bonds (bytes "-0.000") ≡ Value 1000000000
 unfolding opened
 minus-zeros = refl
 
 -- "1." and four decimals are no yield
-pub bare-point : levelOf (bytes "1.") ≡ Wrong
+pub bare-point : levelOf Bonds (bytes "1.") ≡ Wrong
 unfolding opened
 bare-point = refl
 
-pub four-decimals : levelOf (bytes "0.0000") ≡ Wrong
+pub four-decimals : levelOf Bonds (bytes "0.0000") ≡ Wrong
 unfolding opened
 four-decimals = refl
+
+-- 0.5 is five hundred thousandths
+pub one-decimal : levelOf Bonds (bytes "0.5") ≡ Value 1000000500
+unfolding opened
+one-decimal = refl
+
+-- prices: 100.1, the highest, and zero; no minus, no second decimal, no ninth whole digit
+pub price : levelOf Equities (bytes "100.1") ≡ Value 999998999
+unfolding opened
+price = refl
+
+pub price-whole : levelOf Equities (bytes "100") ≡ Value 999999000
+unfolding opened
+price-whole = refl
+
+pub price-most : levelOf Equities (bytes "99999999.9") ≡ Value 1
+unfolding opened
+price-most = refl
+
+pub price-zero : levelOf Equities (bytes "0.0") ≡ Value 1000000000
+unfolding opened
+price-zero = refl
+
+pub price-minus : levelOf Equities (bytes "-0.1") ≡ Wrong
+unfolding opened
+price-minus = refl
+
+pub price-two-decimals : levelOf Equities (bytes "100.10") ≡ Wrong
+unfolding opened
+price-two-decimals = refl
+
+pub price-nine-digits : levelOf Equities (bytes "000000001") ≡ Wrong
+unfolding opened
+price-nine-digits = refl
 
 -- 999999999 is the largest quantity; ten digits are none
 pub nine-digits : numOf 9 (bytes "999999999") ≡ Value 999999999

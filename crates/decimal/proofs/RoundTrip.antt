@@ -1,5 +1,5 @@
 -- Reading canonically what was written gives it back, and only the written text is read: of numbers, of exactly k digits, and
--- of numbers with k decimals, of which a yield (k = 3) and AvgPx (k = 6) are instances.
+-- of numbers with k decimals, of which yields, prices and AvgPx are instances.
 use Prim.Native.Nat.{ℕ, zero, suc, _+_, _-_, _*_, _/_, _%_, _^_, _≤_, _<_}
 use mathlib.Core.Path.{_≡_, refl, sym, ap, _∙_}
 use mathlib.Core.List.{List, [], _∷_, _++_, append-assoc, append-nil}
@@ -13,12 +13,16 @@ use lib.ListN.{length, length-append, getD, take, drop, take-append-drop, length
 use lib.Seq.{take-at, drop-at, drop-cons}
 use borrow.Author.Tests.{eq-eqb, ne-eqb, lt-ltb, le-ltb, le-leb, leb-true, eqb-true, eqb-false, ltb-true, not-true}
 use Rattle.octets.proofs.Bools.{split, both-i, both-l, both-r, or-l, or-r, not-both}
+use Rattle.decimal.specs.declared.Instrument.{Instrument}
+use Rattle.decimal.specs.declared.Instrument.the-variants.{Bonds, Equities}
 use Rattle.decimal.specs.declared.Said.{Said}
 use Rattle.decimal.specs.declared.Said.the-variants.{Value, Wrong}
 use Rattle.decimal.specs.Reading.{isDigit, runOf, digitRun, number, numberAfter, isNumber, numOf}
-use Rattle.decimal.specs.Writing.{decimal, places, zeroOf, plain, fixed}
-use Rattle.decimal.specs.Canonical.{bare, bareOf, within, exactlyOf, joined, amountOf, belowZero, aboveZero, fixedOf}
-use Rattle.decimal.proofs.Scans.{run-below}
+use Rattle.decimal.specs.Instruments.{wholeDigits, decimals, meanDecimals, standsFor, highest, highestMean}
+use Rattle.decimal.specs.Writing.{decimal, places, zeroOf, plain, fixed, levelText, meanText}
+use Rattle.decimal.specs.Canonical.{bare, bareOf, within, exactlyOf, joined, amountOf, belowZero, aboveZero, fixedOf, levelIn, meanIn}
+use Rattle.decimal.proofs.Scans.{run-below, byte-within}
+use Rattle.decimal.proofs.Yields.{ten-some, under-both}
 use Rattle.decimal.proofs.Numbers.{digit-low, digit-high, number-below, num-below, let-through}
 use Rattle.decimal.proofs.Digits.{decimal-small, decimal-more, decimal-few, length-small, length-more, length-places}
 use Rattle.decimal.proofs.Afters.{digits-head, digits-tail, digits-cons, run-append, after-append, after-shift, said-decimal, digits-decimal, digits-places, said-places, written-places, written-decimal}
@@ -177,31 +181,34 @@ module _ (x y : List ℕ) (e : digitRun x ≡ length x) where
       ap (drop (length x + 1)) (sym (append-assoc x (46 ∷ []) y))
       ∙ drop-at (x ++ (46 ∷ [])) y (length x + 1) (length-append x (46 ∷ []))
 
-ten-some : (k : ℕ) → 0 < 10 ^ k
-ten-some k = omega (arith, pow-le-pow-right {n = 10} (omega arith) {i = 0} {j = k} (omega arith))
+-- a number below a power of ten has at most so many digits
+bare-most : (w n : ℕ) → 0 < w → n < 10 ^ w → n < 2 ^ 64 → bareOf w (decimal n) ≡ Value n
+bare-most zero n p h f = absurd (not-suc-le-zero p)
+bare-most (suc w) n p h f = bare-back w n h f
 
-pub amount-back : (k m : ℕ) → m < zeroOf k → m < 2 ^ 64 → amountOf k (plain k m) ≡ Value m
+decimal-most : (w n : ℕ) → 0 < w → n < 10 ^ w → length (decimal n) ≤ w
+decimal-most zero n p h = absurd (not-suc-le-zero p)
+decimal-most (suc w) n p h = decimal-few w n h
+
+whole-small : (w k m : ℕ) → m < 10 ^ k * 10 ^ w → m / 10 ^ k < 10 ^ w
+whole-small w k m h = div-lt-iff-lt-mul {k = 10 ^ k} (ten-some k) .1 (omega (arith, h, mul-comm (10 ^ k) (10 ^ w)))
+
+pub amount-back : (w k m : ℕ) → 0 < w → m < 10 ^ k * 10 ^ w → m < 2 ^ 64 → amountOf w k (plain k m) ≡ Value m
 unfolding amountOf plain
-amount-back k m h f =
+amount-back w k m p h f =
     let a : ℕ = m / 10 ^ k in
     let x : List ℕ = decimal a in
     let y : List ℕ = places k m in
-    let small : a < 1000000 = div-lt-iff-lt-mul {k = 10 ^ k} (ten-some k) .1 (omega arith) in
-    let d : digitRun x ≡ length x = digits-decimal a (omega arith) in
+    let small : a < 2 ^ 64 = omega (arith, f, div-le-self m (10 ^ k)) in
+    let d : digitRun x ≡ length x = digits-decimal a small in
     let s-is : x ++ (46 ∷ []) ++ y ≡ x ++ (46 ∷ y) = append-assoc x (46 ∷ []) y in
-    rw (s-is, point-run x y d, point-at x y d, point-before x y d, point-behind x y d, bare-back 5 a small (omega arith), exactly-back k m)
+    rw (s-is, point-run x y d, point-at x y d, point-before x y d, point-behind x y d, bare-most w a p (whole-small w k m h) small, exactly-back k m)
     (ap Value (said-places k m))
 
 joined-value : (k : ℕ) (p q : Said) (m : ℕ) → joined k p q ≡ Value m → Joined k p q m
 joined-value k (Value a) (Value b) m e = record { whole = a; part = b; whole-is = refl; part-is = refl; sum = cc }
 joined-value k (Value a) Wrong m e = let z : _≡_ {A = ℕ} 0 1 = cc in absurd (omega arith)
 joined-value k Wrong q m e = let z : _≡_ {A = ℕ} 0 1 = cc in absurd (omega arith)
-
--- a byte that is not 0 stands within the text
-pub byte-within : (s : List ℕ) (i b : ℕ) → getD s i 0 ≡ suc b → i < length s
-byte-within [] i b e = absurd (suc-ne-zero b (sym e))
-byte-within (x ∷ s) zero b e = omega arith
-byte-within (x ∷ s) (suc i) b e = omega (arith, byte-within s i b e)
 
 split-at : (s : List ℕ) (i b : ℕ) → getD s i 0 ≡ suc b → s ≡ take i s ++ (suc b ∷ []) ++ drop (i + 1) s
 split-at s i b e =
@@ -213,33 +220,32 @@ cond-value : (t : Bool) (p : Said) (m : ℕ) → cond t p Wrong ≡ Value m → 
 cond-value true p m e = (refl, e)
 cond-value false p m e = let z : _≡_ {A = ℕ} 0 1 = cc in absurd (omega arith)
 
-module _ (k : ℕ) (s : List ℕ) (m : ℕ) (e : amountOf k s ≡ Value m) where
-  parts : (getD s (digitRun s) 0 ≡ 46) × Joined k (bareOf 6 (take (digitRun s) s)) (exactlyOf k (drop (digitRun s + 1) s)) m
+module _ (w k : ℕ) (s : List ℕ) (m : ℕ) (most : w ≤ 19) (e : amountOf w k s ≡ Value m) where
+  parts : (getD s (digitRun s) 0 ≡ 46) × Joined k (bareOf w (take (digitRun s) s)) (exactlyOf k (drop (digitRun s + 1) s)) m
   unfolding amountOf
   parts =
-      let t = cond-value (eqb (getD s (digitRun s) 0) 46) (joined k (bareOf 6 (take (digitRun s) s)) (exactlyOf k (drop (digitRun s + 1) s))) m e in
-      (eqb-true (getD s (digitRun s) 0) 46 (t .0), joined-value k (bareOf 6 (take (digitRun s) s)) (exactlyOf k (drop (digitRun s + 1) s)) m (t .1))
+      let t = cond-value (eqb (getD s (digitRun s) 0) 46) (joined k (bareOf w (take (digitRun s) s)) (exactlyOf k (drop (digitRun s + 1) s))) m e in
+      (eqb-true (getD s (digitRun s) 0) 46 (t .0), joined-value k (bareOf w (take (digitRun s) s)) (exactlyOf k (drop (digitRun s + 1) s)) m (t .1))
 
-  pub amount-small : m < zeroOf k
+  pub amount-small : m < 10 ^ k * 10 ^ w
   amount-small =
       let j = parts .1 in
-      let a = bare-small 6 (take (digitRun s) s) (j .whole) (omega arith) (j .whole-is) in
+      let a = bare-small w (take (digitRun s) s) (j .whole) most (j .whole-is) in
       let b = exactly-small k (drop (digitRun s + 1) s) (j .part) (j .part-is) in
-      let c : j .whole * 10 ^ k + 10 ^ k ≤ 1000000 * 10 ^ k = omega (arith, mul-le-mul-right (10 ^ k) a, add-mul (j .whole) 1 (10 ^ k)) in
-      omega (arith, j .sum, b, c)
+      omega (arith, j .sum, under-both (j .whole) (j .part) w k a b, mul-comm (10 ^ k) (10 ^ w))
 
   pub amount-only : s ≡ plain k m
   unfolding plain
   amount-only =
       let j = parts .1 in
-      let w = digitRun s in
-      let a = bare-only 6 (take w s) (j .whole) (omega arith) (j .whole-is) in
-      let b = exactly-after k (drop (w + 1) s) (j .part) (j .part-is) (j .whole) in
+      let i = digitRun s in
+      let a = bare-only w (take i s) (j .whole) most (j .whole-is) in
+      let b = exactly-after k (drop (i + 1) s) (j .part) (j .part-is) (j .whole) in
       let q : m / 10 ^ k ≡ j .whole =
       ap (λ (n : ℕ). n / 10 ^ k) (sym (j .sum)) ∙ mul-add-div-right (ten-some k) (j .whole) (j .part)
-      ∙ ap (λ (n : ℕ). j .whole + n) (div-eq-of-lt (exactly-small k (drop (w + 1) s) (j .part) (j .part-is))) ∙ add-zero (j .whole) in
-      split-at s w 45 (parts .0)
-      ∙ ap (λ (l : List ℕ). l ++ (46 ∷ []) ++ drop (w + 1) s) (a ∙ ap decimal (sym q))
+      ∙ ap (λ (n : ℕ). j .whole + n) (div-eq-of-lt (exactly-small k (drop (i + 1) s) (j .part) (j .part-is))) ∙ add-zero (j .whole) in
+      split-at s i 45 (parts .0)
+      ∙ ap (λ (l : List ℕ). l ++ (46 ∷ []) ++ drop (i + 1) s) (a ∙ ap decimal (sym q))
       ∙ ap (λ (l : List ℕ). decimal (m / 10 ^ k) ++ (46 ∷ []) ++ l) (b ∙ ap (places k) (j .sum))
 
 -- ---- numbers with k decimals
@@ -262,82 +268,165 @@ plain-first k m f e =
     let l = digit-low (getD (x ++ (46 ∷ []) ++ y) 0 0) (run-below isDigit (x ++ (46 ∷ []) ++ y) 0 (omega (arith, decimal-some a f))) in
     omega (arith, l)
 
--- what was written is read back: a level with k = 3, a mean with k = 6
-pub fixed-back : (k v : ℕ) → zeroOf k ≤ 2 ^ 63 → 0 < v → v < zeroOf k + zeroOf k → fixedOf k (fixed k v) ≡ Value v
+-- what was written is read back
+signed-back : (k v : ℕ) → zeroOf Bonds k ≤ 2 ^ 63 → 0 < v → v < zeroOf Bonds k + zeroOf Bonds k → fixedOf Bonds k (fixed Bonds k v) ≡ Value v
 unfolding fixedOf fixed
-fixed-back k v z h l =
-    elim (decLt v (zeroOf k)) [
+signed-back k v z h l =
+    elim (decLt v (zeroOf Bonds k)) [
       | yes p ↦
-          let m : ℕ = zeroOf k - v in
-          rw (lt-ltb v (zeroOf k) p)
-          (ap (belowZero k) (amount-back k m (omega arith) (omega arith))
+          let m : ℕ = zeroOf Bonds k - v in
+          rw (lt-ltb v (zeroOf Bonds k) p)
+          (ap (belowZero Bonds k) (amount-back 6 k m (omega arith) (omega arith) (omega arith))
           ∙ simp (ne-eqb m 0 (λ e. omega (arith, e, p)))
           (ap Value (omega (arith, p))))
       | no p ↦
-          let m : ℕ = v - zeroOf k in
-          let big : zeroOf k ≤ v = omega (arith, p) in
+          let m : ℕ = v - zeroOf Bonds k in
+          let big : zeroOf Bonds k ≤ v = omega (arith, p) in
           let f : m / 10 ^ k < 2 ^ 64 = omega (arith, div-le-self m (10 ^ k)) in
-          rw (le-ltb v (zeroOf k) big)
+          rw (le-ltb v (zeroOf Bonds k) big)
           (rw (ne-eqb (getD (plain k m) 0 0) 45 (plain-first k m f))
-          (ap (aboveZero k) (amount-back k m (omega arith) (omega arith)) ∙ ap Value (omega arith)))
+          (ap (aboveZero Bonds k) (amount-back 6 k m (omega arith) (omega arith) (omega arith)) ∙ ap Value (omega arith)))
     ]
 
-below-value : (k : ℕ) (p : Said) (v : ℕ) → belowZero k p ≡ Value v → Signed p (λ m. (0 < m) × (zeroOf k - m ≡ v))
+unsigned-back : (k v : ℕ) → zeroOf Equities k ≤ 2 ^ 63 → 0 < v → v ≤ zeroOf Equities k → fixedOf Equities k (fixed Equities k v) ≡ Value v
+unfolding fixedOf fixed
+unsigned-back k v z h l =
+    let m : ℕ = zeroOf Equities k - v in
+    let f : m / 10 ^ k < 2 ^ 64 = omega (arith, div-le-self m (10 ^ k)) in
+    rw (ne-eqb (getD (plain k m) 0 0) 45 (plain-first k m f))
+    (ap (aboveZero Equities k) (amount-back 8 k m (omega arith) (omega arith) (omega arith)) ∙ ap Value (omega arith))
+
+below-value : (k : ℕ) (p : Said) (v : ℕ) → belowZero Bonds k p ≡ Value v → Signed p (λ m. (0 < m) × (zeroOf Bonds k - m ≡ v))
 below-value k (Value m) v e = pick (eqb m 0) refl e
   where
-    pick : (t : Bool) → eqb m 0 ≡ t → cond t Wrong (Value (zeroOf k - m)) ≡ Value v → Signed (Value m) (λ m. (0 < m) × (zeroOf k - m ≡ v))
+    pick : (t : Bool) → eqb m 0 ≡ t → cond (not t) (Value (zeroOf Bonds k - m)) Wrong ≡ Value v → Signed (Value m) (λ m. (0 < m) × (zeroOf Bonds k - m ≡ v))
     pick true q e = let z : _≡_ {A = ℕ} 0 1 = cc in absurd (omega arith)
     pick false q e = record { amount = m; said = refl; stands = (omega (arith, eqb-false m 0 q), cc) }
 below-value k Wrong v e = let z : _≡_ {A = ℕ} 0 1 = cc in absurd (omega arith)
 
-above-value : (k : ℕ) (p : Said) (v : ℕ) → aboveZero k p ≡ Value v → Signed p (λ m. zeroOf k + m ≡ v)
-above-value k (Value m) v e = record { amount = m; said = refl; stands = cc }
-above-value k Wrong v e = let z : _≡_ {A = ℕ} 0 1 = cc in absurd (omega arith)
+-- no price has a minus
+below-never : (k : ℕ) (p : Said) (v : ℕ) → belowZero Equities k p ≡ Value v → ⊥
+below-never k (Value m) v e = let z : _≡_ {A = ℕ} 0 1 = cc in omega arith
+below-never k Wrong v e = let z : _≡_ {A = ℕ} 0 1 = cc in omega arith
+
+above-value : (q : Instrument) (k : ℕ) (p : Said) (v : ℕ) → aboveZero q k p ≡ Value v → Signed p (λ m. standsFor q (zeroOf q k) m ≡ v)
+above-value q k (Value m) v e = record { amount = m; said = refl; stands = cc }
+above-value q k Wrong v e = let z : _≡_ {A = ℕ} 0 1 = cc in absurd (omega arith)
 
 -- only what would be written is read
-module _ (k : ℕ) (s : List ℕ) (v : ℕ) (e : fixedOf k s ≡ Value v) where
-  pub fixed-range : (0 < v) × (v < zeroOf k + zeroOf k)
+module _ (k : ℕ) (s : List ℕ) (v : ℕ) (e : fixedOf Bonds k s ≡ Value v) where
+  signed-range : (0 < v) × (v < zeroOf Bonds k + zeroOf Bonds k)
   unfolding fixedOf
-  fixed-range =
+  signed-range =
       split (eqb (getD s 0 0) 45)
-      (λ t. let b = below-value k (amountOf k (drop 1 s)) v (rw t at e) in
-      omega (arith, b .stands, amount-small k (drop 1 s) (b .amount) (b .said)))
-      (λ t. let a = above-value k (amountOf k s) v (rw t at e) in
-      omega (arith, a .stands, amount-small k s (a .amount) (a .said)))
+      (λ t. let b = below-value k (amountOf 6 k (drop 1 s)) v (rw t at e) in
+      omega (arith, b .stands, amount-small 6 k (drop 1 s) (b .amount) (omega arith) (b .said)))
+      (λ t. let a = above-value Bonds k (amountOf 6 k s) v (rw t at e) in
+      omega (arith, a .stands, amount-small 6 k s (a .amount) (omega arith) (a .said)))
 
-  pub fixed-only : s ≡ fixed k v
+  signed-only : s ≡ fixed Bonds k v
   unfolding fixedOf fixed
-  fixed-only =
+  signed-only =
       split (eqb (getD s 0 0) 45)
       (λ t.
-      let b = below-value k (amountOf k (drop 1 s)) v (rw t at e) in
-      let small = amount-small k (drop 1 s) (b .amount) (b .said) in
-      let m : zeroOf k - v ≡ b .amount = omega (arith, b .stands, small) in
-      let w : s ≡ (45 ∷ []) ++ plain k (b .amount) = split-at s 0 44 (eqb-true (getD s 0 0) 45 t) ∙ ap (λ (l : List ℕ). 45 ∷ l) (amount-only k (drop 1 s) (b .amount) (b .said)) in
-      rw (lt-ltb v (zeroOf k) (omega (arith, b .stands, small)), m) w)
+      let b = below-value k (amountOf 6 k (drop 1 s)) v (rw t at e) in
+      let small = amount-small 6 k (drop 1 s) (b .amount) (omega arith) (b .said) in
+      let m : zeroOf Bonds k - v ≡ b .amount = omega (arith, b .stands, small) in
+      let w : s ≡ (45 ∷ []) ++ plain k (b .amount) = split-at s 0 44 (eqb-true (getD s 0 0) 45 t) ∙ ap (λ (l : List ℕ). 45 ∷ l) (amount-only 6 k (drop 1 s) (b .amount) (omega arith) (b .said)) in
+      rw (lt-ltb v (zeroOf Bonds k) (omega (arith, b .stands, small)), m) w)
       (λ t.
-      let a = above-value k (amountOf k s) v (rw t at e) in
-      let m : v - zeroOf k ≡ a .amount = omega (arith, a .stands) in
-      rw (le-ltb v (zeroOf k) (omega (arith, a .stands)), m) (amount-only k s (a .amount) (a .said)))
+      let a = above-value Bonds k (amountOf 6 k s) v (rw t at e) in
+      let m : v - zeroOf Bonds k ≡ a .amount = omega (arith, a .stands) in
+      rw (le-ltb v (zeroOf Bonds k) (omega (arith, a .stands)), m) (amount-only 6 k s (a .amount) (omega arith) (a .said)))
+
+module _ (k : ℕ) (s : List ℕ) (v : ℕ) (e : fixedOf Equities k s ≡ Value v) where
+  unsigned-parts : Signed (amountOf 8 k s) (λ m. zeroOf Equities k - m ≡ v)
+  unfolding fixedOf
+  unsigned-parts =
+      split (eqb (getD s 0 0) 45)
+      (λ t. absurd (below-never k (amountOf 8 k (drop 1 s)) v (rw t at e)))
+      (λ t. above-value Equities k (amountOf 8 k s) v (rw t at e))
+
+  unsigned-range : (0 < v) × (v ≤ zeroOf Equities k)
+  unsigned-range =
+      let a = unsigned-parts in
+      omega (arith, a .stands, amount-small 8 k s (a .amount) (omega arith) (a .said))
+
+  unsigned-only : s ≡ fixed Equities k v
+  unfolding fixed
+  unsigned-only =
+      let a = unsigned-parts in
+      let m : zeroOf Equities k - v ≡ a .amount = omega (arith, a .stands, amount-small 8 k s (a .amount) (omega arith) (a .said)) in
+      rw m (amount-only 8 k s (a .amount) (omega arith) (a .said))
 
 -- ---- how long these texts are
-pub plain-length : (k m : ℕ) → m < zeroOf k → length (plain k m) ≤ 7 + k
+pub plain-length : (w k m : ℕ) → 0 < w → m < 10 ^ k * 10 ^ w → length (plain k m) ≤ w + 1 + k
 unfolding plain
-plain-length k m h =
+plain-length w k m p h =
     let a : ℕ = m / 10 ^ k in
-    let small : a < 1000000 = div-lt-iff-lt-mul {k = 10 ^ k} (ten-some k) .1 (omega arith) in
     omega (
       arith,
       length-append (decimal a ++ (46 ∷ [])) (places k m),
       length-append (decimal a) (46 ∷ []),
       length-places k m,
-      decimal-few 5 a small,
+      decimal-most w a p (whole-small w k m h),
     )
 
-pub fixed-length : (k v : ℕ) → 0 < v → v < zeroOf k + zeroOf k → length (fixed k v) ≤ 8 + k
+signed-length : (k v : ℕ) → 0 < v → v < zeroOf Bonds k + zeroOf Bonds k → length (fixed Bonds k v) ≤ 8 + k
 unfolding fixed
-fixed-length k v h l =
-    elim (decLt v (zeroOf k)) [
-      | yes p ↦ rw (lt-ltb v (zeroOf k) p) (omega (arith, plain-length k (zeroOf k - v) (omega arith)))
-      | no p ↦ rw (le-ltb v (zeroOf k) (omega (arith, p))) (omega (arith, plain-length k (v - zeroOf k) (omega (arith, p))))
+signed-length k v h l =
+    elim (decLt v (zeroOf Bonds k)) [
+      | yes p ↦ rw (lt-ltb v (zeroOf Bonds k) p) (omega (arith, plain-length 6 k (zeroOf Bonds k - v) (omega arith) (omega arith)))
+      | no p ↦ rw (le-ltb v (zeroOf Bonds k) (omega (arith, p))) (omega (arith, plain-length 6 k (v - zeroOf Bonds k) (omega arith) (omega (arith, p))))
     ]
+
+unsigned-length : (k v : ℕ) → 0 < v → length (fixed Equities k v) ≤ 9 + k
+unfolding fixed
+unsigned-length k v h = omega (arith, plain-length 8 k (zeroOf Equities k - v) (omega arith) (omega (arith, ten-some k)))
+
+-- ---- yields and prices, from 1 to the highest level
+
+-- what was written is read back
+pub level-back : (q : Instrument) (v : ℕ) → 0 < v → v ≤ highest q → levelIn q (levelText q v) ≡ Value v
+unfolding levelIn levelText
+level-back Bonds v h l = signed-back 3 v (omega arith) h (omega arith)
+level-back Equities v h l = unsigned-back 1 v (omega arith) h (omega arith)
+
+-- only what would be written is read, and what is read is in its range
+pub level-only : (q : Instrument) (s : List ℕ) (v : ℕ) → levelIn q s ≡ Value v → s ≡ levelText q v
+unfolding levelIn levelText
+level-only Bonds s v e = signed-only 3 s v e
+level-only Equities s v e = unsigned-only 1 s v e
+
+pub level-within : (q : Instrument) (s : List ℕ) (v : ℕ) → levelIn q s ≡ Value v → (0 < v) × (v ≤ highest q)
+unfolding levelIn
+level-within Bonds s v e = let r = signed-range 3 s v e in (omega arith, omega arith)
+level-within Equities s v e = let r = unsigned-range 1 s v e in (omega arith, omega arith)
+
+-- at most eleven characters
+pub level-length : (q : Instrument) (v : ℕ) → 0 < v → v ≤ highest q → length (levelText q v) ≤ 11
+unfolding levelText
+level-length Bonds v h l = signed-length 3 v h (omega arith)
+level-length Equities v h l = omega (arith, unsigned-length 1 v h)
+
+-- ---- AvgPx, from 1 to the highest mean
+pub mean-back : (q : Instrument) (v : ℕ) → 0 < v → v ≤ highestMean q → meanIn q (meanText q v) ≡ Value v
+unfolding meanIn meanText
+mean-back Bonds v h l = signed-back 6 v (omega arith) h (omega arith)
+mean-back Equities v h l = unsigned-back 4 v (omega arith) h (omega arith)
+
+pub mean-only : (q : Instrument) (s : List ℕ) (v : ℕ) → meanIn q s ≡ Value v → s ≡ meanText q v
+unfolding meanIn meanText
+mean-only Bonds s v e = signed-only 6 s v e
+mean-only Equities s v e = unsigned-only 4 s v e
+
+pub mean-within : (q : Instrument) (s : List ℕ) (v : ℕ) → meanIn q s ≡ Value v → (0 < v) × (v ≤ highestMean q)
+unfolding meanIn
+mean-within Bonds s v e = let r = signed-range 6 s v e in (omega arith, omega arith)
+mean-within Equities s v e = let r = unsigned-range 4 s v e in (omega arith, omega arith)
+
+-- at most fourteen characters
+pub mean-length : (q : Instrument) (v : ℕ) → 0 < v → v ≤ highestMean q → length (meanText q v) ≤ 14
+unfolding meanText
+mean-length Bonds v h l = signed-length 6 v h (omega arith)
+mean-length Equities v h l = omega (arith, unsigned-length 4 v h)

@@ -5,7 +5,7 @@ use mathlib.Core.List.{List, [], _∷_}
 use mathlib.Core.Bool.{Bool, true, false, cond}
 use native.Mathlib.Omega.{arith}
 use native.Mathlib.Numerals.{add-one}
-use native.Mathlib.Nat.{not-suc-le-zero, le-of-suc-le-suc, le-of-eq}
+use native.Mathlib.Nat.{not-suc-le-zero, le-of-suc-le-suc, le-of-eq, suc-ne-zero}
 use lib.ListN.{length, getD, take, drop, length-drop, drop-of-length-le, List·getD-eq-default}
 use lib.Seq.{drop-cons, take-all}
 use Rattle.octets.proofs.Bools.{split}
@@ -18,6 +18,12 @@ rest-is s i = take-all (length s - i) (drop i s) (le-of-eq (length-drop i s))
 -- past the end there is 0
 pub byte-past : (s : List ℕ) (i : ℕ) → length s ≤ i → 0 ≡ getD s i 0
 byte-past s i h = sym (List·getD-eq-default s 0 {n = i} h)
+
+-- a byte that is not 0 stands within the text
+pub byte-within : (s : List ℕ) (i b : ℕ) → getD s i 0 ≡ suc b → i < length s
+byte-within [] i b e = absurd (suc-ne-zero b (sym e))
+byte-within (x ∷ s) zero b e = omega arith
+byte-within (x ∷ s) (suc i) b e = omega (arith, byte-within s i b e)
 
 -- ---- the run from i on
 pub run-step : (p : ℕ → Bool) (s : List ℕ) (i : ℕ) → i < length s → p (getD s i 0) ≡ true → runOf p (drop i s) ≡ suc (runOf p (drop (i + 1) s))

@@ -1,167 +1,242 @@
--- A yield as a level, test by test in the order in which it is read, and the bounds that the sums want.
+-- A yield or a price as a level, test by test in the order in which it is read, and the bounds that the sums want.
 use Prim.Native.Nat.{ℕ, zero, suc, _+_, _-_, _*_, _^_, _≤_, _<_}
 use mathlib.Core.Path.{_≡_, refl, sym, ap, _∙_}
 use mathlib.Core.List.{List, [], _∷_}
 use mathlib.Core.Bool.{Bool, true, false, cond, _&&_, and-false}
 use native.Mathlib.Omega.{arith}
-use native.Mathlib.Nat.{not-suc-le-zero, le-of-suc-le-suc, suc-ne-zero}
+use native.Mathlib.Nat.{suc-ne-zero, pow-le-pow-right, mul-le-mul-right, add-mul}
+use lib.Pow.{pow-add}
 use mir.Syntax.{w64}
 use mir.Val.{Fits}
 use lib.Dec.{ltb, leb, eqb}
-use lib.ListN.{length, getD, take, drop, length-take, List·getD-eq-default}
-use borrow.Author.Tests.{eq-eqb, ne-eqb, lt-ltb, le-leb, lt-leb, ltb-true, leb-true}
-use Rattle.octets.proofs.Bools.{both-l, both-r}
+use lib.ListN.{length, getD, take, drop, length-take, length-drop}
+use borrow.Author.Tests.{eq-eqb, ne-eqb, lt-ltb, le-leb, lt-leb, leb-true, eqb-false}
+use Rattle.octets.proofs.Bools.{split, both-r}
+use Rattle.decimal.specs.declared.Instrument.{Instrument}
+use Rattle.decimal.specs.declared.Instrument.the-variants.{Bonds, Equities}
 use Rattle.decimal.specs.declared.Said.{Said}
 use Rattle.decimal.specs.declared.Said.the-variants.{Value, Wrong}
-use Rattle.decimal.specs.Reading.{isDigit, digitOf, runOf, digitRun, number, digitAt, mapSaid, isFraction, fractionOf, sizeOf, even, levelOf}
-use Rattle.decimal.proofs.Scans.{rest-is, run-le}
-use Rattle.decimal.proofs.Numbers.{let-through, run-small}
+use Rattle.decimal.specs.Instruments.{wholeDigits, decimals, standsFor, signed, highest}
+use Rattle.decimal.specs.Reading.{isDigit, runOf, digitRun, number, numOf, mapSaid, fractionOf, sizeOf, even, levelOf}
+use Rattle.decimal.specs.Writing.{Scale}
+use Rattle.decimal.proofs.Scans.{rest-is, run-le, byte-within}
+use Rattle.decimal.proofs.Numbers.{run-small, num-length, num-within, num-below}
 
--- ---- a digit behind the point
-pub digit-past : (s : List ℕ) (i : ℕ) → length s ≤ i → 0 ≡ digitAt s i
-unfolding digitAt digitOf isDigit
-digit-past s i h = rw (List·getD-eq-default s 48 {n = i} h)
+-- ---- powers of ten
+pub ten-some : (k : ℕ) → 0 < 10 ^ k
+ten-some k = omega (arith, pow-le-pow-right {n = 10} (omega arith) {i = 0} {j = k} (omega arith))
 
-getD-any : (s : List ℕ) (i d e : ℕ) → i < length s → getD s i d ≡ getD s i e
-getD-any [] i d e h = absurd (not-suc-le-zero h)
-getD-any (x ∷ s) zero d e h = refl
-getD-any (x ∷ s) (suc i) d e h = getD-any s i d e (le-of-suc-le-suc h)
+-- a number below one power with one below another behind it
+pub under-both : (a b w k : ℕ) → a < 10 ^ w → b < 10 ^ k → a * 10 ^ k + b < 10 ^ w * 10 ^ k
+under-both a b w k h l = omega (arith, mul-le-mul-right (10 ^ k) h, add-mul a 1 (10 ^ k), l)
 
-pub digit-there : (s : List ℕ) (i r : ℕ) → i < length s → r ≡ digitOf (getD s i 0) → r ≡ digitAt s i
-unfolding digitAt
-digit-there s i r h e = e ∙ ap digitOf (getD-any s i 0 48 h)
+pub tens-none : (j : ℕ) → j ≡ 0 → 1 ≡ 10 ^ j
+tens-none j e = rw e
 
--- ---- the fraction
-module _ (s : List ℕ) where
-  pub fraction-none : length s ≡ 0 → Value 0 ≡ fractionOf s
+pub tens-one : (j : ℕ) → j ≡ 1 → 10 ≡ 10 ^ j
+tens-one j e = rw e
+
+pub tens-two : (j : ℕ) → j ≡ 2 → 100 ≡ 10 ^ j
+tens-two j e = rw e
+
+pub tens-three : (j : ℕ) → (j ≡ 0 → ⊥) → (j ≡ 1 → ⊥) → (j ≡ 2 → ⊥) → j ≤ 3 → 1000 ≡ 10 ^ j
+tens-three j a b c l = let e : j ≡ 3 = omega arith in rw e
+
+-- ---- what stands behind the whole digits
+module _ (k : ℕ) (s : List ℕ) where
+  pub fraction-none : length s ≡ 0 → Value 0 ≡ fractionOf k s
   unfolding fractionOf
   fraction-none h = simp h
 
-  module _ (a b c : ℕ) (h : length s ≡ 0 → ⊥) (ea : a ≡ digitAt s 1) (eb : b ≡ digitAt s 2) (ec : c ≡ digitAt s 3) where
-    pub fraction-is : (eqb (getD s 0 0) 46 && leb 2 (length s) && leb (length s) 4 && ltb a 10 && ltb b 10 && ltb c 10) ≡ true → Value (a * 100 + b * 10 + c) ≡ fractionOf s
-    unfolding fractionOf isFraction
-    fraction-is e = rw (ne-eqb (length s) 0 h, ← ea, ← eb, ← ec, e)
+  module _ (h : length s ≡ 0 → ⊥) where
+    pub fraction-other : (getD s 0 0 ≡ 46 → ⊥) → Wrong ≡ fractionOf k s
+    unfolding fractionOf
+    fraction-other d = simp (ne-eqb (length s) 0 h, ne-eqb (getD s 0 0) 46 d)
 
-    pub fraction-wrong : (eqb (getD s 0 0) 46 && leb 2 (length s) && leb (length s) 4 && ltb a 10 && ltb b 10 && ltb c 10) ≡ false → Wrong ≡ fractionOf s
-    unfolding fractionOf isFraction
-    fraction-wrong e = rw (ne-eqb (length s) 0 h, ← ea, ← eb, ← ec, e)
+    module _ (d : getD s 0 0 ≡ 46) (r : Said) (er : r ≡ numOf k (take (length s - 1) (drop 1 s))) where
+      behind : r ≡ numOf k (drop 1 s)
+      behind = er ∙ ap (numOf k) (rest-is s 1)
 
--- a fraction is below a thousand
-small : (s : List ℕ) (f : ℕ) (t : Bool) → cond t (Value 0) (cond (isFraction s) (Value (digitAt s 1 * 100 + digitAt s 2 * 10 + digitAt s 3)) Wrong) ≡ Value f → f ≤ 999
-unfolding isFraction
-small s f true e = let z : 0 ≡ f = cc in omega arith
-small s f false e =
-    let p = let-through (isFraction s) _ f e in
-    let t1 = ltb (digitAt s 1) 10 in
-    let t2 = ltb (digitAt s 2) 10 in
-    let t3 = ltb (digitAt s 3) 10 in
-    let a = eqb (getD s 0 0) 46 && leb 2 (length s) && leb (length s) 4 in
-    let q2 = both-l (a && t1 && t2) t3 (p .0) in
-    let c3 = ltb-true (digitAt s 3) 10 (both-r (a && t1 && t2) t3 (p .0)) in
-    let c2 = ltb-true (digitAt s 2) 10 (both-r (a && t1) t2 q2) in
-    let c1 = ltb-true (digitAt s 1) 10 (both-r a t1 (both-l (a && t1) t2 q2)) in
-    omega (arith, p .1)
+      pub fraction-wrong : r ≡ Wrong → Wrong ≡ fractionOf k s
+      unfolding fractionOf
+      fraction-wrong g = let z = behind in simp (ne-eqb (length s) 0 h, eq-eqb (getD s 0 0) 46 d, ← z, g)
 
-pub fraction-small : (s : List ℕ) (r : Said) (f : ℕ) → r ≡ fractionOf s → r ≡ Value f → f ≤ 999
+      pub fraction-is : (n u : ℕ) → r ≡ Value n → u ≡ 10 ^ (k + 1 - length s) → Value (n * u) ≡ fractionOf k s
+      unfolding fractionOf
+      fraction-is n u g e = let z = behind in simp (ne-eqb (length s) 0 h, eq-eqb (getD s 0 0) 46 d, ← z, g, e)
+
+      pub fraction-tens : (n : ℕ) → r ≡ Value n → k ≤ 3 → k + 1 - length s ≤ 3
+      fraction-tens n g l = omega arith
+
+      pub fraction-fits : (n u : ℕ) → r ≡ Value n → u ≡ 10 ^ (k + 1 - length s) → k ≤ 3 → Fits w64 (n * u)
+      fraction-fits n u g e l =
+          let a = num-below k (drop 1 s) n (sym behind ∙ g) in
+          let b : 10 ^ k ≤ 1000 = pow-le-pow-right {n = 10} (omega arith) l in
+          let c : 10 ^ (k + 1 - length s) ≤ 1000 = pow-le-pow-right {n = 10} (omega arith) (fraction-tens n g l) in
+          let m : n * u ≤ 1000 * u = mul-le-mul-right u (omega (arith, a, b)) in
+          record { fits = omega (arith, m, c, e) }
+
+-- its digits are at most k
+pub fraction-few : (k : ℕ) (s : List ℕ) (r : Said) (n : ℕ) → r ≡ Value n → r ≡ numOf k (take (length s - 1) (drop 1 s)) → length s ≤ k + 1
+fraction-few k s r n g e = omega (arith, num-length k (drop 1 s) n (ap (numOf k) (sym (rest-is s 1)) ∙ sym e ∙ g), length-drop 1 s)
+
+-- it is below one
+behind-small : (k : ℕ) (s : List ℕ) (n : ℕ) → (length s ≡ 0 → ⊥) → numOf k (drop 1 s) ≡ Value n → n * 10 ^ (k + 1 - length s) < 10 ^ k
+behind-small k s n h g =
+    let j : ℕ = length (drop 1 s) in
+    let i : ℕ = k + 1 - length s in
+    let l = length-drop 1 s in
+    let few = num-length k (drop 1 s) n g in
+    let both : j + i ≡ k = omega (arith, l, few, h) in
+    let p : 10 ^ k ≡ 10 ^ j * 10 ^ i = ap (λ (x : ℕ). 10 ^ x) (sym both) ∙ pow-add 10 j i in
+    omega (arith, under-both n 0 j i (num-within k (drop 1 s) n g) (ten-some i), p)
+
+fraction-cases : (k : ℕ) (s : List ℕ) (f : ℕ) (t : Bool) (x : Said) → (length s ≡ 0 → ⊥) → numOf k (drop 1 s) ≡ x
+    → cond t (mapSaid (λ n. n * 10 ^ (k + 1 - length s)) x) Wrong ≡ Value f → f < 10 ^ k
+fraction-cases k s f true (Value n) h ex e = let z : n * 10 ^ (k + 1 - length s) ≡ f = cc in omega (arith, behind-small k s n h ex)
+fraction-cases k s f true Wrong h ex e = let z : _≡_ {A = ℕ} 0 1 = cc in absurd (suc-ne-zero 0 (sym z))
+fraction-cases k s f false x h ex e = let z : _≡_ {A = ℕ} 0 1 = cc in absurd (suc-ne-zero 0 (sym z))
+
+fraction-by : (k : ℕ) (s : List ℕ) (f : ℕ) (t : Bool) → eqb (length s) 0 ≡ t
+    → cond t (Value 0) (cond (eqb (getD s 0 0) 46) (mapSaid (λ n. n * 10 ^ (k + 1 - length s)) (numOf k (drop 1 s))) Wrong) ≡ Value f → f < 10 ^ k
+fraction-by k s f true et e = let z : 0 ≡ f = cc in omega (arith, ten-some k)
+fraction-by k s f false et e = fraction-cases k s f (eqb (getD s 0 0) 46) (numOf k (drop 1 s)) (eqb-false (length s) 0 et) refl e
+
+pub fraction-small : (k : ℕ) (s : List ℕ) (r : Said) (f : ℕ) → r ≡ fractionOf k s → r ≡ Value f → f < 10 ^ k
 unfolding fractionOf
-fraction-small s r f e g = small s f (eqb (length s) 0) (sym e ∙ g)
+fraction-small k s r f e g = fraction-by k s f (eqb (length s) 0) refl (sym e ∙ g)
 
--- ---- a yield that has no minus
-module _ (s : List ℕ) (k : ℕ) (ek : k ≡ digitRun s) where
-  pub run-in : k ≤ length s
+-- ---- what has no minus
+module _ (m : ℕ) (k : ℕ) (s : List ℕ) (w : ℕ) (ew : w ≡ digitRun s) where
+  pub run-in : w ≤ length s
   run-in = omega (arith, run-le isDigit s)
 
-  pub run-count : k ≡ length (take k s)
+  pub run-count : w ≡ length (take w s)
   run-count = simp length-take (omega (arith, run-le isDigit s))
 
-  pub size-short : k ≡ 0 → Wrong ≡ sizeOf s
+  pub size-short : w ≡ 0 → Wrong ≡ sizeOf m k s
   unfolding sizeOf
-  size-short h = simp (← ek, h)
+  size-short h = simp (← ew, h)
 
-  pub size-long : 6 < k → Wrong ≡ sizeOf s
+  pub size-long : m < w → Wrong ≡ sizeOf m k s
   unfolding sizeOf
-  size-long h = simp (← ek, lt-leb k 6 h, and-false)
+  size-long h = simp (← ew, lt-leb w m h, and-false)
 
-  module _ (r : Said) (p : k ≡ 0 → ⊥) (q : k ≤ 6) (er : r ≡ fractionOf (take (length s - k) (drop k s))) where
-    pub size-is : (n f : ℕ) → r ≡ Value f → n ≡ number (take k s) → Value (n * 1000 + f) ≡ sizeOf s
+  module _ (r : Said) (p : w ≡ 0 → ⊥) (q : w ≤ m) (er : r ≡ fractionOf k (take (length s - w) (drop w s))) where
+    pub size-is : (unit n f : ℕ) → Scale k unit → r ≡ Value f → n ≡ number (take w s) → Value (n * unit + f) ≡ sizeOf m k s
     unfolding sizeOf
-    size-is n f g en =
-        let e : r ≡ fractionOf (drop k s) = er ∙ ap fractionOf (rest-is s k) in
-        simp (← ek, lt-ltb 0 k (omega arith), le-leb k 6 q, ← e, g, en)
+    size-is unit n f scale g en =
+        let e : r ≡ fractionOf k (drop w s) = er ∙ ap (fractionOf k) (rest-is s w) in
+        let u : unit ≡ 10 ^ k = scale .unit-is in
+        simp (← ew, lt-ltb 0 w (omega arith), le-leb w m q, ← e, g, en, u)
 
-    pub size-wrong : r ≡ Wrong → Wrong ≡ sizeOf s
+    pub size-wrong : r ≡ Wrong → Wrong ≡ sizeOf m k s
     unfolding sizeOf
     size-wrong g =
-        let e : r ≡ fractionOf (drop k s) = er ∙ ap fractionOf (rest-is s k) in
-        simp (← ek, lt-ltb 0 k (omega arith), le-leb k 6 q, ← e, g)
+        let e : r ≡ fractionOf k (drop w s) = er ∙ ap (fractionOf k) (rest-is s w) in
+        simp (← ew, lt-ltb 0 w (omega arith), le-leb w m q, ← e, g)
 
--- a yield is below 1,000,000,000 thousandths in size
-size-cases : (s : List ℕ) (t : ℕ) (b : Bool) (x : Said) → fractionOf (drop (digitRun s) s) ≡ x → (ltb 0 (digitRun s) && leb (digitRun s) 6) ≡ b
-    → cond b (mapSaid (λ f. number (take (digitRun s) s) * 1000 + f) x) Wrong ≡ Value t → t < 1000000000
-size-cases s t true (Value f) ex eb e =
-    let z : number (take (digitRun s) s) * 1000 + f ≡ t = cc in
+-- it has at most so many whole digits
+size-cases : (m k : ℕ) (s : List ℕ) (t : ℕ) (b : Bool) (x : Said) → fractionOf k (drop (digitRun s) s) ≡ x → (ltb 0 (digitRun s) && leb (digitRun s) m) ≡ b
+    → cond b (mapSaid (λ f. number (take (digitRun s) s) * 10 ^ k + f) x) Wrong ≡ Value t → t < 10 ^ m * 10 ^ k
+size-cases m k s t true (Value f) ex eb e =
+    let z : number (take (digitRun s) s) * 10 ^ k + f ≡ t = cc in
     omega (
       arith,
-      fraction-small (drop (digitRun s) s) (Value f) f (sym ex) refl,
-      run-small s (digitRun s) refl 6 (leb-true (digitRun s) 6 (both-r (ltb 0 (digitRun s)) (leb (digitRun s) 6) eb)),
+      under-both (number (take (digitRun s) s)) f m k
+          (run-small s (digitRun s) refl m (leb-true (digitRun s) m (both-r (ltb 0 (digitRun s)) (leb (digitRun s) m) eb)))
+          (fraction-small k (drop (digitRun s) s) (Value f) f (sym ex) refl),
     )
-size-cases s t true Wrong ex eb e = let z : _≡_ {A = ℕ} 0 1 = cc in absurd (suc-ne-zero 0 (sym z))
-size-cases s t false x ex eb e = let z : _≡_ {A = ℕ} 0 1 = cc in absurd (suc-ne-zero 0 (sym z))
+size-cases m k s t true Wrong ex eb e = let z : _≡_ {A = ℕ} 0 1 = cc in absurd (suc-ne-zero 0 (sym z))
+size-cases m k s t false x ex eb e = let z : _≡_ {A = ℕ} 0 1 = cc in absurd (suc-ne-zero 0 (sym z))
 
-pub size-small : (s : List ℕ) (r : Said) (t : ℕ) → r ≡ sizeOf s → r ≡ Value t → t < 1000000000
+pub size-small : (m k : ℕ) (s : List ℕ) (r : Said) (t : ℕ) → r ≡ sizeOf m k s → r ≡ Value t → t < 10 ^ m * 10 ^ k
 unfolding sizeOf
-size-small s r t e g = size-cases s t _ _ refl refl (sym e ∙ g)
+size-small m k s r t e g = size-cases m k s t _ _ refl refl (sym e ∙ g)
 
 -- ---- a level
-pub level-empty : (s : List ℕ) → length s ≡ 0 → Wrong ≡ levelOf s
-unfolding levelOf sizeOf runOf
-level-empty [] h = refl
-level-empty (x ∷ s) h = absurd (suc-ne-zero (length s) h)
+module _ (s : List ℕ) (b : ℕ) (eb : b ≡ getD s 0 0) where
+  module _ (h : b ≡ 45) where
+    pub minus-some : 1 ≤ length s
+    minus-some = byte-within s 0 44 (sym eb ∙ h)
 
-module _ (s : List ℕ) (r : Said) where
-  module _ (h : getD s 0 0 ≡ 45) (er : r ≡ sizeOf (take (length s - 1) (drop 1 s))) where
-    pub level-minus : (t : ℕ) → r ≡ Value t → Value (even - t) ≡ levelOf s
+    pub price-minus : Wrong ≡ levelOf Equities s
     unfolding levelOf
-    level-minus t g = rw (eq-eqb (getD s 0 0) 45 h, ← (er ∙ ap sizeOf (rest-is s 1)), g)
+    price-minus = rw (← eb, eq-eqb b 45 h)
 
-    pub level-minus-wrong : r ≡ Wrong → Wrong ≡ levelOf s
-    unfolding levelOf
-    level-minus-wrong g = rw (eq-eqb (getD s 0 0) 45 h, ← (er ∙ ap sizeOf (rest-is s 1)), g)
+    module _ (r : Said) (er : r ≡ sizeOf 6 3 (take (length s - 1) (drop 1 s))) where
+      pub yield-minus : (t : ℕ) → r ≡ Value t → Value (even - t) ≡ levelOf Bonds s
+      unfolding levelOf
+      yield-minus t g = rw (← eb, eq-eqb b 45 h, ← (er ∙ ap (sizeOf 6 3) (rest-is s 1)), g)
 
-  module _ (h : getD s 0 0 ≡ 45 → ⊥) (er : r ≡ sizeOf s) where
-    pub level-plain : (t : ℕ) → r ≡ Value t → Value (even + t) ≡ levelOf s
-    unfolding levelOf
-    level-plain t g = rw (ne-eqb (getD s 0 0) 45 h, ← er, g)
+      pub yield-minus-wrong : r ≡ Wrong → Wrong ≡ levelOf Bonds s
+      unfolding levelOf
+      yield-minus-wrong g = rw (← eb, eq-eqb b 45 h, ← (er ∙ ap (sizeOf 6 3) (rest-is s 1)), g)
 
-    pub level-plain-wrong : r ≡ Wrong → Wrong ≡ levelOf s
-    unfolding levelOf
-    level-plain-wrong g = rw (ne-eqb (getD s 0 0) 45 h, ← er, g)
+  module _ (h : b ≡ 45 → ⊥) (r : Said) where
+    module _ (er : r ≡ sizeOf 6 3 s) where
+      pub yield-plain : (t : ℕ) → r ≡ Value t → Value (even + t) ≡ levelOf Bonds s
+      unfolding levelOf
+      yield-plain t g = rw (← eb, ne-eqb b 45 h, ← er, g)
 
--- a level is 1 to 1,999,999,999
-level-cases : (s : List ℕ) (n : ℕ) (b : Bool) (x y : Said) → sizeOf (drop 1 s) ≡ x → sizeOf s ≡ y
-    → cond b (mapSaid (λ t. even - t) x) (mapSaid (λ t. even + t) y) ≡ Value n → (0 < n) × (n < 2000000000)
-level-cases s n true (Value t) y ex ey e =
-    let z : even - t ≡ n = cc in let l = size-small (drop 1 s) (Value t) t (sym ex) refl in (omega arith, omega arith)
-level-cases s n false x (Value t) ex ey e =
-    let z : even + t ≡ n = cc in let l = size-small s (Value t) t (sym ey) refl in (omega arith, omega arith)
-level-cases s n true Wrong y ex ey e = let z : _≡_ {A = ℕ} 0 1 = cc in absurd (suc-ne-zero 0 (sym z))
-level-cases s n false x Wrong ex ey e = let z : _≡_ {A = ℕ} 0 1 = cc in absurd (suc-ne-zero 0 (sym z))
+      pub yield-plain-wrong : r ≡ Wrong → Wrong ≡ levelOf Bonds s
+      unfolding levelOf
+      yield-plain-wrong g = rw (← eb, ne-eqb b 45 h, ← er, g)
 
-pub level-range : (s : List ℕ) (n : ℕ) → levelOf s ≡ Value n → (0 < n) × (n < 2000000000)
+    module _ (er : r ≡ sizeOf 8 1 s) where
+      pub price-plain : (t : ℕ) → r ≡ Value t → Value (even - t) ≡ levelOf Equities s
+      unfolding levelOf
+      price-plain t g = rw (← eb, ne-eqb b 45 h, ← er, g)
+
+      pub price-plain-wrong : r ≡ Wrong → Wrong ≡ levelOf Equities s
+      unfolding levelOf
+      price-plain-wrong g = rw (← eb, ne-eqb b 45 h, ← er, g)
+
+-- by what is traded
+module _ (q : Instrument) (s : List ℕ) (r : Said) where
+  pub level-bonds : q ≡ Bonds → r ≡ levelOf Bonds s → r ≡ levelOf q s
+  level-bonds e h = rw e h
+
+  pub level-equities : q ≡ Equities → r ≡ levelOf Equities s → r ≡ levelOf q s
+  level-equities e h = rw e h
+
+-- a level is 1 to the highest
+level-cases : (q : Instrument) (s : List ℕ) (n : ℕ) (b : Bool) (x y : Said)
+    → sizeOf (wholeDigits q) (decimals q) (drop 1 s) ≡ x → sizeOf (wholeDigits q) (decimals q) s ≡ y
+    → cond b (cond (signed q) (mapSaid (λ t. even - t) x) Wrong) (mapSaid (standsFor q even) y) ≡ Value n → (0 < n) × (n ≤ highest q)
+level-cases Bonds s n true (Value t) y ex ey e =
+    let z : even - t ≡ n = cc in let l = size-small 6 3 (drop 1 s) (Value t) t (sym ex) refl in (omega arith, omega arith)
+level-cases Bonds s n false x (Value t) ex ey e =
+    let z : even + t ≡ n = cc in let l = size-small 6 3 s (Value t) t (sym ey) refl in (omega arith, omega arith)
+level-cases Equities s n false x (Value t) ex ey e =
+    let z : even - t ≡ n = cc in let l = size-small 8 1 s (Value t) t (sym ey) refl in (omega arith, omega arith)
+level-cases Equities s n true x y ex ey e = let z : _≡_ {A = ℕ} 0 1 = cc in absurd (suc-ne-zero 0 (sym z))
+level-cases Bonds s n true Wrong y ex ey e = let z : _≡_ {A = ℕ} 0 1 = cc in absurd (suc-ne-zero 0 (sym z))
+level-cases Bonds s n false x Wrong ex ey e = let z : _≡_ {A = ℕ} 0 1 = cc in absurd (suc-ne-zero 0 (sym z))
+level-cases Equities s n false x Wrong ex ey e = let z : _≡_ {A = ℕ} 0 1 = cc in absurd (suc-ne-zero 0 (sym z))
+
+pub level-range : (q : Instrument) (s : List ℕ) (n : ℕ) → levelOf q s ≡ Value n → (0 < n) × (n ≤ highest q)
 unfolding levelOf
-level-range s n e = level-cases s n (eqb (getD s 0 0) 45) (sizeOf (drop 1 s)) (sizeOf s) refl refl e
+level-range q s n e =
+    level-cases q s n (eqb (getD s 0 0) 45) (sizeOf (wholeDigits q) (decimals q) (drop 1 s)) (sizeOf (wholeDigits q) (decimals q) s) refl refl e
 
 -- ---- what the code's sums ask
-module _ (s : List ℕ) (k : ℕ) (ek : k ≡ digitRun s) (h : k ≤ 6) (n : ℕ) (en : n ≡ number (take k s)) where
-  pub whole-fits : Fits w64 (n * 1000)
-  whole-fits = record { fits = omega (arith, run-small s k ek 6 h) }
+module _ (s : List ℕ) (w : ℕ) (ew : w ≡ digitRun s) (m : ℕ) (h : w ≤ m) (few : m ≤ 8) (n : ℕ) (en : n ≡ number (take w s)) (k unit : ℕ) (scale : Scale k unit) where
+  whole-small : n * unit ≤ 100000000 * unit
+  whole-small = mul-le-mul-right unit (omega (arith, run-small s w ew 8 (omega arith)))
 
-  pub sum-fits : (u : List ℕ) (r : Said) (f : ℕ) → r ≡ fractionOf u → r ≡ Value f → Fits w64 (n * 1000 + f)
-  sum-fits u r f e g = record { fits = omega (arith, run-small s k ek 6 h, fraction-small u r f e g) }
+  pub whole-fits : Fits w64 (n * unit)
+  whole-fits = record { fits = omega (arith, whole-small, scale .most) }
 
-module _ (s : List ℕ) (r : Said) (t : ℕ) (e : r ≡ sizeOf s) (g : r ≡ Value t) where
-  pub level-room : t ≤ even
-  level-room = omega (arith, size-small s r t e g)
+  pub sum-fits : (u : List ℕ) (r : Said) (f : ℕ) → r ≡ fractionOf k u → r ≡ Value f → Fits w64 (n * unit + f)
+  sum-fits u r f e g = record { fits = omega (arith, whole-small, scale .most, scale .unit-is, fraction-small k u r f e g) }
 
-  pub level-fits : Fits w64 (even + t)
-  level-fits = record { fits = omega (arith, size-small s r t e g) }
+module _ (s : List ℕ) (r : Said) (t : ℕ) where
+  pub yield-room : r ≡ sizeOf 6 3 s → r ≡ Value t → t ≤ even
+  yield-room e g = omega (arith, size-small 6 3 s r t e g)
+
+  pub yield-fits : r ≡ sizeOf 6 3 s → r ≡ Value t → Fits w64 (even + t)
+  yield-fits e g = record { fits = omega (arith, size-small 6 3 s r t e g) }
+
+  pub price-room : r ≡ sizeOf 8 1 s → r ≡ Value t → t ≤ even
+  price-room e g = omega (arith, size-small 8 1 s r t e g)

@@ -1,13 +1,16 @@
--- What a text says where only one way of writing is taken: Read of document 01, which takes no needless zero, exactly three
--- decimals of a yield and six of AvgPx, one whole digit or more and at most six, and no minus on zero. Assumes nothing.
+-- What a text says where only one way of writing is taken: Read of document 01 and T-08 of document 02, which takes no needless
+-- zero, exactly three decimals of a yield and six of its AvgPx, or one of a price and four of its AvgPx, one whole digit or more
+-- and at most six, or eight of a price, and no minus on zero or on a price. Assumes nothing.
 use Prim.Native.Nat.{ℕ, zero, suc, _+_, _-_, _*_, _^_}
 use mathlib.Core.List.{List}
 use mathlib.Core.Bool.{Bool, cond, not, _&&_, _||_}
 use lib.ListN.{length, getD, take, drop}
 use lib.Dec.{ltb, leb, eqb}
 use Rattle.octets.specs.Characters.{byte}
+use Rattle.decimal.specs.declared.Instrument.{Instrument}
 use Rattle.decimal.specs.declared.Said.{Said}
 use Rattle.decimal.specs.declared.Said.the-variants.{Value, Wrong}
+use Rattle.decimal.specs.Instruments.{wholeDigits, decimals, meanDecimals, standsFor, signed}
 use Rattle.decimal.specs.Reading.{digitRun, number, numOf}
 use Rattle.decimal.specs.Writing.{zeroOf}
 
@@ -34,22 +37,33 @@ joined k (Value a) (Value b) = Value (a * 10 ^ k + b)
 joined k (Value a) Wrong = Wrong
 joined k Wrong y = Wrong
 
--- the amount of a text with no minus, in its smallest unit: at most six whole digits, a point, k decimals
-unfoldable pub amountOf : ℕ → List ℕ → Said
-amountOf k s =
+-- the amount of a text with no minus, in its smallest unit: at most w whole digits, a point, k decimals
+unfoldable pub amountOf : ℕ → ℕ → List ℕ → Said
+amountOf w k s =
     cond (eqb (getD s (digitRun s) 0) (byte "."))
-    (joined k (bareOf 6 (take (digitRun s) s)) (exactlyOf k (drop (digitRun s + 1) s)))
+    (joined k (bareOf w (take (digitRun s) s)) (exactlyOf k (drop (digitRun s + 1) s)))
     Wrong
 
--- an amount below zero, or not, as what stands for it; no minus on zero
-abbrev pub belowZero : ℕ → Said → Said
-belowZero k (Value m) = cond (eqb m 0) Wrong (Value (zeroOf k - m))
-belowZero k Wrong = Wrong
+-- an amount with a minus before it, or without, as what stands for it; no minus on zero
+abbrev pub belowZero : Instrument → ℕ → Said → Said
+belowZero q k (Value m) = cond (signed q && not (eqb m 0)) (Value (zeroOf q k - m)) Wrong
+belowZero q k Wrong = Wrong
 
-abbrev pub aboveZero : ℕ → Said → Said
-aboveZero k (Value m) = Value (zeroOf k + m)
-aboveZero k Wrong = Wrong
+abbrev pub aboveZero : Instrument → ℕ → Said → Said
+aboveZero q k (Value m) = Value (standsFor q (zeroOf q k) m)
+aboveZero q k Wrong = Wrong
 
--- what stands for the number with k decimals that s is: fixedOf 3 gives a level, fixedOf 6 a mean
-unfoldable pub fixedOf : ℕ → List ℕ → Said
-fixedOf k s = cond (eqb (getD s 0 0) (byte "-")) (belowZero k (amountOf k (drop 1 s))) (aboveZero k (amountOf k s))
+-- what stands for the number with k decimals that s is
+unfoldable pub fixedOf : Instrument → ℕ → List ℕ → Said
+fixedOf q k s =
+    cond (eqb (getD s 0 0) (byte "-"))
+    (belowZero q k (amountOf (wholeDigits q) k (drop 1 s)))
+    (aboveZero q k (amountOf (wholeDigits q) k s))
+
+-- the level of the yield or the price that s is
+unfoldable pub levelIn : Instrument → List ℕ → Said
+levelIn q s = fixedOf q (decimals q) s
+
+-- the mean of the AvgPx that s is
+unfoldable pub meanIn : Instrument → List ℕ → Said
+meanIn q s = fixedOf q (meanDecimals q) s

@@ -1,14 +1,15 @@
--- What a text says: a number of some digits, a yield as a level, a time. From "Reading a message" of document 01. A text is
--- the list of its bytes; what is past its end reads as no digit. A level is 1,000,000,000 and the thousandths of a yield, so
--- that it is never below zero. Assumes nothing.
-use Prim.Native.Nat.{ℕ, zero, suc, _+_, _-_, _*_}
+-- What a text says: a number of some digits, a yield or a price as a level, a time. From "Reading a message" of document 01 and
+-- T-08 of document 02. A text is the list of its bytes; what is past its end reads as no digit. Assumes nothing.
+use Prim.Native.Nat.{ℕ, zero, suc, _+_, _-_, _*_, _^_}
 use mathlib.Core.List.{List, [], _∷_}
 use mathlib.Core.Bool.{Bool, true, false, cond, not, _&&_, _||_}
 use lib.ListN.{length, getD, take, drop}
 use lib.Dec.{ltb, leb, eqb}
 use Rattle.octets.specs.Characters.{byte}
+use Rattle.decimal.specs.declared.Instrument.{Instrument}
 use Rattle.decimal.specs.declared.Said.{Said}
 use Rattle.decimal.specs.declared.Said.the-variants.{Value, Wrong}
+use Rattle.decimal.specs.Instruments.{wholeDigits, decimals, standsFor, signed}
 
 -- ---- digits
 
@@ -48,46 +49,38 @@ isNumber n s = ltb 0 (length s) && leb (length s) n && eqb (digitRun s) (length 
 unfoldable pub numOf : ℕ → List ℕ → Said
 numOf n s = cond (isNumber n s) (Value (number s)) Wrong
 
--- ---- yields: an optional minus, 1 to 6 digits, optionally a point and 1 to 3 digits
+-- ---- yields and prices: 1 to 6 digits, or 1 to 8 of a price, then optionally a point and 1 to 3 digits, or 1 of a price; a
+-- minus may stand before a yield
 
 -- f of what is said
 abbrev pub mapSaid : (ℕ → ℕ) → Said → Said
 mapSaid f (Value n) = Value (f n)
 mapSaid f Wrong = Wrong
 
--- the digit at place i, where one that is not written counts as 0
-unfoldable pub digitAt : List ℕ → ℕ → ℕ
-digitAt s i = digitOf (getD s i (byte "0"))
-
--- s is a point and 1 to 3 digits
-unfoldable pub isFraction : List ℕ → Bool
-isFraction s =
-    eqb (getD s 0 0) (byte ".") && leb 2 (length s) && leb (length s) 4
-    && ltb (digitAt s 1) 10 && ltb (digitAt s 2) 10 && ltb (digitAt s 3) 10
-
--- the thousandths behind the whole digits: none where nothing is written
-unfoldable pub fractionOf : List ℕ → Said
-fractionOf s =
+-- what stands behind the whole digits, in units of the last of k decimals: nothing, or a point and 1 to k digits, where those that
+-- are not written count as 0
+unfoldable pub fractionOf : ℕ → List ℕ → Said
+fractionOf k s =
     cond (eqb (length s) 0) (Value 0)
-    (cond (isFraction s) (Value (digitAt s 1 * 100 + digitAt s 2 * 10 + digitAt s 3)) Wrong)
+    (cond (eqb (getD s 0 0) (byte ".")) (mapSaid (λ n. n * 10 ^ (k + 1 - length s)) (numOf k (drop 1 s))) Wrong)
 
--- the thousandths of a yield that has no minus
-unfoldable pub sizeOf : List ℕ → Said
-sizeOf s =
-    cond (ltb 0 (digitRun s) && leb (digitRun s) 6)
-    (mapSaid (λ f. number (take (digitRun s) s) * 1000 + f) (fractionOf (drop (digitRun s) s)))
+-- what has no minus, of 1 to w whole digits and up to k decimals, in units of the last of these
+unfoldable pub sizeOf : ℕ → ℕ → List ℕ → Said
+sizeOf w k s =
+    cond (ltb 0 (digitRun s) && leb (digitRun s) w)
+    (mapSaid (λ f. number (take (digitRun s) s) * 10 ^ k + f) (fractionOf k (drop (digitRun s) s)))
     Wrong
 
--- the level of a yield of zero
+-- the level of a yield or a price of zero
 abbrev pub even : ℕ
 even = 1000000000
 
--- a yield as a level; a minus before zero changes nothing
-unfoldable pub levelOf : List ℕ → Said
-levelOf s =
+-- a yield or a price as a level; a minus before zero changes nothing, and no price has one
+unfoldable pub levelOf : Instrument → List ℕ → Said
+levelOf q s =
     cond (eqb (getD s 0 0) (byte "-"))
-    (mapSaid (λ t. even - t) (sizeOf (drop 1 s)))
-    (mapSaid (λ t. even + t) (sizeOf s))
+    (cond (signed q) (mapSaid (λ t. even - t) (sizeOf (wholeDigits q) (decimals q) (drop 1 s))) Wrong)
+    (mapSaid (standsFor q even) (sizeOf (wholeDigits q) (decimals q) s))
 
 -- ---- times: YYYYMMDD-HH:MM:SS, or YYYYMMDD-HH:MM:SS.sss
 

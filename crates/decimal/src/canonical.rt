@@ -1,11 +1,14 @@
-// Reads numbers, yields and averages from texts that are written in the one way in which they are written into a report.
+// Reads numbers, yields, prices and averages from texts that are written in the one way in which they are written into a report.
+use crate::Instrument;
 use crate::Said;
 use crate::read;
 ghost use mathlib.Core.Path.{_≡_};
-ghost use Prim.Native.Nat.{_+_, _*_, _≤_, _<_};
+ghost use Prim.Native.Nat.{_+_, _*_, _^_, _≤_, _<_};
 ghost use lib.ListN.{length, drop};
+ghost use Rattle.decimal.specs.Instruments.{decimals as decimalsOf};
 ghost use Rattle.decimal.specs.Writing.{Scale};
-ghost use Rattle.decimal.specs.Canonical.{bareOf, within, exactlyOf, amountOf, fixedOf};
+ghost use Rattle.decimal.specs.declared.Instrument.the-variants.{Bonds, Equities};
+ghost use Rattle.decimal.specs.Canonical.{bareOf, within, exactlyOf, amountOf, fixedOf, levelIn, meanIn};
 
 // 1 to `most` digits with no needless zero.
 pub fn read_bare(s: &[u8], most: usize) -> Said
@@ -48,10 +51,10 @@ pub fn read_exactly(s: &[u8], k: usize) -> Said
     Said::Value(read::number(s))
 }
 
-// The amount of a text with no minus and k decimals, in its smallest unit.
-fn read_amount(s: &[u8], k: usize, unit: u64) -> Said
-    requires { ⌜ Scale k unit × (k ≤ 6) ⌝ }
-    ensures { λ r. ⌜ r ≡ amountOf k (now (s .entry)) ⌝ }
+// The amount of a text with no minus, at most `most` whole digits and k decimals, in its smallest unit.
+fn read_amount(s: &[u8], most: usize, k: usize, unit: u64) -> Said
+    requires { ⌜ Scale k unit × (k ≤ 6) × (most ≤ 8) ⌝ }
+    ensures { λ r. ⌜ r ≡ amountOf most k (now (s .entry)) ⌝ }
 {
     let w = read::digit_run(s);
     if w >= s.len() {
@@ -60,7 +63,7 @@ fn read_amount(s: &[u8], k: usize, unit: u64) -> Said
     if s[w] != b'.' {
         return Said::Wrong;
     }
-    let Said::Value(whole) = read_bare(&s[..w], 6) else {
+    let Said::Value(whole) = read_bare(&s[..w], most) else {
         return Said::Wrong;
     };
     let d = w + 1;
@@ -70,14 +73,14 @@ fn read_amount(s: &[u8], k: usize, unit: u64) -> Said
     Said::Value(whole * unit + part)
 }
 
-// What stands for the number with k decimals that a text is.
-pub fn read_fixed(s: &[u8], k: usize, unit: u64) -> Said
+// What stands for the yield, or the average of yields, with k decimals that a text is.
+fn read_signed(s: &[u8], k: usize, unit: u64) -> Said
     requires { ⌜ Scale k unit × (k ≤ 6) ⌝ }
-    ensures { λ r. ⌜ r ≡ fixedOf k (now (s .entry)) ⌝ }
+    ensures { λ r. ⌜ r ≡ fixedOf Bonds k (now (s .entry)) ⌝ }
 {
     let zero = unit * 1_000_000;
     if read::byte_at(s, 0) == b'-' {
-        let Said::Value(m) = read_amount(&s[1..], k, unit) else {
+        let Said::Value(m) = read_amount(&s[1..], 6, k, unit) else {
             return Said::Wrong;
         };
         if m == 0 {
@@ -85,22 +88,70 @@ pub fn read_fixed(s: &[u8], k: usize, unit: u64) -> Said
         }
         return Said::Value(zero - m);
     }
-    let Said::Value(m) = read_amount(s, k, unit) else {
+    let Said::Value(m) = read_amount(s, 6, k, unit) else {
         return Said::Wrong;
     };
     Said::Value(zero + m)
 }
 
-// The level of a yield.
-pub fn read_level(s: &[u8]) -> Said
-    ensures { λ r. ⌜ r ≡ fixedOf 3 (now (s .entry)) ⌝ }
+// What stands for the price, or the average of prices, with k decimals that a text is.
+fn read_unsigned(s: &[u8], k: usize, unit: u64) -> Said
+    requires { ⌜ Scale k unit × (k ≤ 6) ⌝ }
+    ensures { λ r. ⌜ r ≡ fixedOf Equities k (now (s .entry)) ⌝ }
 {
-    read_fixed(s, 3, 1000)
+    let zero = unit * 100_000_000;
+    if read::byte_at(s, 0) == b'-' {
+        return Said::Wrong;
+    }
+    let Said::Value(m) = read_amount(s, 8, k, unit) else {
+        return Said::Wrong;
+    };
+    Said::Value(zero - m)
 }
 
-// The mean that AvgPx says.
-pub fn read_mean(s: &[u8]) -> Said
-    ensures { λ r. ⌜ r ≡ fixedOf 6 (now (s .entry)) ⌝ }
+// What stands for the number with k decimals that a text is.
+fn read_fixed(q: Instrument, s: &[u8], k: usize, unit: u64) -> Said
+    requires { ⌜ Scale k unit × (k ≤ 6) ⌝ }
+    ensures { λ r. ⌜ r ≡ fixedOf q k (now (s .entry)) ⌝ }
 {
-    read_fixed(s, 6, 1_000_000)
+    match q {
+        Instrument::Bonds => read_signed(s, k, unit),
+        Instrument::Equities => read_unsigned(s, k, unit),
+    }
+}
+
+// The decimals of a yield or a price.
+fn decimals(q: Instrument) -> usize
+    ensures { λ r. ⌜ (r ≡ decimalsOf q) × (r ≤ 3) ⌝ }
+{
+    match q {
+        Instrument::Bonds => 3,
+        Instrument::Equities => 1,
+    }
+}
+
+// The unit of its smallest one.
+fn unit(q: Instrument) -> u64
+    ensures { λ r. ⌜ (r ≡ 10 ^ decimalsOf q) × (r ≤ 1000) ⌝ }
+{
+    match q {
+        Instrument::Bonds => 1000,
+        Instrument::Equities => 10,
+    }
+}
+
+// The level of a yield or a price.
+pub fn read_level(q: Instrument, s: &[u8]) -> Said
+    ensures { λ r. ⌜ r ≡ levelIn q (now (s .entry)) ⌝ }
+{
+    read_fixed(q, s, decimals(q), unit(q))
+}
+
+// The mean that AvgPx says, which has three decimals more.
+pub fn read_mean(q: Instrument, s: &[u8]) -> Said
+    ensures { λ r. ⌜ r ≡ meanIn q (now (s .entry)) ⌝ }
+{
+    let k = decimals(q) + 3;
+    let scale = unit(q) * 1000;
+    read_fixed(q, s, k, scale)
 }

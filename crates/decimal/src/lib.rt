@@ -1,7 +1,13 @@
-// Text against number: digits, yields, averages, and times.
+// Text against number: digits, yields and prices, averages, and times.
 pub mod canonical;
 pub mod read;
 pub mod write;
+
+// What a market trades: bonds, by yield, or equities, by price.
+pub enum Instrument {
+    Bonds,
+    Equities,
+}
 
 // What a text says: a number, or none because it is not written as one.
 pub enum Said {
@@ -9,5 +15,5 @@ pub enum Said {
     Wrong,
 }
 
-// The level of a yield of zero: a level is this and the thousandths of the yield, or this less them.
+// The level of zero: that of a yield is this and its thousandths, or this less them; that of a price is this less its tenths.
 pub const EVEN: u64 = 1_000_000_000;

@@ -1,10 +1,13 @@
-// Reads numbers, yields and times from texts.
+// Reads numbers, yields, prices and times from texts.
 use crate::EVEN;
+use crate::Instrument;
 use crate::Said;
 ghost use mathlib.Core.Path.{_≡_};
 ghost use Prim.Native.Nat.{ℕ, _+_, _-_, _*_, _^_, _≤_, _<_};
 ghost use lib.ListN.{length, take, drop, getD};
-ghost use Rattle.decimal.specs.Reading.{isDigit, digitOf, digitRun, number, numOf, digitAt, fractionOf, sizeOf, levelOf, isTimeLength, twoAt, millisShaped, timeShaped, timeRanged, isTime};
+ghost use Rattle.decimal.specs.declared.Instrument.the-variants.{Bonds, Equities};
+ghost use Rattle.decimal.specs.Writing.{Scale};
+ghost use Rattle.decimal.specs.Reading.{isDigit, digitOf, digitRun, number, numOf, fractionOf, sizeOf, levelOf, isTimeLength, twoAt, millisShaped, timeShaped, timeRanged, isTime};
 
 // Whether a byte is a digit.
 pub fn is_digit(b: u8) -> bool
@@ -80,63 +83,94 @@ pub fn read_number(s: &[u8], most: usize) -> Said
     Said::Value(n)
 }
 
-// The digit at place `i`, where one that is not written counts as 0.
-fn digit_at(s: &[u8], i: usize) -> u64
-    ensures { λ r. ⌜ (r ≡ digitAt (now (s .entry)) i) × (r ≤ 100) ⌝ }
+// Ten to the j.
+fn tens(j: usize) -> u64
+    requires { ⌜ j ≤ 3 ⌝ }
+    ensures { λ r. ⌜ r ≡ 10 ^ j ⌝ }
 {
-    if i < s.len() { digit(s[i]) } else { 0 }
+    if j == 0 {
+        return 1;
+    }
+    if j == 1 {
+        return 10;
+    }
+    if j == 2 {
+        return 100;
+    }
+    1000
 }
 
-// The thousandths behind the whole digits of a yield: nothing, or a point and 1 to 3 digits.
-fn read_fraction(s: &[u8]) -> Said
-    ensures { λ r. ⌜ r ≡ fractionOf (now (s .entry)) ⌝ }
+// What stands behind the whole digits, in units of the last of k decimals: nothing, or a point and 1 to k digits.
+fn read_fraction(s: &[u8], k: usize) -> Said
+    requires { ⌜ k ≤ 3 ⌝ }
+    ensures { λ r. ⌜ r ≡ fractionOf k (now (s .entry)) ⌝ }
 {
     if s.len() == 0 {
         return Said::Value(0);
     }
-    let a = digit_at(s, 1);
-    let b = digit_at(s, 2);
-    let c = digit_at(s, 3);
-    if (s[0] == b'.') & (2 <= s.len()) & (s.len() <= 4) & (a < 10) & (b < 10) & (c < 10) {
-        Said::Value(a * 100 + b * 10 + c)
-    } else {
-        Said::Wrong
+    if s[0] != b'.' {
+        return Said::Wrong;
+    }
+    match read_number(&s[1..], k) {
+        Said::Value(n) => Said::Value(n * tens(k + 1 - s.len())),
+        Said::Wrong => Said::Wrong,
     }
 }
 
-// The thousandths of a yield that has no minus.
-fn read_size(s: &[u8]) -> Said
-    ensures { λ r. ⌜ r ≡ sizeOf (now (s .entry)) ⌝ }
+// What has no minus, of 1 to `most` whole digits and up to k decimals, in units of the last of these.
+fn read_size(s: &[u8], most: usize, k: usize, unit: u64) -> Said
+    requires { ⌜ (most ≤ 8) × (k ≤ 3) × Scale k unit ⌝ }
+    ensures { λ r. ⌜ r ≡ sizeOf most k (now (s .entry)) ⌝ }
 {
-    let k = digit_run(s);
-    if k == 0 {
+    let w = digit_run(s);
+    if w == 0 {
         return Said::Wrong;
     }
-    if 6 < k {
+    if most < w {
         return Said::Wrong;
     }
-    match read_fraction(&s[k..]) {
-        Said::Value(f) => Said::Value(number(&s[..k]) * 1000 + f),
+    match read_fraction(&s[w..], k) {
+        Said::Value(f) => Said::Value(number(&s[..w]) * unit + f),
         Said::Wrong => Said::Wrong,
     }
 }
 
 // A yield as a level: EVEN and its thousandths, or EVEN less them where a minus stands before it.
-pub fn read_level(s: &[u8]) -> Said
-    ensures { λ r. ⌜ r ≡ levelOf (now (s .entry)) ⌝ }
+fn read_yield(s: &[u8]) -> Said
+    ensures { λ r. ⌜ r ≡ levelOf Bonds (now (s .entry)) ⌝ }
 {
-    if s.len() == 0 {
-        return Said::Wrong;
-    }
-    if s[0] == b'-' {
-        return match read_size(&s[1..]) {
+    if byte_at(s, 0) == b'-' {
+        return match read_size(&s[1..], 6, 3, 1000) {
             Said::Value(t) => Said::Value(EVEN - t),
             Said::Wrong => Said::Wrong,
         };
     }
-    match read_size(s) {
+    match read_size(s, 6, 3, 1000) {
         Said::Value(t) => Said::Value(EVEN + t),
         Said::Wrong => Said::Wrong,
+    }
+}
+
+// A price as a level: EVEN less its tenths.
+fn read_price(s: &[u8]) -> Said
+    ensures { λ r. ⌜ r ≡ levelOf Equities (now (s .entry)) ⌝ }
+{
+    if byte_at(s, 0) == b'-' {
+        return Said::Wrong;
+    }
+    match read_size(s, 8, 1, 10) {
+        Said::Value(t) => Said::Value(EVEN - t),
+        Said::Wrong => Said::Wrong,
+    }
+}
+
+// A yield or a price as a level.
+pub fn read_level(q: Instrument, s: &[u8]) -> Said
+    ensures { λ r. ⌜ r ≡ levelOf q (now (s .entry)) ⌝ }
+{
+    match q {
+        Instrument::Bonds => read_yield(s),
+        Instrument::Equities => read_price(s),
     }
 }
 

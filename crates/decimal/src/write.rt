@@ -1,10 +1,13 @@
-// Numbers, yields and averages written as text into an area, from a place on. Each function answers the place behind the text.
+// Numbers, yields, prices and averages written as text into an area, from a place on. Each function answers the place behind the
+// text.
+use crate::Instrument;
 ghost use mathlib.Core.Path.{_≡_};
 ghost use mathlib.Core.List.{_∷_, []};
-ghost use Prim.Native.Nat.{_*_, _≤_, _<_};
+ghost use Prim.Native.Nat.{_-_, _*_, _≤_, _<_};
 ghost use lib.ListN.{length};
 ghost use Rattle.octets.specs.Written.{Room, Wrote};
-ghost use Rattle.decimal.specs.Writing.{decimal, places, Scale, plain, fixed, shareOf, meanOf};
+ghost use Rattle.decimal.specs.declared.Instrument.the-variants.{Bonds, Equities};
+ghost use Rattle.decimal.specs.Writing.{decimal, places, Scale, plain, fixed, levelText, meanText, shareOf, meanOf};
 
 // One byte.
 pub fn put_byte(out: &mut [u8], at: usize, b: u8) -> usize
@@ -71,10 +74,10 @@ pub fn put_plain(out: &mut [u8], at: usize, k: usize, unit: u64, m: u64) -> usiz
     put_places(out, b, k, m)
 }
 
-// The number with k decimals that v stands for: a yield from its level, AvgPx from the mean.
-pub fn put_fixed(out: &mut [u8], at: usize, k: usize, unit: u64, v: u64) -> usize
-    requires { ⌜ Scale k unit × Room (now out) at (fixed k v) ⌝ }
-    ensures { λ r. ⌜ Wrote (now (out .entry)) at (fixed k v) r (now (out .exit)) ⌝ }
+// The yield, or the average of yields, with k decimals that v stands for.
+fn put_signed(out: &mut [u8], at: usize, k: usize, unit: u64, v: u64) -> usize
+    requires { ⌜ Scale k unit × Room (now out) at (fixed Bonds k v) ⌝ }
+    ensures { λ r. ⌜ Wrote (now (out .entry)) at (fixed Bonds k v) r (now (out .exit)) ⌝ }
 {
     let zero = unit * 1_000_000;
     if v < zero {
@@ -84,24 +87,49 @@ pub fn put_fixed(out: &mut [u8], at: usize, k: usize, unit: u64, v: u64) -> usiz
     put_plain(out, at, k, unit, v - zero)
 }
 
-// A yield, from its level.
-pub fn put_level(out: &mut [u8], at: usize, level: u64) -> usize
-    requires { ⌜ Room (now out) at (fixed 3 level) ⌝ }
-    ensures { λ r. ⌜ Wrote (now (out .entry)) at (fixed 3 level) r (now (out .exit)) ⌝ }
+// a less b, and 0 where b is more.
+fn minus(a: u64, b: u64) -> u64
+    ensures { λ r. ⌜ r ≡ a - b ⌝ }
 {
-    put_fixed(out, at, 3, 1000, level)
+    if a < b {
+        return 0;
+    }
+    a - b
+}
+
+// The price, or the average of prices, with k decimals that v stands for.
+fn put_unsigned(out: &mut [u8], at: usize, k: usize, unit: u64, v: u64) -> usize
+    requires { ⌜ Scale k unit × Room (now out) at (fixed Equities k v) ⌝ }
+    ensures { λ r. ⌜ Wrote (now (out .entry)) at (fixed Equities k v) r (now (out .exit)) ⌝ }
+{
+    let zero = unit * 100_000_000;
+    let m = minus(zero, v);
+    put_plain(out, at, k, unit, m)
+}
+
+// A yield or a price, from its level.
+pub fn put_level(out: &mut [u8], at: usize, q: Instrument, level: u64) -> usize
+    requires { ⌜ Room (now out) at (levelText q level) ⌝ }
+    ensures { λ r. ⌜ Wrote (now (out .entry)) at (levelText q level) r (now (out .exit)) ⌝ }
+{
+    match q {
+        Instrument::Bonds => put_signed(out, at, 3, 1000, level),
+        Instrument::Equities => put_unsigned(out, at, 1, 10, level),
+    }
 }
 
 // AvgPx, from the mean.
-pub fn put_mean(out: &mut [u8], at: usize, mean: u64) -> usize
-    requires { ⌜ Room (now out) at (fixed 6 mean) ⌝ }
-    ensures { λ r. ⌜ Wrote (now (out .entry)) at (fixed 6 mean) r (now (out .exit)) ⌝ }
+pub fn put_mean(out: &mut [u8], at: usize, q: Instrument, mean: u64) -> usize
+    requires { ⌜ Room (now out) at (meanText q mean) ⌝ }
+    ensures { λ r. ⌜ Wrote (now (out .entry)) at (meanText q mean) r (now (out .exit)) ⌝ }
 {
-    put_fixed(out, at, 6, 1_000_000, mean)
+    match q {
+        Instrument::Bonds => put_signed(out, at, 6, 1_000_000, mean),
+        Instrument::Equities => put_unsigned(out, at, 4, 10_000, mean),
+    }
 }
 
-// The millionths of d thousandths over e, to the nearest: the whole part first, then the rest, so that nothing needs more
-// than 64 bits.
+// The thousandths of d over e, to the nearest: the whole part first, then the rest, so that nothing needs more than 64 bits.
 fn share(d: u64, e: u64) -> u64
     requires { ⌜ (0 < e) × (e < 1000000000) × (d ≤ e * 1000000000) ⌝ }
     ensures { λ r. ⌜ (r ≡ shareOf d e) × (r ≤ 1000000000000) ⌝ }

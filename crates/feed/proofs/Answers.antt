@@ -4,6 +4,7 @@ use mathlib.Core.Path.{_≡_, refl, sym, ap, _∙_, subst}
 use mathlib.Core.Bool.{Bool, true, false, cond, not, _||_}
 use mathlib.Core.List.{List, []}
 use native.Mathlib.Omega.{arith}
+use native.Mathlib.Nat.{le-trans}
 use lib.Dec.{eqb, ltb}
 use lib.ListN.{length, take, replicate}
 use mir.Syntax.{w64}
@@ -13,6 +14,7 @@ use Rattle.octets.specs.Octets.{put}
 use Rattle.octets.specs.Written.{Room, Wrote}
 use Rattle.octets.proofs.Runs.{wrote-front}
 use Rattle.octets.proofs.Bools.{neither-l, neither-r}
+use Rattle.decimal.specs.declared.Instrument.{Instrument}
 use Rattle.report.specs.declared.Field.{Field}
 use Rattle.report.specs.declared.Slot.{Slot}
 use Rattle.report.specs.declared.Kind.{Kind}
@@ -26,7 +28,7 @@ use Rattle.feed.specs.declared.CopyAnswer.the-variants as answer
 use Rattle.feed.specs.Rows.{copyRow, copySlots}
 use Rattle.feed.specs.Settings.{clientOf, isSetting, copiedBy}
 use Rattle.feed.specs.Copies.{Fed, unfed, fedWith, isNone, copyBytes, fed, copyKind, readCopyOf}
-use Rattle.feed.proofs.Clients.{setting-short, setting-text}
+use Rattle.feed.proofs.Clients.{longest-most, setting-short, setting-text}
 use Rattle.feed.proofs.Copied.{Given}
 use Rattle.feed.proofs.Theorems.{row-few}
 
@@ -57,9 +59,9 @@ module _ {client text : List ℕ} {width : ℕ} (w : Wrote (replicate 30 0) 0 cl
     copied-wrote {area} {after} {n} v = subst (λ (b : List ℕ). Wrote area 0 (reportBytes b) n after) copied-is v
 
 -- ---- the answers, in their order
-module _ (report : List ℕ) (subscription shows : ℕ) (port group : List ℕ) (next : ℕ) (area : List ℕ) where
+module _ (q : Instrument) (report : List ℕ) (subscription shows : ℕ) (port group : List ℕ) (next : ℕ) (area : List ℕ) where
   abbrev all : Fed
-  all = fed report subscription shows port group next (length area)
+  all = fed q report subscription shows port group next (length area)
 
   abbrev client : List ℕ
   client = clientOf shows port group
@@ -75,8 +77,8 @@ module _ (report : List ℕ) (subscription shows : ℕ) (port group : List ℕ) 
   pub no-room : length area < 1024 → (answer.NoRoom ≡ all .answer) × (area ≡ put area 0 (all .bytes))
   no-room h = unfed-is answer.NoRoom (no-room-is h)
 
-  module _ (room : 1024 ≤ length area) (r : Reading) (re : r ≡ readOf report) (t : Bool) (te : t ≡ isNone (r .kind)) where
-    none-is : isNone (readOf report .kind) ≡ t
+  module _ (room : 1024 ≤ length area) (r : Reading) (re : r ≡ readOf q report) (t : Bool) (te : t ≡ isNone (r .kind)) where
+    none-is : isNone (readOf q report .kind) ≡ t
     none-is = sym (te ∙ ap (λ (x : Reading). isNone (x .kind)) re)
 
     no-report-is : t ≡ true → all ≡ unfed answer.NoReport
@@ -86,7 +88,7 @@ module _ (report : List ℕ) (subscription shows : ℕ) (port group : List ℕ) 
     pub no-report : t ≡ true → (answer.NoReport ≡ all .answer) × (area ≡ put area 0 (all .bytes))
     no-report y = unfed-is answer.NoReport (no-report-is y)
 
-    module _ (some : t ≡ false) (u : Bool) (ue : u ≡ isSetting subscription shows port group) where
+    module _ (some : t ≡ false) (u : Bool) (ue : u ≡ isSetting q subscription shows port group) where
       bad-setting-is : not u ≡ true → all ≡ unfed answer.BadSetting
       unfolding fed
       bad-setting-is y = rw (le-ltb (length area) 1024 room, none-is ∙ some, sym ue ∙ not-true u y)
@@ -95,7 +97,7 @@ module _ (report : List ℕ) (subscription shows : ℕ) (port group : List ℕ) 
       bad-setting y = unfed-is answer.BadSetting (bad-setting-is y)
 
       module _ (set : not u ≡ false) where
-        set-is : isSetting subscription shows port group ≡ true
+        set-is : isSetting q subscription shows port group ≡ true
         set-is = sym ue ∙ not-false u set
 
         spent-is : (eqb next 0 || ltb 999999999 next) ≡ true → all ≡ unfed answer.NumbersSpent
@@ -106,7 +108,7 @@ module _ (report : List ℕ) (subscription shows : ℕ) (port group : List ℕ) 
         spent y = unfed-is answer.NumbersSpent (spent-is y)
 
         module _ (left : (eqb next 0 || ltb 999999999 next) ≡ false) (v : Bool) (ve : v ≡ copiedBy subscription (r .kind)) where
-          copied-by : copiedBy subscription (readOf report .kind) ≡ v
+          copied-by : copiedBy subscription (readOf q report .kind) ≡ v
           copied-by = sym (ve ∙ ap (λ (x : Reading). copiedBy subscription (x .kind)) re)
 
           not-copied-is : v ≡ false → all ≡ unfed (answer.NotCopied next)
@@ -126,21 +128,21 @@ module _ (report : List ℕ) (subscription shows : ℕ) (port group : List ℕ) 
           pub next-fits : Fits w64 (next + 1)
           next-fits = record { fits = omega (arith, high) }
 
-          given : Given report client next
-          given = record { low = low; high = high; text = setting-text subscription shows port group set-is; short = setting-short subscription shows port group set-is }
+          given : Given q report client next
+          given = record { low = low; high = high; text = setting-text q subscription shows port group set-is; short = setting-short q subscription shows port group set-is }
 
           pub client-short : length client ≤ 30
-          client-short = setting-short subscription shows port group set-is
+          client-short = le-trans (setting-short q subscription shows port group set-is) (longest-most q)
 
           pub row-room : length (rowBytes report client (copyRow next (length client) (r .fields))) ≤ 489
           row-room =
               subst (λ (x : Reading). length (rowBytes report client (copyRow next (length client) (x .fields))) ≤ 489) (sym re)
-              (row-few report (none-is ∙ some) client next given)
+              (row-few q report (none-is ∙ some) client next given)
 
           pub area-room : 512 ≤ length area
           area-room = omega (arith, room)
 
-          copied-is-all : v ≡ true → all ≡ fedWith next (copyBytes report next client (readOf report .fields))
+          copied-is-all : v ≡ true → all ≡ fedWith next (copyBytes report next client (readOf q report .fields))
           unfolding fed
           copied-is-all y = rw (le-ltb (length area) 1024 room, none-is ∙ some, set-is, left, copied-by ∙ y)
 
@@ -155,10 +157,10 @@ module _ (report : List ℕ) (subscription shows : ℕ) (port group : List ℕ) 
               )
 
 -- ---- reading a copy
-pub read-copy-is : (s : List ℕ) (j k : Kind) (slots copied : List Slot) (x : Reading) → j ≡ kindOf s → k ≡ copyKind j → slots ≡ slotsOf k → copied ≡ copySlots slots
-    → x ≡ readingOf k (readFramed s copied) → x ≡ readCopyOf s
+pub read-copy-is : (q : Instrument) (s : List ℕ) (j k : Kind) (slots copied : List Slot) (x : Reading) → j ≡ kindOf s → k ≡ copyKind j → slots ≡ slotsOf q k → copied ≡ copySlots q slots
+    → x ≡ readingOf k (readFramed s copied) → x ≡ readCopyOf q s
 unfolding readCopyOf
-read-copy-is s j k slots copied x je ke se ce xe =
+read-copy-is q s j k slots copied x je ke se ce xe =
     xe
-    ∙ ap (λ (l : List Slot). readingOf k (readFramed s l)) (ce ∙ ap copySlots se)
-    ∙ ap (λ (i : Kind). readingOf i (readFramed s (copySlots (slotsOf i)))) (ke ∙ ap copyKind je)
+    ∙ ap (λ (l : List Slot). readingOf k (readFramed s l)) (ce ∙ ap (copySlots q) se)
+    ∙ ap (λ (i : Kind). readingOf i (readFramed s (copySlots q (slotsOf q i)))) (ke ∙ ap copyKind je)

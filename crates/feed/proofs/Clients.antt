@@ -4,7 +4,7 @@ use mathlib.Core.Path.{_≡_, refl, sym, ap, _∙_}
 use mathlib.Core.Bool.{Bool, true, false, cond, not, _&&_, _||_, and-false, false≢true}
 use mathlib.Core.List.{List, [], _∷_, _++_}
 use native.Mathlib.Omega.{arith}
-use lib.Dec.{ltb, leb, eqb}
+use lib.Dec.{ltb, leb, eqb, lit≤}
 use lib.ListN.{length, length-append}
 use lib.Seq.{append-snoc}
 use borrow.Author.Tests.{eq-eqb, ne-eqb, eqb-true, eqb-false, ltb-true, ltb-false, le-leb, lt-leb, leb-true, leb-false, lt-ltb, le-ltb, not-true}
@@ -13,67 +13,79 @@ use mir.Val.{Fits}
 use Rattle.octets.specs.Written.{Room, Wrote}
 use Rattle.octets.proofs.Runs.{room-first, room-then, then}
 use Rattle.octets.proofs.Bools.{split, both-l, both-r, both-i, both-not-l, both-not-r, or-r}
+use Rattle.decimal.specs.declared.Instrument.{Instrument}
+use Rattle.decimal.specs.declared.Instrument.the-variants.{Bonds, Equities}
 use Rattle.report.specs.Shapes.{allFrom}
+use Rattle.feed.specs.Rows.{longest}
 use Rattle.feed.specs.Settings.{clientOf, isIdentifier, areIdentifiers, isSetting}
+
+-- ---- how long 109 may be
+pub longest-most : (q : Instrument) → longest q ≤ 30
+longest-most Bonds = lit≤ tt
+longest-most Equities = lit≤ tt
+
+-- ---- both are shown with a hyphen between
+both-shown : (shows : ℕ) (port group : List ℕ) → (shows ≡ 1 → ⊥) → (shows ≡ 2 → ⊥) → clientOf shows port group ≡ port ++ (45 ∷ []) ++ group
+unfolding clientOf
+both-shown shows port group one two = rw (ne-eqb shows 1 one, ne-eqb shows 2 two) (sym (append-snoc port 45 group))
 
 -- ---- one identifier
 and-true : (a : Bool) → (a && true) ≡ a
 and-true true = refl
 and-true false = refl
 
-module _ (v : List ℕ) where
-  pub none-not : length v ≡ 0 → false ≡ (isIdentifier v && leb (length v) 30)
+module _ (v : List ℕ) (most : ℕ) where
+  pub none-not : length v ≡ 0 → false ≡ (isIdentifier v && leb (length v) most)
   unfolding isIdentifier
   none-not e = rw (eq-eqb (length v) 0 e)
 
   module _ (some : length v ≡ 0 → ⊥) where
-    pub long-not : 30 < length v → false ≡ (isIdentifier v && leb (length v) 30)
-    long-not h = rw (lt-leb (length v) 30 h) (sym (and-false (isIdentifier v)))
+    pub long-not : most < length v → false ≡ (isIdentifier v && leb (length v) most)
+    long-not h = rw (lt-leb (length v) most h) (sym (and-false (isIdentifier v)))
 
-    pub all-so : length v ≤ 30 → (r : Bool) → r ≡ allFrom 33 v → r ≡ (isIdentifier v && leb (length v) 30)
+    pub all-so : length v ≤ most → (r : Bool) → r ≡ allFrom 33 v → r ≡ (isIdentifier v && leb (length v) most)
     unfolding isIdentifier
-    all-so h r e = rw (ne-eqb (length v) 0 some, le-leb (length v) 30 h) (e ∙ sym (and-true (allFrom 33 v)))
+    all-so h r e = rw (ne-eqb (length v) 0 some, le-leb (length v) most h) (e ∙ sym (and-true (allFrom 33 v)))
 
--- ---- those that are shown
-module _ (shows : ℕ) (port group : List ℕ) where
+-- ---- those that are shown, where 109 has at most so many characters
+module _ (q : Instrument) (most : ℕ) (me : most ≡ longest q) (shows : ℕ) (port group : List ℕ) where
   abbrev Good : Bool
-  Good = areIdentifiers shows port group && leb (length (clientOf shows port group)) 30
+  Good = areIdentifiers shows port group && leb (length (clientOf shows port group)) (longest q)
 
-  pub client-port : shows ≡ 1 → (r : Bool) → r ≡ (isIdentifier port && leb (length port) 30) → r ≡ Good
+  pub client-port : shows ≡ 1 → (r : Bool) → r ≡ (isIdentifier port && leb (length port) most) → r ≡ Good
   unfolding areIdentifiers clientOf
-  client-port h r e = rw (eq-eqb shows 1 h) e
+  client-port h r e = rw (eq-eqb shows 1 h, ← me) e
 
   module _ (one : shows ≡ 1 → ⊥) where
-    pub client-group : shows ≡ 2 → (r : Bool) → r ≡ (isIdentifier group && leb (length group) 30) → r ≡ Good
+    pub client-group : shows ≡ 2 → (r : Bool) → r ≡ (isIdentifier group && leb (length group) most) → r ≡ Good
     unfolding areIdentifiers clientOf
-    client-group h r e = rw (ne-eqb shows 1 one, eq-eqb shows 2 h) e
+    client-group h r e = rw (ne-eqb shows 1 one, eq-eqb shows 2 h, ← me) e
 
     module _ (two : shows ≡ 2 → ⊥) where
       pub client-other : (shows ≡ 3 → ⊥) → false ≡ Good
       unfolding areIdentifiers
       client-other h = rw (ne-eqb shows 1 one, ne-eqb shows 2 two, ne-eqb shows 3 h)
 
-      pub client-both : clientOf shows port group ≡ port ++ (45 ∷ []) ++ group
-      unfolding clientOf
-      client-both = rw (ne-eqb shows 1 one, ne-eqb shows 2 two) (sym (append-snoc port 45 group))
+      client-both : clientOf shows port group ≡ port ++ (45 ∷ []) ++ group
+      client-both = both-shown shows port group one two
 
       long : length (clientOf shows port group) ≡ length port + length group + 1
       long = ap length client-both ∙ length-append (port ++ (45 ∷ [])) group ∙ omega (arith, length-append port (45 ∷ []))
 
       module _ (three : shows ≡ 3) where
-        good : Good ≡ (isIdentifier port && isIdentifier group && leb (length (clientOf shows port group)) 30)
+        good : Good ≡ (isIdentifier port && isIdentifier group && leb (length (clientOf shows port group)) most)
         unfolding areIdentifiers
-        good = rw (ne-eqb shows 1 one, ne-eqb shows 2 two, eq-eqb shows 3 three)
+        good = rw (ne-eqb shows 1 one, ne-eqb shows 2 two, eq-eqb shows 3 three, ← me)
 
-        not-shorter : (n : ℕ) → n ≤ length (clientOf shows port group) → leb n 30 ≡ false → leb (length (clientOf shows port group)) 30 ≡ false
-        not-shorter n h e = lt-leb (length (clientOf shows port group)) 30 (omega (arith, leb-false n 30 e))
+        not-shorter : (n : ℕ) → n ≤ length (clientOf shows port group) → leb n most ≡ false → leb (length (clientOf shows port group)) most ≡ false
+        not-shorter n h e = lt-leb (length (clientOf shows port group)) most (omega (arith, leb-false n most e))
 
-        module _ (a b : Bool) (ae : a ≡ (isIdentifier port && leb (length port) 30)) (be : b ≡ (isIdentifier group && leb (length group) 30)) where
+        module _ (a b : Bool) (ae : a ≡ (isIdentifier port && leb (length port) most)) (be : b ≡ (isIdentifier group && leb (length group) most)) where
           no-port : a ≡ false → Good ≡ false
           no-port n =
               good ∙ split (isIdentifier port)
               (λ y.
-              let z : leb (length port) 30 ≡ false = sym (rw y at ae) ∙ n in
+              let z : leb (length port) most ≡ false = sym (rw y at ae) ∙ n in
               rw (not-shorter (length port) (omega (arith, long)) z) (and-false (isIdentifier port && isIdentifier group)))
               (λ y. rw y)
 
@@ -81,31 +93,31 @@ module _ (shows : ℕ) (port group : List ℕ) where
           no-group n =
               good ∙ split (isIdentifier group)
               (λ y.
-              let z : leb (length group) 30 ≡ false = sym (rw y at be) ∙ n in
+              let z : leb (length group) most ≡ false = sym (rw y at be) ∙ n in
               rw (not-shorter (length group) (omega (arith, long)) z) (and-false (isIdentifier port && isIdentifier group)))
               (λ y. rw (y, and-false (isIdentifier port)))
 
           pub client-not : (a && b) ≡ false → false ≡ Good
           client-not e = split a (λ t. sym (no-group (let z : (true && b) ≡ false = rw t at e in z))) (λ t. sym (no-port t))
 
-          pub client-short : (a && b) ≡ true → ltb (length port + length group) 30 ≡ Good
+          pub client-short : (a && b) ≡ true → ltb (length port + length group) most ≡ Good
           client-short e =
-              let tp = both-l (isIdentifier port) (leb (length port) 30) (sym ae ∙ both-l a b e) in
-              let tg = both-l (isIdentifier group) (leb (length group) 30) (sym be ∙ both-r a b e) in
+              let tp = both-l (isIdentifier port) (leb (length port) most) (sym ae ∙ both-l a b e) in
+              let tg = both-l (isIdentifier group) (leb (length group) most) (sym be ∙ both-r a b e) in
               sym (good ∙ rw (tp, tg)
-              (split (ltb (length port + length group) 30)
-              (λ y. rw y (le-leb (length (clientOf shows port group)) 30 (omega (arith, ltb-true (length port + length group) 30 y, long))))
-              (λ y. rw y (lt-leb (length (clientOf shows port group)) 30 (omega (arith, ltb-false (length port + length group) 30 y, long))))))
+              (split (ltb (length port + length group) most)
+              (λ y. rw y (le-leb (length (clientOf shows port group)) most (omega (arith, ltb-true (length port + length group) most y, long))))
+              (λ y. rw y (lt-leb (length (clientOf shows port group)) most (omega (arith, ltb-false (length port + length group) most y, long))))))
 
 -- both tests were passed: the lengths can be added
-pub both-few : (port group : List ℕ) (a b : Bool) → a ≡ (isIdentifier port && leb (length port) 30) → b ≡ (isIdentifier group && leb (length group) 30) → (a && b) ≡ true
+pub both-few : (most : ℕ) → most ≤ 30 → (port group : List ℕ) (a b : Bool) → a ≡ (isIdentifier port && leb (length port) most) → b ≡ (isIdentifier group && leb (length group) most) → (a && b) ≡ true
     → Fits w64 (length port + length group)
-both-few port group a b ae be e =
+both-few most few port group a b ae be e =
     record {
       fits = omega (
         arith,
-        leb-true (length port) 30 (both-r (isIdentifier port) (leb (length port) 30) (sym ae ∙ both-l a b e)),
-        leb-true (length group) 30 (both-r (isIdentifier group) (leb (length group) 30) (sym be ∙ both-r a b e)),
+        leb-true (length port) most (both-r (isIdentifier port) (leb (length port) most) (sym ae ∙ both-l a b e)),
+        leb-true (length group) most (both-r (isIdentifier group) (leb (length group) most) (sym be ∙ both-r a b e)),
       );
     }
 
@@ -134,7 +146,7 @@ module _ (shows : ℕ) (port group : List ℕ) where
 
     module _ (two : shows ≡ 2 → ⊥) where
       room-all : {out : List ℕ} → Room out 0 (clientOf shows port group) → Room out 0 (port ++ (45 ∷ []) ++ group)
-      room-all r = rw (client-both shows port group one two) at r
+      room-all r = rw (both-shown shows port group one two) at r
 
       pub room-first-one : {out : List ℕ} → Room out 0 (clientOf shows port group) → Room out 0 port
       room-first-one r = room-first _ _ (room-first _ _ (room-all r))
@@ -147,7 +159,7 @@ module _ (shows : ℕ) (port group : List ℕ) where
 
       pub wrote-both : {out : List ℕ} {a b n : ℕ} {after after₂ after₃ : List ℕ} → Wrote out 0 port a after → Wrote after a (45 ∷ []) b after₂ → Wrote after₂ b group n after₃
           → Wrote out 0 (clientOf shows port group) n after₃
-      wrote-both w v u = rw (client-both shows port group one two) (then (then w v) u)
+      wrote-both w v u = rw (both-shown shows port group one two) (then (then w v) u)
 
 -- the text of 109 that they make
 all-both : (a b : List ℕ) → allFrom 33 a ≡ true → allFrom 33 b ≡ true → allFrom 33 (a ++ (45 ∷ b)) ≡ true
@@ -180,26 +192,26 @@ text-shown shows port group e =
     (λ d. let z : false ≡ true = rw (a, b, d) at e in absurd (false≢true z))))
 
 -- ---- the settings
-module _ (subscription shows : ℕ) (port group : List ℕ) where
-  pub setting-known : (eqb subscription 1 || eqb subscription 2) ≡ true → (r : Bool) → r ≡ (areIdentifiers shows port group && leb (length (clientOf shows port group)) 30)
-      → r ≡ isSetting subscription shows port group
+module _ (q : Instrument) (subscription shows : ℕ) (port group : List ℕ) where
+  pub setting-known : (eqb subscription 1 || eqb subscription 2) ≡ true → (r : Bool) → r ≡ (areIdentifiers shows port group && leb (length (clientOf shows port group)) (longest q))
+      → r ≡ isSetting q subscription shows port group
   unfolding isSetting
   setting-known h r e = rw h e
 
-  pub setting-unknown : (eqb subscription 1 || eqb subscription 2) ≡ false → false ≡ isSetting subscription shows port group
+  pub setting-unknown : (eqb subscription 1 || eqb subscription 2) ≡ false → false ≡ isSetting q subscription shows port group
   unfolding isSetting
   setting-unknown h = rw h
 
-  module _ (h : isSetting subscription shows port group ≡ true) where
-    shown : (areIdentifiers shows port group ≡ true) × (length (clientOf shows port group) ≤ 30)
+  module _ (h : isSetting q subscription shows port group ≡ true) where
+    shown : (areIdentifiers shows port group ≡ true) × (length (clientOf shows port group) ≤ longest q)
     unfolding isSetting
     shown =
         let a = eqb subscription 1 || eqb subscription 2 in
         let b = areIdentifiers shows port group in
-        let d = leb (length (clientOf shows port group)) 30 in
-        (both-r a b (both-l (a && b) d h), leb-true (length (clientOf shows port group)) 30 (both-r (a && b) d h))
+        let d = leb (length (clientOf shows port group)) (longest q) in
+        (both-r a b (both-l (a && b) d h), leb-true (length (clientOf shows port group)) (longest q) (both-r (a && b) d h))
 
-    pub setting-short : length (clientOf shows port group) ≤ 30
+    pub setting-short : length (clientOf shows port group) ≤ longest q
     setting-short = shown .1
 
     -- the text of 109 is an identifier itself

@@ -15,6 +15,8 @@ use Rattle.decimal.specs.Writing.{decimal}
 use Rattle.decimal.specs.Canonical.{bareOf, within}
 use Rattle.decimal.specs.declared.Said.the-variants.{Value as Says, Wrong as Says-not}
 use Rattle.decimal.proofs.RoundTrip.{bare-back}
+use Rattle.decimal.specs.declared.Instrument.{Instrument}
+use Rattle.decimal.specs.declared.Instrument.the-variants.{Bonds, Equities}
 use Rattle.report.specs.declared.Value.{Value}
 use Rattle.report.specs.declared.Value.the-variants.{Absent, Number, Char, Word, Sent, Stored, Level, Mean}
 use Rattle.report.specs.declared.Field.{Field}
@@ -31,7 +33,7 @@ use Rattle.report.specs.Slots.{unused, acceptedSlots, replacedSlots, canceledSl
 use Rattle.report.specs.Reports.{oneReason, agreed}
 use Rattle.report.proofs.Taken.{Proper}
 use Rattle.report.proofs.Back.{moved, Fit, Fits, widths, fits-short}
-use Rattle.feed.specs.Rows.{with797, shownRow, copyValue, copyField, yes797, copyRow, slot109, copySlot, slot797, copySlots}
+use Rattle.feed.specs.Rows.{with797, shownRow, copyValue, copyField, yes797, copyRow, longest, slot109, copySlot, slot797, copySlots}
 use Rattle.feed.specs.Settings.{isIdentifier, copiedBy}
 use Rattle.feed.specs.Kept.{atTag, isKept}
 use Rattle.feed.proofs.Shaped.{is-never}
@@ -49,8 +51,8 @@ numbers shape.OrderId = false
 numbers (shape.Text most low) = false
 numbers shape.Digits = false
 numbers shape.Time = false
-numbers shape.Yield = false
-numbers shape.Average = false
+numbers (shape.Level q) = false
+numbers (shape.Average q) = false
 
 abbrev pub rangedOne : Slot → Bool
 rangedOne slot = not (eqb (slot .tag) 34 || eqb (slot .tag) 17) || numbers (slot .shape)
@@ -60,27 +62,27 @@ ranged [] = true
 ranged (slot ∷ slots) = rangedOne slot && ranged slots
 
 -- the slots of a copy, with the text of 109 put in last
-unfoldable pub textSlot : Slot → Slot
-textSlot slot = cond (eqb (slot .tag) 109) slot109 slot
+unfoldable pub textSlot : Instrument → Slot → Slot
+textSlot q slot = cond (eqb (slot .tag) 109) (slot109 q) slot
 
-kept-slot : (slot : Slot) → eqb (slot .tag) 109 ≡ false → textSlot slot ≡ slot
+kept-slot : (q : Instrument) (slot : Slot) → eqb (slot .tag) 109 ≡ false → textSlot q slot ≡ slot
 unfolding textSlot
-kept-slot slot a = rw a
+kept-slot q slot a = rw a
 
 -- ---- a copy, of a report s with the text client for 109
-module _ (s client : List ℕ) (n : ℕ) where
+module _ (q : Instrument) (s client : List ℕ) (n : ℕ) where
   -- the feed's number, the text and Y are taken
   pub record Given : Type 0 where
     pub low : 1 ≤ n
     pub high : n ≤ 999999999
     pub text : isIdentifier client ≡ true
-    pub short : length client ≤ 30
+    pub short : length client ≤ longest q
 
   module _ (g : Given) where
     number-fits : (slot : Slot) → numbers (slot .shape) ≡ true → Fit s client slot (field (slot .tag) (Number n))
     number-fits slot e =
-        let q = by (slot .shape) e in
-        record { tag-is = refl; here = refl; proper = q .0; picked = q .1 }
+        let r = by (slot .shape) e in
+        record { tag-is = refl; here = refl; proper = r .0; picked = r .1 }
       where
         by : (f : Shape) → numbers f ≡ true → Proper f × ((place : ℕ) → valueIn f place (decimal n) ≡ Is (Number n))
         by shape.Nothing e = absurd (false≢true e)
@@ -97,19 +99,19 @@ module _ (s client : List ℕ) (n : ℕ) where
         by (shape.Text most low) e = absurd (false≢true e)
         by shape.Digits e = absurd (false≢true e)
         by shape.Time e = absurd (false≢true e)
-        by shape.Yield e = absurd (false≢true e)
-        by shape.Average e = absurd (false≢true e)
+        by (shape.Level o) e = absurd (false≢true e)
+        by (shape.Average o) e = absurd (false≢true e)
 
     client-is : partAt client 0 (length client) ≡ client
     unfolding partAt
     client-is = take-length client
 
     picked : (place : ℕ) → eqb (length client) 0 ≡ false → allFrom 33 client ≡ true
-        → textIn 30 33 place (partAt client 0 (length client)) ≡ Is (Sent place (length (partAt client 0 (length client))))
+        → textIn (longest q) 33 place (partAt client 0 (length client)) ≡ Is (Sent place (length (partAt client 0 (length client))))
     unfolding textIn
-    picked place a b = rw (client-is, a, le-ltb 30 (length client) (g .short), b)
+    picked place a b = rw (client-is, a, le-ltb (longest q) (length client) (g .short), b)
 
-    text-fits : (slot : Slot) → eqb (slot .tag) 109 ≡ true → Fit s client (textSlot slot) (field (slot .tag) (Stored 0 (length client)))
+    text-fits : (slot : Slot) → eqb (slot .tag) 109 ≡ true → Fit s client (textSlot q slot) (field (slot .tag) (Stored 0 (length client)))
     unfolding textSlot isIdentifier
     text-fits slot e =
         let a = not-true (eqb (length client) 0) (both-l (not (eqb (length client) 0)) (allFrom 33 client) (g .text)) in
@@ -139,7 +141,7 @@ module _ (s client : List ℕ) (n : ℕ) where
 
     change-as : (slot : Slot) (v : Value) (slots : List Slot) (fs : List Field) → rangedOne slot ≡ true → Filled s client slots fs
         → (eqb (slot .tag) 109 ≡ false → Filled s client (slot ∷ slots) (field (slot .tag) v ∷ fs))
-        → Filled s client (textSlot slot ∷ slots) (field (slot .tag) (copyValue n (length client) (slot .tag) v) ∷ fs)
+        → Filled s client (textSlot q slot ∷ slots) (field (slot .tag) (copyValue n (length client) (slot .tag) v) ∷ fs)
     unfolding copyValue
     change-as slot v slots fs r p whole =
         split (eqb (slot .tag) 109)
@@ -149,7 +151,7 @@ module _ (s client : List ℕ) (n : ℕ) where
         let y : eqb (slot .tag) 17 ≡ false = ap (λ (t : ℕ). eqb t 17) z in
         rw (x, y, a) (filled-some (text-fits slot a) p))
         (λ a.
-        let k = kept-slot slot a in
+        let k = kept-slot q slot a in
         split (eqb (slot .tag) 34)
         (λ x. rw (x, k) (filled-some (number-fits slot (rw x at r)) p))
         (λ x. split (eqb (slot .tag) 17)
@@ -157,9 +159,9 @@ module _ (s client : List ℕ) (n : ℕ) where
         (λ y. rw (x, y, a, k) (whole a))))
 
     change-one : (slot : Slot) (f : Field) (slots : List Slot) (fs : List Field) → f .tag ≡ slot .tag → rangedOne slot ≡ true → Filled s client slots fs
-        → Filled s client (slot ∷ slots) (f ∷ fs) → Filled s client (textSlot slot ∷ slots) (copyField n (length client) f ∷ fs)
+        → Filled s client (slot ∷ slots) (f ∷ fs) → Filled s client (textSlot q slot ∷ slots) (copyField n (length client) f ∷ fs)
     change-one slot f slots fs t r p whole =
-        subst (λ (h : Field). Filled s client (textSlot slot ∷ slots) (h ∷ fs)) (sym (copied-is f (slot .tag) t))
+        subst (λ (h : Field). Filled s client (textSlot q slot ∷ slots) (h ∷ fs)) (sym (copied-is f (slot .tag) t))
         (change-as slot (f .value) slots fs r p (λ a. subst (λ (h : Field). Filled s client (slot ∷ slots) (h ∷ fs)) (same f (slot .tag) t) whole))
       where
         same : (f : Field) (tag : ℕ) → f .tag ≡ tag → f ≡ field tag (f .value)
@@ -167,8 +169,8 @@ module _ (s client : List ℕ) (n : ℕ) where
 
     -- one entry more: the same test for the slot and for its field
     fill-one : (slot : Slot) (f : Field) (ss : List Slot) (gs : List Field) → f .tag ≡ slot .tag → Filled s client (slot ∷ ss) (f ∷ gs)
-        → (ltb 797 (slot .tag) ≡ false → Filled s client (textSlot slot ∷ with797 (λ q. q .tag) textSlot slot797 ss) (copyField n (length client) f ∷ with797 (λ h. h .tag) (copyField n (length client)) yes797 gs))
-        → Filled s client (with797 (λ q. q .tag) textSlot slot797 (slot ∷ ss)) (with797 (λ h. h .tag) (copyField n (length client)) yes797 (f ∷ gs))
+        → (ltb 797 (slot .tag) ≡ false → Filled s client (textSlot q slot ∷ with797 (λ x. x .tag) (textSlot q) slot797 ss) (copyField n (length client) f ∷ with797 (λ h. h .tag) (copyField n (length client)) yes797 gs))
+        → Filled s client (with797 (λ x. x .tag) (textSlot q) slot797 (slot ∷ ss)) (with797 (λ h. h .tag) (copyField n (length client)) yes797 (f ∷ gs))
     unfolding with797
     fill-one slot f ss gs tag whole rest =
         split (ltb 797 (slot .tag))
@@ -176,76 +178,108 @@ module _ (s client : List ℕ) (n : ℕ) where
         (λ t. let u : ltb 797 (f .tag) ≡ false = ap (ltb 797) tag ∙ t in rw (t, u) (rest t))
 
     pub copy-fills : (slots : List Slot) (fs : List Field) → Filled s client slots fs → ranged slots ≡ true
-        → Filled s client (with797 (λ q. q .tag) textSlot slot797 slots) (with797 (λ f. f .tag) (copyField n (length client)) yes797 fs)
+        → Filled s client (with797 (λ x. x .tag) (textSlot q) slot797 slots) (with797 (λ f. f .tag) (copyField n (length client)) yes797 fs)
     unfolding with797
     copy-fills slots fs filled-none r = filled-some yes-fits filled-none
-    copy-fills slots fs (filled-some {slot} {f} {slots = ss} {fs = gs} p q) r =
-        let rest = copy-fills ss gs q (both-r (rangedOne slot) (ranged ss) r) in
-        fill-one slot f ss gs (p .tag-is) (filled-some p q) (λ t. change-one slot f _ _ (p .tag-is) (both-l (rangedOne slot) (ranged ss) r) rest (filled-some p rest))
-    copy-fills slots fs (filled-skip {slot} {f} {slots = ss} {fs = gs} e o q) r =
+    copy-fills slots fs (filled-some {slot} {f} {slots = ss} {fs = gs} p x) r =
+        let rest = copy-fills ss gs x (both-r (rangedOne slot) (ranged ss) r) in
+        fill-one slot f ss gs (p .tag-is) (filled-some p x) (λ t. change-one slot f _ _ (p .tag-is) (both-l (rangedOne slot) (ranged ss) r) rest (filled-some p rest))
+    copy-fills slots fs (filled-skip {slot} {f} {slots = ss} {fs = gs} e o x) r =
         let tag : f .tag ≡ slot .tag = ap (λ (h : Field). h .tag) e in
-        let rest = copy-fills ss gs q (both-r (rangedOne slot) (ranged ss) r) in
-        fill-one slot f ss gs tag (filled-skip e o q) (λ t. change-one slot f _ _ tag (both-l (rangedOne slot) (ranged ss) r) rest (filled-skip e o rest))
+        let rest = copy-fills ss gs x (both-r (rangedOne slot) (ranged ss) r) in
+        fill-one slot f ss gs tag (filled-skip e o x) (λ t. change-one slot f _ _ tag (both-l (rangedOne slot) (ranged ss) r) rest (filled-skip e o rest))
 
 -- ---- the tables, kind by kind
-pub kinds-ranged : (k : Kind) → ranged (take 35 (shownSlots k)) ≡ true
+pub kinds-ranged : (q : Instrument) (k : Kind) → ranged (take 35 (shownSlots q k)) ≡ true
 unfolding shownSlot acceptedSlots replacedSlots canceledSlots tradeSlots rejectedSlots cancelRejectSlots sessionRejectSlots
-kinds-ranged Accepted = refl
-kinds-ranged Replaced = refl
-kinds-ranged Canceled = refl
-kinds-ranged Trade = refl
-kinds-ranged Rejected = refl
-kinds-ranged CancelReject = refl
-kinds-ranged SessionReject = refl
-kinds-ranged Refused = refl
+kinds-ranged Bonds Accepted = refl
+kinds-ranged Bonds Replaced = refl
+kinds-ranged Bonds Canceled = refl
+kinds-ranged Bonds Trade = refl
+kinds-ranged Bonds Rejected = refl
+kinds-ranged Bonds CancelReject = refl
+kinds-ranged Bonds SessionReject = refl
+kinds-ranged Bonds Refused = refl
+kinds-ranged Equities Accepted = refl
+kinds-ranged Equities Replaced = refl
+kinds-ranged Equities Canceled = refl
+kinds-ranged Equities Trade = refl
+kinds-ranged Equities Rejected = refl
+kinds-ranged Equities CancelReject = refl
+kinds-ranged Equities SessionReject = refl
+kinds-ranged Equities Refused = refl
 
-kinds-two : (k : Kind) → with797 (λ q. q .tag) textSlot slot797 (take 35 (shownSlots k)) ≡ copySlots (slotsOf k)
+kinds-two : (q : Instrument) (k : Kind) → with797 (λ x. x .tag) (textSlot q) slot797 (take 35 (shownSlots q k)) ≡ copySlots q (slotsOf q k)
 unfolding copySlots with797 copySlot textSlot shownSlot acceptedSlots replacedSlots canceledSlots tradeSlots rejectedSlots cancelRejectSlots sessionRejectSlots
-kinds-two Accepted = refl
-kinds-two Replaced = refl
-kinds-two Canceled = refl
-kinds-two Trade = refl
-kinds-two Rejected = refl
-kinds-two CancelReject = refl
-kinds-two SessionReject = refl
-kinds-two Refused = refl
+kinds-two Bonds Accepted = refl
+kinds-two Bonds Replaced = refl
+kinds-two Bonds Canceled = refl
+kinds-two Bonds Trade = refl
+kinds-two Bonds Rejected = refl
+kinds-two Bonds CancelReject = refl
+kinds-two Bonds SessionReject = refl
+kinds-two Bonds Refused = refl
+kinds-two Equities Accepted = refl
+kinds-two Equities Replaced = refl
+kinds-two Equities Canceled = refl
+kinds-two Equities Trade = refl
+kinds-two Equities Rejected = refl
+kinds-two Equities CancelReject = refl
+kinds-two Equities SessionReject = refl
+kinds-two Equities Refused = refl
 
-pub kinds-distinct : (k : Kind) → distinct (copySlots (slotsOf k)) ≡ true
+pub kinds-distinct : (q : Instrument) (k : Kind) → distinct (copySlots q (slotsOf q k)) ≡ true
 unfolding copySlots with797 copySlot acceptedSlots replacedSlots canceledSlots tradeSlots rejectedSlots cancelRejectSlots sessionRejectSlots label decimal
-kinds-distinct Accepted = refl
-kinds-distinct Replaced = refl
-kinds-distinct Canceled = refl
-kinds-distinct Trade = refl
-kinds-distinct Rejected = refl
-kinds-distinct CancelReject = refl
-kinds-distinct SessionReject = refl
-kinds-distinct Refused = refl
+kinds-distinct Bonds Accepted = refl
+kinds-distinct Bonds Replaced = refl
+kinds-distinct Bonds Canceled = refl
+kinds-distinct Bonds Trade = refl
+kinds-distinct Bonds Rejected = refl
+kinds-distinct Bonds CancelReject = refl
+kinds-distinct Bonds SessionReject = refl
+kinds-distinct Bonds Refused = refl
+kinds-distinct Equities Accepted = refl
+kinds-distinct Equities Replaced = refl
+kinds-distinct Equities Canceled = refl
+kinds-distinct Equities Trade = refl
+kinds-distinct Equities Rejected = refl
+kinds-distinct Equities CancelReject = refl
+kinds-distinct Equities SessionReject = refl
+kinds-distinct Equities Refused = refl
 
 -- no copy's fields take more than this
-copy-widths : (k : Kind) → widths (copySlots (slotsOf k)) ≤ 489
+copy-widths : (q : Instrument) (k : Kind) → widths (copySlots q (slotsOf q k)) ≤ 489
 unfolding copySlots with797 copySlot acceptedSlots replacedSlots canceledSlots tradeSlots rejectedSlots cancelRejectSlots sessionRejectSlots label decimal
-copy-widths Accepted = lit≤ tt
-copy-widths Replaced = lit≤ tt
-copy-widths Canceled = lit≤ tt
-copy-widths Trade = lit≤ tt
-copy-widths Rejected = lit≤ tt
-copy-widths CancelReject = lit≤ tt
-copy-widths SessionReject = lit≤ tt
-copy-widths Refused = lit≤ tt
+copy-widths Bonds Accepted = lit≤ tt
+copy-widths Bonds Replaced = lit≤ tt
+copy-widths Bonds Canceled = lit≤ tt
+copy-widths Bonds Trade = lit≤ tt
+copy-widths Bonds Rejected = lit≤ tt
+copy-widths Bonds CancelReject = lit≤ tt
+copy-widths Bonds SessionReject = lit≤ tt
+copy-widths Bonds Refused = lit≤ tt
+copy-widths Equities Accepted = lit≤ tt
+copy-widths Equities Replaced = lit≤ tt
+copy-widths Equities Canceled = lit≤ tt
+copy-widths Equities Trade = lit≤ tt
+copy-widths Equities Rejected = lit≤ tt
+copy-widths Equities CancelReject = lit≤ tt
+copy-widths Equities SessionReject = lit≤ tt
+copy-widths Equities Refused = lit≤ tt
 
 -- ---- the row of a copy of each kind
-module _ (s client : List ℕ) (n : ℕ) (g : Given s client n) (k : Kind) (fs : List Field) (p : Filled s client (slotsOf k) fs) where
-  pub row-fills : Filled s client (copySlots (slotsOf k)) (copyRow n (length client) fs)
+module _ (q : Instrument) (s client : List ℕ) (n : ℕ) (g : Given q s client n) (k : Kind) (fs : List Field) (p : Filled s client (slotsOf q k) fs) where
+  pub row-fills : Filled s client (copySlots q (slotsOf q k)) (copyRow n (length client) fs)
   unfolding copyRow
   row-fills =
-      subst (λ (slots : List Slot). Filled s client slots (copyRow n (length client) fs)) (kinds-two k)
-      (copy-fills s client n g (take 35 (shownSlots k)) (take 35 (shownRow fs)) (filled-front s client 35 (shownSlots k) (shownRow fs) (shown-fills s client k fs p)) (kinds-ranged k))
+      subst (λ (slots : List Slot). Filled s client slots (copyRow n (length client) fs)) (kinds-two q k)
+      (copy-fills q s client n g (take 35 (shownSlots q k)) (take 35 (shownRow fs)) (filled-front s client 35 (shownSlots q k) (shownRow fs) (shown-fills s client q k fs p)) (kinds-ranged q k))
 
-  pub row-fits : (sum : ℕ) → Fits s client (trailer sum) (copySlots (slotsOf k)) (copyRow n (length client) fs)
-  row-fits sum = filled-fits s client sum (copySlots (slotsOf k)) (copyRow n (length client) fs) row-fills (kinds-distinct k)
+  pub row-fits : (sum : ℕ) → Fits s client (trailer sum) (copySlots q (slotsOf q k)) (copyRow n (length client) fs)
+  row-fits sum = filled-fits s client sum (copySlots q (slotsOf q k)) (copyRow n (length client) fs) row-fills (kinds-distinct q k)
 
   pub row-short : length (rowBytes s client (copyRow n (length client) fs)) ≤ 489
-  row-short = le-trans (fits-short s client (trailer 0) (copySlots (slotsOf k)) (copyRow n (length client) fs) (row-fits 0)) (copy-widths k)
+  row-short = le-trans (fits-short s client (trailer 0) (copySlots q (slotsOf q k)) (copyRow n (length client) fs) (row-fits 0)) (copy-widths q k)
 
 -- ---- what is kept
 module _ {B : Type 0} (h : Value → B) (none : B) (g : ℕ) (kept : isKept false g ≡ true) (n w : ℕ) where
@@ -322,39 +356,55 @@ module _ {B : Type 0} (h : Value → B) (none : B) (n w : ℕ) where
       rw (t, u) (woven-797 slots fs (p .1) (both-r (not (eqb (slot .tag) 797)) (hasNot797 slots) z))))
 
 -- ---- more of the tables: of every kind, and of those that are copied
-pub report-distinct : (k : Kind) → distinct (slotsOf k) ≡ true
+pub report-distinct : (q : Instrument) (k : Kind) → distinct (slotsOf q k) ≡ true
 unfolding acceptedSlots replacedSlots canceledSlots tradeSlots rejectedSlots cancelRejectSlots sessionRejectSlots label decimal
-report-distinct Accepted = refl
-report-distinct Replaced = refl
-report-distinct Canceled = refl
-report-distinct Trade = refl
-report-distinct Rejected = refl
-report-distinct CancelReject = refl
-report-distinct SessionReject = refl
-report-distinct Refused = refl
+report-distinct Bonds Accepted = refl
+report-distinct Bonds Replaced = refl
+report-distinct Bonds Canceled = refl
+report-distinct Bonds Trade = refl
+report-distinct Bonds Rejected = refl
+report-distinct Bonds CancelReject = refl
+report-distinct Bonds SessionReject = refl
+report-distinct Bonds Refused = refl
+report-distinct Equities Accepted = refl
+report-distinct Equities Replaced = refl
+report-distinct Equities Canceled = refl
+report-distinct Equities Trade = refl
+report-distinct Equities Rejected = refl
+report-distinct Equities CancelReject = refl
+report-distinct Equities SessionReject = refl
+report-distinct Equities Refused = refl
 
-pub last-unused : (k : Kind) → drop 35 (shownSlots k) ≡ unused ∷ []
+pub last-unused : (q : Instrument) (k : Kind) → drop 35 (shownSlots q k) ≡ unused ∷ []
 unfolding shownSlot acceptedSlots replacedSlots canceledSlots tradeSlots rejectedSlots cancelRejectSlots sessionRejectSlots
-last-unused Accepted = refl
-last-unused Replaced = refl
-last-unused Canceled = refl
-last-unused Trade = refl
-last-unused Rejected = refl
-last-unused CancelReject = refl
-last-unused SessionReject = refl
-last-unused Refused = refl
+last-unused Bonds Accepted = refl
+last-unused Bonds Replaced = refl
+last-unused Bonds Canceled = refl
+last-unused Bonds Trade = refl
+last-unused Bonds Rejected = refl
+last-unused Bonds CancelReject = refl
+last-unused Bonds SessionReject = refl
+last-unused Bonds Refused = refl
+last-unused Equities Accepted = refl
+last-unused Equities Replaced = refl
+last-unused Equities Canceled = refl
+last-unused Equities Trade = refl
+last-unused Equities Rejected = refl
+last-unused Equities CancelReject = refl
+last-unused Equities SessionReject = refl
+last-unused Equities Refused = refl
 
 -- 35 stands first and 150 is told; 34, 17, 59, 109 and 110 stand in front of 797's place, and 797 is not among them
 abbrev pub begins : List Slot → Bool
 begins [] = false
 begins (slot ∷ slots) = not (slot .optional)
 
-pub record Copyable (slots : List Slot) : Type 0 where
+pub record Copyable (q : Instrument) (slots : List Slot) : Type 0 where
   pub type-told : tells 35 slots ≡ true
   pub status-told : tells 150 slots ≡ true
-  pub copy-type : tells 35 (copySlots slots) ≡ true
-  pub copy-status : tells 150 (copySlots slots) ≡ true
-  pub first : begins (copySlots slots) ≡ true
+  pub copy-type : tells 35 (copySlots q slots) ≡ true
+  pub copy-status : tells 150 (copySlots q slots) ≡ true
+  pub first : begins (copySlots q slots) ≡ true
   pub has-34 : has 34 (take 35 (map shownSlot slots)) ≡ true
   pub has-17 : has 17 (take 35 (map shownSlot slots)) ≡ true
   pub has-109 : has 109 (take 35 (map shownSlot slots)) ≡ true
@@ -362,16 +412,20 @@ pub record Copyable (slots : List Slot) : Type 0 where
   pub has-59 : has 59 slots ≡ true
   pub has-110 : has 110 slots ≡ true
 
-pub kinds-copyable : (k : Kind) → copiedBy 2 k ≡ true → Copyable (slotsOf k)
+pub kinds-copyable : (q : Instrument) (k : Kind) → copiedBy 2 k ≡ true → Copyable q (slotsOf q k)
 unfolding copySlots with797 copySlot shownSlot acceptedSlots replacedSlots canceledSlots tradeSlots label decimal
-kinds-copyable Accepted e = record { type-told = refl; status-told = refl; copy-type = refl; copy-status = refl; first = refl; has-34 = refl; has-17 = refl; has-109 = refl; not-797 = refl; has-59 = refl; has-110 = refl }
-kinds-copyable Replaced e = record { type-told = refl; status-told = refl; copy-type = refl; copy-status = refl; first = refl; has-34 = refl; has-17 = refl; has-109 = refl; not-797 = refl; has-59 = refl; has-110 = refl }
-kinds-copyable Canceled e = record { type-told = refl; status-told = refl; copy-type = refl; copy-status = refl; first = refl; has-34 = refl; has-17 = refl; has-109 = refl; not-797 = refl; has-59 = refl; has-110 = refl }
-kinds-copyable Trade e = record { type-told = refl; status-told = refl; copy-type = refl; copy-status = refl; first = refl; has-34 = refl; has-17 = refl; has-109 = refl; not-797 = refl; has-59 = refl; has-110 = refl }
-kinds-copyable Rejected e = absurd (false≢true e)
-kinds-copyable CancelReject e = absurd (false≢true e)
-kinds-copyable SessionReject e = absurd (false≢true e)
-kinds-copyable Refused e = absurd (false≢true e)
+kinds-copyable Bonds Accepted e = record { type-told = refl; status-told = refl; copy-type = refl; copy-status = refl; first = refl; has-34 = refl; has-17 = refl; has-109 = refl; not-797 = refl; has-59 = refl; has-110 = refl }
+kinds-copyable Bonds Replaced e = record { type-told = refl; status-told = refl; copy-type = refl; copy-status = refl; first = refl; has-34 = refl; has-17 = refl; has-109 = refl; not-797 = refl; has-59 = refl; has-110 = refl }
+kinds-copyable Bonds Canceled e = record { type-told = refl; status-told = refl; copy-type = refl; copy-status = refl; first = refl; has-34 = refl; has-17 = refl; has-109 = refl; not-797 = refl; has-59 = refl; has-110 = refl }
+kinds-copyable Bonds Trade e = record { type-told = refl; status-told = refl; copy-type = refl; copy-status = refl; first = refl; has-34 = refl; has-17 = refl; has-109 = refl; not-797 = refl; has-59 = refl; has-110 = refl }
+kinds-copyable Equities Accepted e = record { type-told = refl; status-told = refl; copy-type = refl; copy-status = refl; first = refl; has-34 = refl; has-17 = refl; has-109 = refl; not-797 = refl; has-59 = refl; has-110 = refl }
+kinds-copyable Equities Replaced e = record { type-told = refl; status-told = refl; copy-type = refl; copy-status = refl; first = refl; has-34 = refl; has-17 = refl; has-109 = refl; not-797 = refl; has-59 = refl; has-110 = refl }
+kinds-copyable Equities Canceled e = record { type-told = refl; status-told = refl; copy-type = refl; copy-status = refl; first = refl; has-34 = refl; has-17 = refl; has-109 = refl; not-797 = refl; has-59 = refl; has-110 = refl }
+kinds-copyable Equities Trade e = record { type-told = refl; status-told = refl; copy-type = refl; copy-status = refl; first = refl; has-34 = refl; has-17 = refl; has-109 = refl; not-797 = refl; has-59 = refl; has-110 = refl }
+kinds-copyable q Rejected e = absurd (false≢true e)
+kinds-copyable q CancelReject e = absurd (false≢true e)
+kinds-copyable q SessionReject e = absurd (false≢true e)
+kinds-copyable q Refused e = absurd (false≢true e)
 
 -- ---- a Canceled has one of 41 and 378 in its copy if it has one
 abbrev lows : ℕ → List Slot → Bool
@@ -406,26 +460,26 @@ module _ (s stored : List ℕ) (n w : ℕ) where
       ∙ c
 
   -- a field of a Canceled that is neither 59 nor 110, nor the feed's own
-  canceled-at : (i tag : ℕ) (fs : List Field) → Filled s stored canceledSlots fs → i < 35 → lows (suc i) (take 35 (shownSlots Canceled)) ≡ true
-      → getD canceledSlots i unused .tag ≡ tag → getD (shownSlots Canceled) i unused .tag ≡ tag → eqb tag 59 ≡ false → eqb tag 110 ≡ false
+  canceled-at : (q : Instrument) (i tag : ℕ) (fs : List Field) → Filled s stored (canceledSlots q) fs → i < 35 → lows (suc i) (take 35 (shownSlots q Canceled)) ≡ true
+      → getD (canceledSlots q) i unused .tag ≡ tag → getD (shownSlots q Canceled) i unused .tag ≡ tag → eqb tag 59 ≡ false → eqb tag 110 ≡ false
       → ((v : Value) → copyValue n w tag v ≡ v)
       → isAbsent (getD (copyRow n w fs) i (field 0 Absent) .value) ≡ isAbsent (getD fs i (field 0 Absent) .value)
   unfolding copyRow
-  canceled-at i tag fs p h e t u a b c =
-      there-at i tag (shownSlots Canceled) (shownRow fs) (shown-fills s stored Canceled fs p) h e u (ap isAbsent (c (getD (shownRow fs) i (field 0 Absent) .value)))
-      ∙ ap isAbsent (shown-at i tag canceledSlots fs (filled-tagged s stored canceledSlots fs p) t a b)
+  canceled-at q i tag fs p h e t u a b c =
+      there-at i tag (shownSlots q Canceled) (shownRow fs) (shown-fills s stored q Canceled fs p) h e u (ap isAbsent (c (getD (shownRow fs) i (field 0 Absent) .value)))
+      ∙ ap isAbsent (shown-at i tag (canceledSlots q) fs (filled-tagged s stored (canceledSlots q) fs p) t a b)
 
-  pub agreed-kept : (k : Kind) (fs : List Field) → Filled s stored (slotsOf k) fs → agreed k (copyRow n w fs) ≡ agreed k fs
+  pub agreed-kept : (q : Instrument) (k : Kind) (fs : List Field) → Filled s stored (slotsOf q k) fs → agreed k (copyRow n w fs) ≡ agreed k fs
   unfolding oneReason canceledSlots shownSlot copyValue
-  agreed-kept Accepted fs p = refl
-  agreed-kept Replaced fs p = refl
-  agreed-kept Canceled fs p =
+  agreed-kept q Accepted fs p = refl
+  agreed-kept q Replaced fs p = refl
+  agreed-kept q Canceled fs p =
       rw (
-        canceled-at 16 41 fs p (omega arith) refl refl refl refl refl (λ v. refl),
-        canceled-at 27 378 fs p (omega arith) refl refl refl refl refl (λ v. refl),
+        canceled-at q 16 41 fs p (omega arith) refl refl refl refl refl (λ v. refl),
+        canceled-at q 27 378 fs p (omega arith) refl refl refl refl refl (λ v. refl),
       )
-  agreed-kept Trade fs p = refl
-  agreed-kept Rejected fs p = refl
-  agreed-kept CancelReject fs p = refl
-  agreed-kept SessionReject fs p = refl
-  agreed-kept Refused fs p = refl
+  agreed-kept q Trade fs p = refl
+  agreed-kept q Rejected fs p = refl
+  agreed-kept q CancelReject fs p = refl
+  agreed-kept q SessionReject fs p = refl
+  agreed-kept q Refused fs p = refl

@@ -97,8 +97,8 @@ isStored (Char c) = false
 isStored (Word w x y z) = false
 isStored (Sent from len) = false
 isStored (Stored from len) = true
-isStored (Level level) = false
-isStored (Mean mean) = false
+isStored (Level q level) = false
+isStored (Mean q mean) = false
 
 moved-sent : (s stored : List ℕ) (place : ℕ) (v : Value) → isStored (moved s stored place v) ≡ false
 moved-sent s stored place Absent = refl
@@ -107,8 +107,8 @@ moved-sent s stored place (Char c) = refl
 moved-sent s stored place (Word w x y z) = refl
 moved-sent s stored place (Sent from len) = refl
 moved-sent s stored place (Stored from len) = refl
-moved-sent s stored place (Level level) = refl
-moved-sent s stored place (Mean mean) = refl
+moved-sent s stored place (Level q level) = refl
+moved-sent s stored place (Mean q mean) = refl
 
 same-bytes : (s stored other : List ℕ) (v : Value) → isStored v ≡ false → valueBytes s stored v ≡ valueBytes s other v
 same-bytes s stored other Absent e = refl
@@ -117,8 +117,8 @@ same-bytes s stored other (Char c) e = refl
 same-bytes s stored other (Word w x y z) e = refl
 same-bytes s stored other (Sent from len) e = refl
 same-bytes s stored other (Stored from len) e = absurd (false≢true (sym e))
-same-bytes s stored other (Level level) e = refl
-same-bytes s stored other (Mean mean) e = refl
+same-bytes s stored other (Level q level) e = refl
+same-bytes s stored other (Mean q mean) e = refl
 
 module _ (s : List ℕ) where
   part-long : (p l : ℕ) → length (take l (drop p s)) ≡ l → length (partAt s p (length (take l (drop p s)))) ≡ length (take l (drop p s))
@@ -174,8 +174,8 @@ isUnused shape.OrderId = false
 isUnused (shape.Text most low) = false
 isUnused shape.Digits = false
 isUnused shape.Time = false
-isUnused shape.Yield = false
-isUnused shape.Average = false
+isUnused (shape.Level q) = false
+isUnused (shape.Average q) = false
 
 -- no field of these slots, nor 10, begins with the tag
 abbrev pub apart : ℕ → List Slot → Bool
@@ -206,8 +206,8 @@ module _ (sent stored : List ℕ) where
       by (shape.Text most low) e = refl
       by shape.Digits e = refl
       by shape.Time e = refl
-      by shape.Yield e = refl
-      by shape.Average e = refl
+      by (shape.Level q) e = refl
+      by (shape.Average q) e = refl
 
   apart-starts : (sum g : ℕ) (slots : List Slot) (fs : List Field) → Filled sent stored slots fs → apart g slots ≡ true → starts (label g) (rowBytes sent stored fs ++ trailer sum) ≡ false
   unfolding trailer

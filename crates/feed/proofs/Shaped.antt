@@ -7,17 +7,19 @@ use native.Mathlib.Omega.{arith}
 use lib.Dec.{ltb, eqb}
 use lib.ListN.{length, getD}
 use Rattle.octets.specs.Octets.{partAt, sameBytes}
+use Rattle.decimal.specs.declared.Instrument.{Instrument}
 use Rattle.decimal.specs.declared.Said.{Said}
 use Rattle.decimal.specs.declared.Said.the-variants.{Value as Says, Wrong as Says-not}
 use Rattle.decimal.specs.Reading.{numOf, isTime}
-use Rattle.decimal.specs.Canonical.{bareOf, within, fixedOf}
+use Rattle.decimal.specs.Canonical.{bareOf, within, levelIn, meanIn}
 use Rattle.report.specs.declared.Value.{Value}
 use Rattle.report.specs.declared.Value.the-variants.{Absent, Number, Char, Word, Sent, Stored, Level, Mean}
 use Rattle.report.specs.declared.Shape.{Shape}
 use Rattle.report.specs.declared.Shape.the-variants as shape
 use Rattle.report.specs.declared.Pick.{Pick}
 use Rattle.report.specs.declared.Pick.the-variants.{Is, No}
-use Rattle.report.specs.Shapes.{oneIn, numberIn, listedIn, wordIn, orderIdIn, allFrom, textIn, placeIn, timeIn, yieldIn, averageIn, valueIn}
+use Rattle.report.specs.Fields.{wordBytes}
+use Rattle.report.specs.Shapes.{oneIn, numberIn, listedIn, wordIn, orderIdIn, allFrom, textIn, placeIn, timeIn, quoteIn, averageIn, valueIn}
 use Rattle.report.proofs.Back.{moved}
 
 pub is-never : (x : Value) → No ≡ Is x → ⊥
@@ -34,8 +36,8 @@ plain (Char c) = true
 plain (Word w x y z) = true
 plain (Sent from len) = false
 plain (Stored from len) = false
-plain (Level level) = true
-plain (Mean mean) = true
+plain (Level q level) = true
+plain (Mean q mean) = true
 
 abbrev plainly : Pick → Bool
 plainly (Is v) = plain v
@@ -63,19 +65,19 @@ plain-listed a b c d e f g h Says-not = refl
 
 plain-word : (w x y z : ℕ) (v : List ℕ) → plainly (wordIn w x y z v) ≡ true
 unfolding wordIn
-plain-word w x y z v = plain-cond (sameBytes v (w ∷ x ∷ y ∷ z ∷ [])) (Is (Word w x y z)) No refl refl
+plain-word w x y z v = plain-cond (sameBytes v (wordBytes w x y z)) (Is (Word w x y z)) No refl refl
 
 plain-order-id : (v : List ℕ) → plainly (orderIdIn v) ≡ true
 unfolding orderIdIn
 plain-order-id v = plain-cond (sameBytes v (78 ∷ 79 ∷ 78 ∷ 69 ∷ [])) (Is (Word 78 79 78 69)) (numberIn (within 1 999999999 (bareOf 9 v))) refl (plain-number (within 1 999999999 (bareOf 9 v)))
 
-plain-yield : (q : Said) → plainly (yieldIn q) ≡ true
-plain-yield (Says n) = refl
-plain-yield Says-not = refl
+plain-quote : (i : Instrument) (q : Said) → plainly (quoteIn i q) ≡ true
+plain-quote i (Says n) = refl
+plain-quote i Says-not = refl
 
-plain-average : (q : Said) → plainly (averageIn q) ≡ true
-plain-average (Says n) = refl
-plain-average Says-not = refl
+plain-average : (i : Instrument) (q : Said) → plainly (averageIn i q) ≡ true
+plain-average i (Says n) = refl
+plain-average i Says-not = refl
 
 module _ (s stored : List ℕ) (place : ℕ) where
   moved-plain : (v : Value) → plain v ≡ true → moved s stored place v ≡ v
@@ -85,8 +87,8 @@ module _ (s stored : List ℕ) (place : ℕ) where
   moved-plain (Word w x y z) e = refl
   moved-plain (Sent from len) e = absurd (false≢true e)
   moved-plain (Stored from len) e = absurd (false≢true e)
-  moved-plain (Level level) e = refl
-  moved-plain (Mean mean) e = refl
+  moved-plain (Level q level) e = refl
+  moved-plain (Mean q mean) e = refl
 
   same-plain : (p : Pick) (x : Value) → plainly p ≡ true → p ≡ Is x → p ≡ Is (moved s stored place x)
   same-plain p x h e = e ∙ ap (λ (v : Value). Is v) (sym (moved-plain x (sym (ap plainly e) ∙ h)))
@@ -117,5 +119,5 @@ module _ (s stored : List ℕ) (place : ℕ) where
   again (shape.Text most low) from v x h e = same-text (eqb (length v) 0) (ltb most (length v)) (allFrom low v) from (length v) x h e
   again shape.Digits from v x h e = same-digits (numOf 9 v) from (length v) x h e
   again shape.Time from v x h e = same-text false false (isTime v) from (length v) x h e
-  again shape.Yield from v x h e = same-plain (yieldIn (fixedOf 3 v)) x (plain-yield (fixedOf 3 v)) e
-  again shape.Average from v x h e = same-plain (averageIn (fixedOf 6 v)) x (plain-average (fixedOf 6 v)) e
+  again (shape.Level i) from v x h e = same-plain (quoteIn i (levelIn i v)) x (plain-quote i (levelIn i v)) e
+  again (shape.Average i) from v x h e = same-plain (averageIn i (meanIn i v)) x (plain-average i (meanIn i v)) e

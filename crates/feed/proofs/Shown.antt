@@ -11,6 +11,8 @@ use lib.ListN.{length, take, drop, getD, set, length-set, drop-of-length-le, Lis
 use lib.Seq.{take-all, take-suc-set, drop-set-lt, drop-cons, append-snoc}
 use borrow.Author.Tests.{eqb-true, eq-eqb, ne-eqb, not-true}
 use Rattle.octets.proofs.Bools.{split, both-l, both-r}
+use Rattle.decimal.specs.declared.Instrument.{Instrument}
+use Rattle.decimal.specs.declared.Instrument.the-variants.{Bonds, Equities}
 use Rattle.report.specs.declared.Value.{Value}
 use Rattle.report.specs.declared.Value.the-variants.{Absent, Number, Char, Word, Sent, Stored, Level, Mean}
 use Rattle.report.specs.declared.Field.{Field}
@@ -219,8 +221,8 @@ module _ (s stored : List ℕ) where
   moved-four place (Word w x y z) = refl
   moved-four place (Sent from len) = refl
   moved-four place (Stored from len) = refl
-  moved-four place (Level level) = refl
-  moved-four place (Mean mean) = refl
+  moved-four place (Level q level) = refl
+  moved-four place (Mean q mean) = refl
 
   pub back-four : (at : ℕ) (fs : List Field) → isFillOrKill (backs s stored at fs) ≡ isFillOrKill fs
   unfolding isFillOrKill
@@ -234,8 +236,8 @@ module _ (s stored : List ℕ) where
 unfoldable pub shownSlot : Slot → Slot
 shownSlot slot = cond (eqb (slot .tag) 59) slot59 slot
 
-abbrev pub shownSlots : Kind → List Slot
-shownSlots k = map shownSlot (slotsOf k)
+abbrev pub shownSlots : Instrument → Kind → List Slot
+shownSlots q k = map shownSlot (slotsOf q k)
 
 lacking-shown : (slots : List Slot) → lacks 59 slots ≡ true → map shownSlot slots ≡ slots
 unfolding shownSlot
@@ -255,8 +257,8 @@ isForce shape.OrderId = false
 isForce (shape.Text most low) = false
 isForce shape.Digits = false
 isForce shape.Time = false
-isForce shape.Yield = false
-isForce shape.Average = false
+isForce (shape.Level q) = false
+isForce (shape.Average q) = false
 
 force-is : (f : Shape) → isForce f ≡ true → f ≡ shape.OneOf 48 51 52 52 52
 force-is shape.Nothing e = absurd (false≢true e)
@@ -278,8 +280,8 @@ force-is shape.OrderId e = absurd (false≢true e)
 force-is (shape.Text most low) e = absurd (false≢true e)
 force-is shape.Digits e = absurd (false≢true e)
 force-is shape.Time e = absurd (false≢true e)
-force-is shape.Yield e = absurd (false≢true e)
-force-is shape.Average e = absurd (false≢true e)
+force-is (shape.Level q) e = absurd (false≢true e)
+force-is (shape.Average q) e = absurd (false≢true e)
 
 -- a quantity, and the shape of one
 abbrev quantity : Shape
@@ -295,8 +297,8 @@ isQuantity shape.OrderId = false
 isQuantity (shape.Text most low) = false
 isQuantity shape.Digits = false
 isQuantity shape.Time = false
-isQuantity shape.Yield = false
-isQuantity shape.Average = false
+isQuantity (shape.Level q) = false
+isQuantity (shape.Average q) = false
 
 quantity-is : (f : Shape) → isQuantity f ≡ true → f ≡ quantity
 quantity-is shape.Nothing e = absurd (false≢true e)
@@ -309,8 +311,8 @@ quantity-is shape.OrderId e = absurd (false≢true e)
 quantity-is (shape.Text most low) e = absurd (false≢true e)
 quantity-is shape.Digits e = absurd (false≢true e)
 quantity-is shape.Time e = absurd (false≢true e)
-quantity-is shape.Yield e = absurd (false≢true e)
-quantity-is shape.Average e = absurd (false≢true e)
+quantity-is (shape.Level q) e = absurd (false≢true e)
+quantity-is (shape.Average q) e = absurd (false≢true e)
 
 -- 59 is always there and 0, 3 or 4; 110 is a quantity
 abbrev forceOne : Slot → Bool
@@ -482,13 +484,21 @@ module _ (s stored : List ℕ) where
   unfolding shownRow isFillOrKill
   without-force slots fs p e = rw (lacking-shown slots e, lacking isFour false 59 slots fs (filled-tagged s stored slots fs p) e) p
 
-  pub shown-fills : (k : Kind) (fs : List Field) → Filled s stored (slotsOf k) fs → Filled s stored (shownSlots k) (shownRow fs)
+  pub shown-fills : (q : Instrument) (k : Kind) (fs : List Field) → Filled s stored (slotsOf q k) fs → Filled s stored (shownSlots q k) (shownRow fs)
   unfolding acceptedSlots replacedSlots canceledSlots tradeSlots rejectedSlots cancelRejectSlots sessionRejectSlots
-  shown-fills Accepted fs p = with-force acceptedSlots fs p refl refl refl
-  shown-fills Replaced fs p = with-force replacedSlots fs p refl refl refl
-  shown-fills Canceled fs p = with-force canceledSlots fs p refl refl refl
-  shown-fills Trade fs p = with-force tradeSlots fs p refl refl refl
-  shown-fills Rejected fs p = without-force rejectedSlots fs p refl
-  shown-fills CancelReject fs p = without-force cancelRejectSlots fs p refl
-  shown-fills SessionReject fs p = without-force sessionRejectSlots fs p refl
-  shown-fills Refused fs p = without-force (slotsOf Refused) fs p refl
+  shown-fills Bonds Accepted fs p = with-force (acceptedSlots Bonds) fs p refl refl refl
+  shown-fills Bonds Replaced fs p = with-force (replacedSlots Bonds) fs p refl refl refl
+  shown-fills Bonds Canceled fs p = with-force (canceledSlots Bonds) fs p refl refl refl
+  shown-fills Bonds Trade fs p = with-force (tradeSlots Bonds) fs p refl refl refl
+  shown-fills Bonds Rejected fs p = without-force (rejectedSlots Bonds) fs p refl
+  shown-fills Bonds CancelReject fs p = without-force (cancelRejectSlots Bonds) fs p refl
+  shown-fills Bonds SessionReject fs p = without-force (sessionRejectSlots Bonds) fs p refl
+  shown-fills Bonds Refused fs p = without-force (slotsOf Bonds Refused) fs p refl
+  shown-fills Equities Accepted fs p = with-force (acceptedSlots Equities) fs p refl refl refl
+  shown-fills Equities Replaced fs p = with-force (replacedSlots Equities) fs p refl refl refl
+  shown-fills Equities Canceled fs p = with-force (canceledSlots Equities) fs p refl refl refl
+  shown-fills Equities Trade fs p = with-force (tradeSlots Equities) fs p refl refl refl
+  shown-fills Equities Rejected fs p = without-force (rejectedSlots Equities) fs p refl
+  shown-fills Equities CancelReject fs p = without-force (cancelRejectSlots Equities) fs p refl
+  shown-fills Equities SessionReject fs p = without-force (sessionRejectSlots Equities) fs p refl
+  shown-fills Equities Refused fs p = without-force (slotsOf Equities Refused) fs p refl

@@ -14,6 +14,7 @@ use borrow.Author.Tests.{not-true}
 use Rattle.octets.specs.Octets.{partAt}
 use Rattle.octets.proofs.Bools.{split, both-l, both-r}
 use Rattle.decimal.specs.Writing.{decimal}
+use Rattle.decimal.specs.declared.Instrument.{Instrument}
 use Rattle.report.specs.declared.Value.{Value}
 use Rattle.report.specs.declared.Value.the-variants.{Absent, Number, Char, Stored}
 use Rattle.report.specs.declared.Field.{Field}
@@ -42,13 +43,13 @@ use Rattle.feed.proofs.Shown.{through, Tagged, filled-tagged, kept-othe
 use Rattle.feed.proofs.Copied.{Given, row-fills, row-fits, row-short, woven-kept, last-kept, woven-new, woven-797, report-distinct, last-unused, begins, Copyable, kinds-copyable, agreed-kept}
 
 -- ---- what Read takes
-record Opened (k : Kind) (q : Rows) : Type 0 where
+record Opened (k : Kind) (rows : Rows) : Type 0 where
   pub next : ℕ
-  pub is-row : q ≡ row (readingOf k q .fields) next
-  pub is-kind : readingOf k q .kind ≡ k
-  pub agrees : agreed k (readingOf k q .fields) ≡ true
+  pub is-row : rows ≡ row (readingOf k rows .fields) next
+  pub is-kind : readingOf k rows .kind ≡ k
+  pub agrees : agreed k (readingOf k rows .fields) ≡ true
 
-reading-opened : (k : Kind) (q : Rows) → isNone (readingOf k q .kind) ≡ false → Opened k q
+reading-opened : (k : Kind) (rows : Rows) → isNone (readingOf k rows .kind) ≡ false → Opened k rows
 reading-opened k (row fs n) e =
     split (agreed k fs)
     (λ t. record { next = n; is-row = rw t; is-kind = rw t; agrees = rw t t })
@@ -89,34 +90,34 @@ back-says sent stored f h none g at (x ∷ fs) p =
     (λ t. rw t (p 0))
     (λ t. rw t (back-says sent stored f h none g (at + length (fieldBytes sent stored x)) fs (λ i. p (suc i))))
 
-module _ (report : List ℕ) (some : isNone (readOf report .kind) ≡ false) where
+module _ (q : Instrument) (report : List ℕ) (some : isNone (readOf q report .kind) ≡ false) where
   abbrev kind : Kind
-  kind = readOf report .kind
+  kind = readOf q report .kind
 
   abbrev fields : List Field
-  fields = readOf report .fields
+  fields = readOf q report .fields
 
-  opened : Opened (kindOf report) (readFramed report (slotsOf (kindOf report)))
+  opened : Opened (kindOf report) (readFramed report (slotsOf q (kindOf report)))
   unfolding readOf
-  opened = reading-opened (kindOf report) (readFramed report (slotsOf (kindOf report))) some
+  opened = reading-opened (kindOf report) (readFramed report (slotsOf q (kindOf report))) some
 
   by-type : kindOf report ≡ kind
   unfolding readOf
   by-type = sym (opened .is-kind)
 
-  framed : readFramed report (slotsOf kind) ≡ row fields (opened .next)
+  framed : readFramed report (slotsOf q kind) ≡ row fields (opened .next)
   unfolding readOf
-  framed = ap (λ (k : Kind). readFramed report (slotsOf k)) (sym by-type) ∙ opened .is-row
+  framed = ap (λ (k : Kind). readFramed report (slotsOf q k)) (sym by-type) ∙ opened .is-row
 
   agrees : agreed kind fields ≡ true
   unfolding readOf
   agrees = ap (λ (k : Kind). agreed k fields) (sym by-type) ∙ opened .agrees
 
   -- the row that was read fills its kind's slots
-  pub fills : (stored : List ℕ) → Filled report stored (slotsOf kind) fields
+  pub fills : (stored : List ℕ) → Filled report stored (slotsOf q kind) fields
   fills stored =
-      let f = framed-found report (slotsOf kind) fields (opened .next) framed in
-      read-fills report stored (f .from) (slotsOf kind) fields (opened .next) (omega (arith, body-within report (f .from) (f .len) (f .body))) (kinds-proper kind) (f .fields)
+      let f = framed-found report (slotsOf q kind) fields (opened .next) framed in
+      read-fills report stored (f .from) (slotsOf q kind) fields (opened .next) (omega (arith, body-within report (f .from) (f .len) (f .body))) (kinds-proper q kind) (f .fields)
 
   -- with 59 and 110 as a copy shows them
   abbrev shown : List Field
@@ -124,11 +125,11 @@ module _ (report : List ℕ) (some : isNone (readOf report .kind) ≡ false) whe
 
   last : shown ≡ take 35 shown ++ (field 0 Absent ∷ [])
   last =
-      let p = filled-back report [] 35 (shownSlots kind) shown (shown-fills report [] kind fields (fills [])) in
+      let p = filled-back report [] 35 (shownSlots q kind) shown (shown-fills report [] q kind fields (fills [])) in
       sym (take-append-drop 35 shown)
-      ∙ ap (λ (l : List Field). take 35 shown ++ l) (only-unused report [] (drop 35 shown) (subst (λ (l : List Slot). Filled report [] l (drop 35 shown)) (last-unused kind) p))
+      ∙ ap (λ (l : List Field). take 35 shown ++ l) (only-unused report [] (drop 35 shown) (subst (λ (l : List Slot). Filled report [] l (drop 35 shown)) (last-unused q kind) p))
 
-  module _ (client : List ℕ) (number : ℕ) (given : Given report client number) where
+  module _ (client : List ℕ) (number : ℕ) (given : Given q report client number) where
     abbrev copied : List Field
     copied = copyRow number (length client) fields
 
@@ -137,7 +138,7 @@ module _ (report : List ℕ) (some : isNone (readOf report .kind) ≡ false) whe
 
     -- ---- its length
     pub row-few : length (rowBytes report client copied) ≤ 489
-    row-few = row-short report client number given kind fields (fills client)
+    row-few = row-short q report client number given kind fields (fills client)
 
     pub at-most-512 : length copy ≤ 512
     unfolding copyBytes
@@ -155,40 +156,40 @@ module _ (report : List ℕ) (some : isNone (readOf report .kind) ≡ false) whe
 
     -- ---- its kind
     module _ (c : copiedBy 2 kind ≡ true) where
-      table : Copyable (slotsOf kind)
-      table = kinds-copyable kind c
+      table : Copyable q (slotsOf q kind)
+      table = kinds-copyable q kind c
 
       was : kindOf report ≡ kindFor (headIn report client 35 fields) (headIn report client 150 fields)
       was =
-          ap kindOf (framed-only report client (slotsOf kind) fields (opened .next) (kinds-proper kind) framed)
-          ∙ kind-in report client (slotsOf kind) fields (fills client)
-          (report-short kind report client (trailer 0) fields (filled-fits report client 0 (slotsOf kind) fields (fills client) (report-distinct kind)))
+          ap kindOf (framed-only report client (slotsOf q kind) fields (opened .next) (kinds-proper q kind) framed)
+          ∙ kind-in report client (slotsOf q kind) fields (fills client)
+          (report-short q kind report client (trailer 0) fields (filled-fits report client 0 (slotsOf q kind) fields (fills client) (report-distinct q kind)))
           (table .type-told) (table .status-told)
 
       pub kind-kept : kindOf copy ≡ kind
       unfolding copyBytes isKept
       kind-kept =
-          kind-in report client (copySlots (slotsOf kind)) copied (row-fills report client number given kind fields (fills client)) row-few (table .copy-type) (table .copy-status)
+          kind-in report client (copySlots q (slotsOf q kind)) copied (row-fills q report client number given kind fields (fills client)) row-few (table .copy-type) (table .copy-status)
           ∙ ap (λ (a : ℕ). kindFor a (headIn report client 150 copied)) (row-kept (firstByte report client) 0 35 refl)
           ∙ ap (kindFor (headIn report client 35 fields)) (row-kept (firstByte report client) 0 150 refl)
           ∙ sym was
           ∙ by-type
 
       -- ---- it is read as a copy of this kind, with the fields of its row
-      pub is-read : readCopyOf copy ≡ record { kind = kind; fields = backs report client (start (rowBytes report client copied)) copied }
+      pub is-read : readCopyOf q copy ≡ record { kind = kind; fields = backs report client (start (rowBytes report client copied)) copied }
       unfolding readCopyOf copyBytes
       is-read =
           let same : copyKind kind ≡ kind = rw c in
-          ap (λ (k : Kind). readingOf (copyKind k) (readFramed copy (copySlots (slotsOf (copyKind k))))) kind-kept
-          ∙ ap (λ (k : Kind). readingOf k (readFramed copy (copySlots (slotsOf k)))) same
-          ∙ reading-back report client kind (copySlots (slotsOf kind)) copied (row-fits report client number given kind fields (fills client))
-          (some-bytes report client (copySlots (slotsOf kind)) copied (row-fills report client number given kind fields (fills client)) (table .first))
+          ap (λ (k : Kind). readingOf (copyKind k) (readFramed copy (copySlots q (slotsOf q (copyKind k))))) kind-kept
+          ∙ ap (λ (k : Kind). readingOf k (readFramed copy (copySlots q (slotsOf q k)))) same
+          ∙ reading-back report client kind (copySlots q (slotsOf q kind)) copied (row-fits q report client number given kind fields (fills client))
+          (some-bytes report client (copySlots q (slotsOf q kind)) copied (row-fills q report client number given kind fields (fills client)) (table .first))
           row-few
-          (agreed-kept report client number (length client) kind fields (fills client) ∙ agrees)
+          (agreed-kept report client number (length client) q kind fields (fills client) ∙ agrees)
 
       -- ---- its fields, tag by tag, as read_copy and Read give them
       abbrev asRead : List Field
-      asRead = readCopyOf copy .fields
+      asRead = readCopyOf q copy .fields
 
       says : (g : ℕ) → atTag (valueBytes copy []) [] g asRead ≡ atTag (valueBytes report client) [] g copied
       unfolding copyBytes
@@ -198,8 +199,8 @@ module _ (report : List ℕ) (some : isNone (readOf report .kind) ≡ false) whe
 
       own-bytes : (g : ℕ) → atTag (valueBytes report client) [] g fields ≡ atTag (valueBytes report []) [] g fields
       own-bytes g =
-          let f = framed-found report (slotsOf kind) fields (opened .next) framed in
-          read-says report client [] g (f .from) (slotsOf kind) fields (opened .next) (f .fields)
+          let f = framed-found report (slotsOf q kind) fields (opened .next) framed in
+          read-says report client [] g (f .from) (slotsOf q kind) fields (opened .next) (f .fields)
 
       -- every field but 34, 17, 109 and 797, and of a Fill or Kill 59 and 110, has the report's own bytes
       pub all-else-kept : (g : ℕ) → isKept (isFillOrKill fields) g ≡ true → atTag (valueBytes copy []) [] g asRead ≡ atTag (valueBytes report []) [] g fields
@@ -207,24 +208,24 @@ module _ (report : List ℕ) (some : isNone (readOf report .kind) ≡ false) whe
           says g ∙ row-kept (valueBytes report client) [] g k ∙ own-bytes g
 
       -- and these four are the feed's
-      tagged : Tagged (take 35 (shownSlots kind)) (take 35 shown)
-      tagged = filled-tagged report client (take 35 (shownSlots kind)) (take 35 shown) (filled-front report client 35 (shownSlots kind) shown (shown-fills report client kind fields (fills client)))
+      tagged : Tagged (take 35 (shownSlots q kind)) (take 35 shown)
+      tagged = filled-tagged report client (take 35 (shownSlots q kind)) (take 35 shown) (filled-front report client 35 (shownSlots q kind) shown (shown-fills report client q kind fields (fills client)))
 
       pub row-34 : {B : Type 0} (h : Value → B) (none : B) → atTag h none 34 copied ≡ h (Number number)
       unfolding copyRow copyValue
-      row-34 h none = woven-new h none number (length client) 34 (Number number) (λ old. refl) (take 35 (shownSlots kind)) (take 35 shown) tagged (table .has-34)
+      row-34 h none = woven-new h none number (length client) 34 (Number number) (λ old. refl) (take 35 (shownSlots q kind)) (take 35 shown) tagged (table .has-34)
 
       pub row-17 : {B : Type 0} (h : Value → B) (none : B) → atTag h none 17 copied ≡ h (Number number)
       unfolding copyRow copyValue
-      row-17 h none = woven-new h none number (length client) 17 (Number number) (λ old. refl) (take 35 (shownSlots kind)) (take 35 shown) tagged (table .has-17)
+      row-17 h none = woven-new h none number (length client) 17 (Number number) (λ old. refl) (take 35 (shownSlots q kind)) (take 35 shown) tagged (table .has-17)
 
       row-109 : atTag (valueBytes report client) [] 109 copied ≡ valueBytes report client (Stored 0 (length client))
       unfolding copyRow copyValue
-      row-109 = woven-new (valueBytes report client) [] number (length client) 109 (Stored 0 (length client)) (λ old. refl) (take 35 (shownSlots kind)) (take 35 shown) tagged (table .has-109)
+      row-109 = woven-new (valueBytes report client) [] number (length client) 109 (Stored 0 (length client)) (λ old. refl) (take 35 (shownSlots q kind)) (take 35 shown) tagged (table .has-109)
 
       row-797 : atTag (valueBytes report client) [] 797 copied ≡ 89 ∷ []
       unfolding copyRow
-      row-797 = woven-797 (valueBytes report client) [] number (length client) (take 35 (shownSlots kind)) (take 35 shown) tagged (table .not-797)
+      row-797 = woven-797 (valueBytes report client) [] number (length client) (take 35 (shownSlots q kind)) (take 35 shown) tagged (table .not-797)
 
       pub number-34 : atTag (valueBytes copy []) [] 34 asRead ≡ decimal number
       number-34 = says 34 ∙ row-34 (valueBytes report client) []
@@ -243,13 +244,13 @@ module _ (report : List ℕ) (some : isNone (readOf report .kind) ≡ false) whe
       module _ (kill : isFillOrKill fields ≡ true) where
         row-59 : {B : Type 0} (h : Value → B) (none : B) → atTag h none 59 copied ≡ h (Char 51)
         unfolding isKept iocValue
-        row-59 h none = row-shown h none 59 refl ∙ shown-new h none 59 fields (Char 51) kill (λ old. refl) (slotsOf kind) (filled-tagged report client (slotsOf kind) fields (fills client)) (table .has-59)
+        row-59 h none = row-shown h none 59 refl ∙ shown-new h none 59 fields (Char 51) kill (λ old. refl) (slotsOf q kind) (filled-tagged report client (slotsOf q kind) fields (fills client)) (table .has-59)
 
         row-110 : {B : Type 0} (h : Value → B) (none : B) → atTag h none 110 copied ≡ h (valueOf 38 fields)
         unfolding isKept iocValue
         row-110 h none =
             row-shown h none 110 refl
-            ∙ shown-new h none 110 fields (valueOf 38 fields) kill (λ old. refl) (slotsOf kind) (filled-tagged report client (slotsOf kind) fields (fills client)) (table .has-110)
+            ∙ shown-new h none 110 fields (valueOf 38 fields) kill (λ old. refl) (slotsOf q kind) (filled-tagged report client (slotsOf q kind) fields (fills client)) (table .has-110)
 
         pub ioc-59 : atTag (valueBytes copy []) [] 59 asRead ≡ 51 ∷ []
         ioc-59 = says 59 ∙ row-59 (valueBytes report client) []

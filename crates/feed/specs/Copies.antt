@@ -1,10 +1,12 @@
 -- What comes of handing a feed one report (document 02, T-01): a refusal with nothing changed, no copy and the same number, or the bytes of
--- the copy and the next number. And what is a copy: bytes that are read as a report is, by the slots of a copy. Assumes nothing.
+-- the copy and the next number. And what is a copy: bytes that are read as a report is, by the slots of a copy. A feed copies the reports of
+-- one market: q is what it trades. Assumes nothing.
 use Prim.Native.Nat.{ℕ, _+_}
 use mathlib.Core.Bool.{Bool, true, false, cond, not, _||_}
 use mathlib.Core.List.{List, []}
 use lib.Dec.{eqb, ltb}
 use lib.ListN.{length}
+use Rattle.decimal.specs.declared.Instrument.{Instrument}
 use Rattle.report.specs.declared.Field.{Field}
 use Rattle.report.specs.declared.Kind.{Kind}
 use Rattle.report.specs.declared.Kind.the-variants.{Accepted, Replaced, Canceled, Trade, Rejected, CancelReject, SessionReject, Refused}
@@ -48,14 +50,14 @@ abbrev pub fedWith : ℕ → List ℕ → Fed
 fedWith number bytes = record { answer = answer.Copied (length bytes) (number + 1); bytes = bytes }
 
 -- next is the feed's next number, room the length of its area
-unfoldable pub fed : List ℕ → ℕ → ℕ → List ℕ → List ℕ → ℕ → ℕ → Fed
-fed report subscription shows port group next room =
+unfoldable pub fed : Instrument → List ℕ → ℕ → ℕ → List ℕ → List ℕ → ℕ → ℕ → Fed
+fed q report subscription shows port group next room =
     cond (ltb room 1024) (unfed answer.NoRoom)
-    (cond (isNone (readOf report .kind)) (unfed answer.NoReport)
-    (cond (not (isSetting subscription shows port group)) (unfed answer.BadSetting)
+    (cond (isNone (readOf q report .kind)) (unfed answer.NoReport)
+    (cond (not (isSetting q subscription shows port group)) (unfed answer.BadSetting)
     (cond (eqb next 0 || ltb 999999999 next) (unfed answer.NumbersSpent)
-    (cond (copiedBy subscription (readOf report .kind))
-    (fedWith next (copyBytes report next (clientOf shows port group) (readOf report .fields)))
+    (cond (copiedBy subscription (readOf q report .kind))
+    (fedWith next (copyBytes report next (clientOf shows port group) (readOf q report .fields)))
     (unfed (answer.NotCopied next))))))
 
 -- the paper's number
@@ -92,5 +94,5 @@ abbrev pub copyKind : Kind → Kind
 copyKind k = cond (copiedBy 2 k) k Refused
 
 -- what the bytes are: a copy of a kind with its fields, or none, which is refusal 11
-unfoldable pub readCopyOf : List ℕ → Reading
-readCopyOf s = readingOf (copyKind (kindOf s)) (readFramed s (copySlots (slotsOf (copyKind (kindOf s)))))
+unfoldable pub readCopyOf : Instrument → List ℕ → Reading
+readCopyOf q s = readingOf (copyKind (kindOf s)) (readFramed s (copySlots q (slotsOf q (copyKind (kindOf s)))))

@@ -1,13 +1,15 @@
 -- A drop copy as a row of fields, made from the row that Read gives of a report, and as a table of slots, made from those of the report's
--- kind (document 02, T-01 and T-05; source document 000, 5.1 and 7.5.1 to 7.5.4). 34 and 17 are the feed's number, 109 is the text of the
--- identifiers, 797=Y stands where ascending tags put it, a Fill or Kill order has other 59 and 110, and all else is the report's.
--- Assumes nothing.
+-- kind (document 02, T-01, T-05 and T-08; source documents 000 and 003, 4.2, 5.1 and 7.5.1 to 7.5.4). 34 and 17 are the feed's number, 109
+-- is the text of the identifiers, 797=Y stands where ascending tags put it, a Fill or Kill order has other 59 and 110, and all else is the
+-- report's. q is what is traded. Assumes nothing.
 use Prim.Native.Nat.{ℕ}
 use mathlib.Core.Bool.{Bool, false, cond}
 use mathlib.Core.List.{List, [], _∷_, map}
 use lib.Dec.{eqb, ltb}
 use lib.ListN.{take}
 use Rattle.octets.specs.Characters.{byte}
+use Rattle.decimal.specs.declared.Instrument.{Instrument}
+use Rattle.decimal.specs.declared.Instrument.the-variants.{Bonds, Equities}
 use Rattle.report.specs.declared.Value.{Value}
 use Rattle.report.specs.declared.Value.the-variants.{Absent, Number, Char, Word, Sent, Stored, Level, Mean}
 use Rattle.report.specs.declared.Field.{Field}
@@ -33,8 +35,8 @@ isFour (Char c) = eqb c (byte "4")
 isFour (Word w x y z) = false
 isFour (Sent from len) = false
 isFour (Stored from len) = false
-isFour (Level level) = false
-isFour (Mean mean) = false
+isFour (Level q level) = false
+isFour (Mean q mean) = false
 
 -- the report's order is Fill or Kill: 59 is 4
 unfoldable pub isFillOrKill : List Field → Bool
@@ -76,23 +78,24 @@ copyRow number width fs = with797 (λ f. f .tag) (copyField number width) yes797
 -- ---- the slots
 
 -- the longest text of 109
-abbrev pub longest : ℕ
-longest = 30
+abbrev pub longest : Instrument → ℕ
+longest Bonds = 30
+longest Equities = 20
 
--- 109 is always there: 1 to 30 characters from 21 to 7E hex
-abbrev pub slot109 : Slot
-slot109 = always 109 (shape.Text longest 0x21)
+-- 109 is always there: one character or more from 21 to 7E hex
+abbrev pub slot109 : Instrument → Slot
+slot109 q = always 109 (shape.Text (longest q) 0x21)
 
 -- 59 is always there: no copy shows Fill or Kill
 abbrev pub slot59 : Slot
 slot59 = always 59 (oneOf "03")
 
-unfoldable pub copySlot : Slot → Slot
-copySlot slot = cond (eqb (slot .tag) 109) slot109 (cond (eqb (slot .tag) 59) slot59 slot)
+unfoldable pub copySlot : Instrument → Slot → Slot
+copySlot q slot = cond (eqb (slot .tag) 109) (slot109 q) (cond (eqb (slot .tag) 59) slot59 slot)
 
 -- 797 is always there: Y
 abbrev pub slot797 : Slot
 slot797 = always 797 (oneOf "Y")
 
-unfoldable pub copySlots : List Slot → List Slot
-copySlots slots = with797 (λ s. s .tag) copySlot slot797 (take 35 slots)
+unfoldable pub copySlots : Instrument → List Slot → List Slot
+copySlots q slots = with797 (λ s. s .tag) (copySlot q) slot797 (take 35 slots)

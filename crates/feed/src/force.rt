@@ -22,8 +22,8 @@ fn is_four(value: Value) -> bool
         } => false,
         Value::Sent { from: _, len: _ } => false,
         Value::Stored { from: _, len: _ } => false,
-        Value::Level(_) => false,
-        Value::Mean(_) => false,
+        Value::Level { of: _, level: _ } => false,
+        Value::Mean { of: _, mean: _ } => false,
     }
 }
 

@@ -12,6 +12,7 @@ use crate::settings::copy_kind;
 use crate::settings::is_copied;
 use crate::settings::is_none;
 use crate::settings::is_setting;
+use decimal::Instrument;
 use report::Field;
 use report::Reading;
 use report::read::kind_of;
@@ -65,8 +66,9 @@ fn write_copy(
     )
 }
 
-// Hands a feed one report: its copy at the start of the area, or nothing written.
+// Hands a feed one report of its market: its copy at the start of the area, or nothing written.
 pub fn copy(
+    q: Instrument,
     report: &[u8],
     subscription: u64,
     shows: u64,
@@ -75,18 +77,18 @@ pub fn copy(
     next: u64,
     area: &mut [u8],
 ) -> CopyAnswer
-    ensures { λ r. ⌜ (r ≡ fed (now (report .entry)) subscription shows (now (port .entry)) (now (group .entry)) next (length (now (area .entry))) .answer)
-        × (now (area .exit) ≡ put (now (area .entry)) 0 (fed (now (report .entry)) subscription shows (now (port .entry)) (now (group .entry)) next (length (now (area .entry))) .bytes)) ⌝ }
+    ensures { λ r. ⌜ (r ≡ fed q (now (report .entry)) subscription shows (now (port .entry)) (now (group .entry)) next (length (now (area .entry))) .answer)
+        × (now (area .exit) ≡ put (now (area .entry)) 0 (fed q (now (report .entry)) subscription shows (now (port .entry)) (now (group .entry)) next (length (now (area .entry))) .bytes)) ⌝ }
 {
     if area.len() < 1024 {
         return CopyAnswer::NoRoom;
     }
-    let reading = read(report);
+    let reading = read(q, report);
     let kind = reading.kind;
     if is_none(kind) {
         return CopyAnswer::NoReport;
     }
-    if !is_setting(subscription, shows, port, group) {
+    if !is_setting(q, subscription, shows, port, group) {
         return CopyAnswer::BadSetting;
     }
     if (next == 0) | (next > 999999999) {
@@ -103,10 +105,10 @@ pub fn copy(
     CopyAnswer::NotCopied(next)
 }
 
-// A copy's kind and fields; what is none is refused, which is the paper's refusal 11.
-pub fn read_copy(s: &[u8]) -> Reading
-    ensures { λ r. ⌜ r ≡ readCopyOf (now (s .entry)) ⌝ }
+// The kind and fields of a copy of a market's report; what is none is refused, which is the paper's refusal 11.
+pub fn read_copy(q: Instrument, s: &[u8]) -> Reading
+    ensures { λ r. ⌜ r ≡ readCopyOf q (now (s .entry)) ⌝ }
 {
     let kind = copy_kind(kind_of(s));
-    read_as(s, kind, copy_slots(slots_of(kind)))
+    read_as(s, kind, copy_slots(q, slots_of(q, kind)))
 }

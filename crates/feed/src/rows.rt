@@ -1,14 +1,16 @@
 // The row of a copy from the row of its report, and the slots of a copy from those of the report's kind: each one changed up to the first
 // of a tag above 797, 797's own in front of that one, and those behind it moved on by one.
 use crate::force::shown_row;
+use decimal::Instrument;
 use report::Field;
 use report::Shape;
 use report::Slot;
 use report::Value;
 ghost use mathlib.Core.Path.{_≡_};
+ghost use Prim.Native.Nat.{_≤_};
 ghost use mathlib.Core.Bool.{_||_};
 ghost use lib.Dec.{eqb};
-ghost use Rattle.feed.specs.Rows.{copyValue, copyField, copyRow, copySlot, copySlots};
+ghost use Rattle.feed.specs.Rows.{copyValue, copyField, copyRow, longest as longestOf, copySlot, copySlots};
 
 // The value of a field of a copy.
 fn copy_value(value: Value, tag: u64, number: u64, width: usize) -> Value
@@ -76,15 +78,26 @@ pub fn copy_row(fields: [Field; 36], number: u64, width: usize) -> [Field; 36]
     row
 }
 
+// How long the text of 109 may be.
+pub fn longest(q: Instrument) -> usize
+    ensures { λ r. ⌜ (r ≡ longestOf q) × (r ≤ 30) ⌝ }
+{
+    match q {
+        Instrument::Bonds => 30,
+        Instrument::Equities => 20,
+    }
+}
+
 // A slot of a copy.
-fn copy_slot(slot: Slot) -> Slot
-    ensures { λ r. ⌜ r ≡ copySlot slot ⌝ }
+fn copy_slot(q: Instrument, slot: Slot) -> Slot
+    ensures { λ r. ⌜ r ≡ copySlot q slot ⌝ }
 {
     if slot.tag == 109 {
+        let most = longest(q);
         return Slot {
             tag: 109,
             optional: false,
-            shape: Shape::Text { most: 30, low: 33 },
+            shape: Shape::Text { most, low: 33 },
         };
     }
     if slot.tag == 59 {
@@ -104,8 +117,8 @@ fn copy_slot(slot: Slot) -> Slot
 }
 
 // The slots of a copy.
-pub fn copy_slots(slots: [Slot; 36]) -> [Slot; 36]
-    ensures { λ r. ⌜ r ≡ copySlots slots ⌝ }
+pub fn copy_slots(q: Instrument, slots: [Slot; 36]) -> [Slot; 36]
+    ensures { λ r. ⌜ r ≡ copySlots q slots ⌝ }
 {
     let mut all = slots;
     let mut held = Slot {
@@ -130,7 +143,7 @@ pub fn copy_slots(slots: [Slot; 36]) -> [Slot; 36]
             all[at] = held;
             held = slot;
         } else {
-            all[at] = copy_slot(slot);
+            all[at] = copy_slot(q, slot);
         }
     }
     all[35] = held;

@@ -1,4 +1,6 @@
 // How a feed is set up: whether its settings mean something, the text of 109, which kinds it copies.
+use crate::rows::longest;
+use decimal::Instrument;
 use decimal::write::put_byte;
 use octets::part::copy_into;
 use report::Kind;
@@ -9,37 +11,39 @@ ghost use Prim.Native.Nat.{_≤_};
 ghost use lib.Dec.{leb};
 ghost use lib.ListN.{length};
 ghost use Rattle.octets.specs.Written.{Room, Wrote};
+ghost use Rattle.feed.specs.Rows.{longest as longestOf};
 ghost use Rattle.feed.specs.Settings.{clientOf, isIdentifier, areIdentifiers, isSetting, copiedBy};
 ghost use Rattle.feed.specs.Copies.{isNone, copyKind};
 
-// Whether a text is an identifier of at most 30 characters.
-fn is_identifier(v: &[u8]) -> bool
-    ensures { λ r. ⌜ r ≡ (isIdentifier (now (v .entry)) && leb (length (now (v .entry))) 30) ⌝ }
+// Whether a text is an identifier of at most so many characters.
+fn is_identifier(v: &[u8], most: usize) -> bool
+    ensures { λ r. ⌜ r ≡ (isIdentifier (now (v .entry)) && leb (length (now (v .entry))) most) ⌝ }
 {
     if v.len() == 0 {
         return false;
     }
-    if v.len() > 30 {
+    if v.len() > most {
         return false;
     }
     all_from(v, 33)
 }
 
 // Whether the identifiers that 109 shows are some, and 109 is not too long.
-fn is_client(shows: u64, port: &[u8], group: &[u8]) -> bool
-    ensures { λ r. ⌜ r ≡ (areIdentifiers shows (now (port .entry)) (now (group .entry)) && leb (length (clientOf shows (now (port .entry)) (now (group .entry)))) 30) ⌝ }
+fn is_client(q: Instrument, shows: u64, port: &[u8], group: &[u8]) -> bool
+    ensures { λ r. ⌜ r ≡ (areIdentifiers shows (now (port .entry)) (now (group .entry)) && leb (length (clientOf shows (now (port .entry)) (now (group .entry)))) (longestOf q)) ⌝ }
 {
+    let most = longest(q);
     if shows == 1 {
-        return is_identifier(port);
+        return is_identifier(port, most);
     }
     if shows == 2 {
-        return is_identifier(group);
+        return is_identifier(group, most);
     }
     if shows == 3 {
-        let a = is_identifier(port);
-        let b = is_identifier(group);
+        let a = is_identifier(port, most);
+        let b = is_identifier(group, most);
         if a & b {
-            return port.len() + group.len() < 30;
+            return port.len() + group.len() < most;
         }
         return false;
     }
@@ -47,11 +51,11 @@ fn is_client(shows: u64, port: &[u8], group: &[u8]) -> bool
 }
 
 // Whether a feed can be set up so.
-pub fn is_setting(subscription: u64, shows: u64, port: &[u8], group: &[u8]) -> bool
-    ensures { λ r. ⌜ r ≡ isSetting subscription shows (now (port .entry)) (now (group .entry)) ⌝ }
+pub fn is_setting(q: Instrument, subscription: u64, shows: u64, port: &[u8], group: &[u8]) -> bool
+    ensures { λ r. ⌜ r ≡ isSetting q subscription shows (now (port .entry)) (now (group .entry)) ⌝ }
 {
     if (subscription == 1) | (subscription == 2) {
-        return is_client(shows, port, group);
+        return is_client(q, shows, port, group);
     }
     false
 }

@@ -7,6 +7,7 @@ use native.Mathlib.Omega.{arith}
 use lib.ListN.{length}
 use borrow.Author.Tests.{eq-eqb, ne-eqb, lt-ltb, le-ltb, not-false}
 use Rattle.octets.specs.Octets.{put}
+use Rattle.decimal.specs.declared.Instrument.{Instrument}
 use Rattle.request.specs.declared.Refusal.{Refusal}
 use Rattle.request.specs.declared.NewOrder.{NewOrder}
 use Rattle.request.specs.declared.Replacement.{Replacement}
@@ -15,9 +16,10 @@ use Rattle.request.specs.declared.Asked.{Asked}
 use Rattle.request.specs.declared.Asked.the-variants.{Garbled, Refused, Enters, Replaces, Cancels}
 use Rattle.request.specs.Asks.{askedOf}
 use Rattle.table.specs.Places.{tableBytes}
-use Rattle.table.specs.Heading.{venueOf, portOf, nextOf, workOf}
-use Rattle.table.specs.Market.{isMarket}
+use Rattle.table.specs.Heading.{venueOf, portOf, nextOf, workOf, instrumentOf}
+use Rattle.table.specs.Market.{isMarketOf}
 use Rattle.table.specs.Facts.{Market}
+use Rattle.table.proofs.Instruments.{of-market, market-instrument}
 use Rattle.table.proofs.Facts.{market-facts}
 use Rattle.calls.specs.declared.Standing.{Standing}
 use Rattle.calls.specs.declared.Standing.the-variants.{Stands, Fails}
@@ -100,43 +102,46 @@ module _ (t message area : List ℕ) (a : Asked) (r : SubmitAnswer) (u after : L
 
 -- ---- by the first refusals
 
-module _ (t message area : List ℕ) where
-  pub no-room : length area < 1024 → Left (submitted t message (length area)) area answer.NoRoom t area
+module _ (i : Instrument) (t message area : List ℕ) where
+  pub no-room : length area < 1024 → Left (submitted i t message (length area)) area answer.NoRoom t area
   unfolding submitted
   no-room h = rw (lt-ltb (length area) 1024 h) (unchanged-left t area answer.NoRoom)
 
-  module _ (room : 1024 ≤ length area) (f : Bool) (p : f ≡ isMarket t) where
-    pub no-market : not f ≡ true → Left (submitted t message (length area)) area answer.NoMarket t area
+  module _ (room : 1024 ≤ length area) (f : Bool) (p : f ≡ isMarketOf i t) where
+    pub no-market : not f ≡ true → Left (submitted i t message (length area)) area answer.NoMarket t area
     unfolding submitted
     no-market h = rw (le-ltb (length area) 1024 room, ← p, h) (unchanged-left t area answer.NoMarket)
 
     module _ (m : not f ≡ false) where
+      market-of : isMarketOf i t ≡ true
+      market-of = sym p ∙ not-false f m
+
       pub market-is : Market t
-      market-is = market-facts t (sym p ∙ not-false f m)
+      market-is = market-facts t (of-market i t market-of)
 
       pub market-long : length t ≡ tableBytes
       market-long = market-is .long
 
       module _ (w : ℕ) (q : w ≡ workOf t) where
-        pub in-work : (w ≡ 0 → ⊥) → Left (submitted t message (length area)) area answer.InWork t area
+        pub in-work : (w ≡ 0 → ⊥) → Left (submitted i t message (length area)) area answer.InWork t area
         unfolding submitted
         in-work h = rw (le-ltb (length area) 1024 room, ← p, m, ← q, ne-eqb w 0 h) (unchanged-left t area answer.InWork)
 
         module _ (z : w ≡ 0) (n : ℕ) (s : n ≡ nextOf t) where
-          pub numbers-spent : 999998976 < n → Left (submitted t message (length area)) area answer.NumbersSpent t area
+          pub numbers-spent : 999998976 < n → Left (submitted i t message (length area)) area answer.NumbersSpent t area
           unfolding submitted
           numbers-spent h =
               rw (le-ltb (length area) 1024 room, ← p, m, ← q, eq-eqb w 0 z, ← s, lt-ltb 999998976 n h) (unchanged-left t area answer.NumbersSpent)
 
-          module _ (l : n ≤ 999998976) (venue port : List ℕ) (v : venue ≡ venueOf t) (o : port ≡ portOf t) (a : Asked) (e : a ≡ askedOf venue port message) where
-            asks : a ≡ askedOf (venueOf t) (portOf t) message
-            asks = e ∙ rw (v, o)
+          module _ (l : n ≤ 999998976) (venue port : List ℕ) (v : venue ≡ venueOf t) (o : port ≡ portOf t) (a : Asked) (e : a ≡ askedOf i venue port message) where
+            asks : a ≡ askedOf (instrumentOf t) (venueOf t) (portOf t) message
+            asks = e ∙ rw (v, o, market-instrument i t market-of)
 
             pub asked-of : Asking t message a
             asked-of = record { market = market-is; idle = sym q ∙ z; numbers = omega arith; asks = sym asks }
 
             pub submitted-left : (r : SubmitAnswer) (u after : List ℕ) → Left (handled t message a) area r u after
-                → Left (submitted t message (length area)) area r u after
+                → Left (submitted i t message (length area)) area r u after
             unfolding submitted
             submitted-left r u after h =
                 rw (le-ltb (length area) 1024 room, ← p, m, ← q, eq-eqb w 0 z, ← s, le-ltb 999998976 n l) (rw asks at h)

@@ -9,6 +9,7 @@ use lib.Dec.{lit≤}
 use lib.ListN.{length, replicate}
 use Rattle.octets.specs.Octets.{textBytes}
 use Rattle.octets.proofs.Bools.{not-both}
+use Rattle.decimal.specs.declared.Instrument.{Instrument}
 use Rattle.request.specs.declared.Refusal.{Refusal}
 use Rattle.request.specs.declared.NewOrder.{NewOrder}
 use Rattle.request.specs.declared.Replacement.{Replacement}
@@ -20,11 +21,12 @@ use Rattle.matching.specs.declared.Order.{Order}
 use Rattle.matching.specs.declared.Event.{Event}
 use Rattle.matching.specs.declared.Event.the-variants.{Replaced, Withdrawn}
 use Rattle.matching.specs.Matching.{openOf, who, change}
+use Rattle.table.specs.declared.record.Marks.{Marks}
 use Rattle.table.specs.Places.{tableBytes}
-use Rattle.table.specs.Heading.{venueOf, portOf, nextOf, putWork}
+use Rattle.table.specs.Heading.{venueOf, portOf, nextOf, instrumentOf, putWork}
 use Rattle.table.specs.Orders.{orderAt, recordFor, termBytes, amountBytes, recordOf, putId, accepted, replaced, withdrawn}
 use Rattle.table.specs.Best.{bookRow, putBest, clearBest}
-use Rattle.table.specs.Market.{isMarket}
+use Rattle.table.specs.Market.{isMarketOf}
 use Rattle.table.specs.Changes.{numbered, entered, renewed, taken}
 use Rattle.table.proofs.Same.{put-below, next-same}
 use Rattle.table.proofs.Stores.{next-got}
@@ -38,7 +40,7 @@ use Rattle.calls.specs.declared.Standing.the-variants.{Stands, Fails}
 use Rattle.calls.specs.declared.SubmitAnswer.{SubmitAnswer}
 use Rattle.calls.specs.declared.SubmitAnswer.the-variants as answer
 use Rattle.calls.specs.Checks.{textOf, holder, newStands, cancelStands, replaceStands}
-use Rattle.calls.specs.Submit.{Submitted, rejecting, faulted, newRejected, changeRejected, newOrderOf, newTaken, replacementTaken, cancelTaken, entering, replacing, canceling, handled, submitted, submitLength, submitNumber}
+use Rattle.calls.specs.Submit.{Submitted, rejecting, faulted, newRejected, changeRejected, marksOf, newOrderOf, newTaken, replacementTaken, cancelTaken, entering, replacing, canceling, handled, submitted, submitLength, submitNumber}
 use Rattle.intake.specs.Intake.{Asking}
 use Rattle.intake.proofs.Standing.{new-free, replace-in, cancel-in}
 use Rattle.intake.proofs.Doing.{accepted-long, replaced-long, withdrawn-long}
@@ -78,10 +80,10 @@ next-worked t u stamp w long e h =
 next-told : (t u : List ℕ) → length u ≡ tableBytes → nextOf u ≡ nextOf t → nextOf t ≤ 999998976 → nextOf (putBest (numbered u 1)) ≡ nextOf t + 1
 next-told t u long e h = next-same (put-below (numbered u 1) 97 (bookRow (numbered u 1)) 28 32 (lit≤ tt)) ∙ next-numbered t u long e h
 
-next-accepted : (t : List ℕ) (k orderid : ℕ) (id account : List ℕ) (capacity class : ℕ) (x : Order) → 1 ≤ k
-    → nextOf (accepted t k orderid id account capacity class x) ≡ nextOf t
+next-accepted : (t : List ℕ) (k orderid : ℕ) (id account : List ℕ) (marks : Marks) (x : Order) → 1 ≤ k
+    → nextOf (accepted t k orderid id account marks x) ≡ nextOf t
 unfolding accepted
-next-accepted t k orderid id account capacity class x l = next-same (put-below t (128 * k) (recordOf orderid id account capacity class x) 28 32 (omega arith))
+next-accepted t k orderid id account marks x l = next-same (put-below t (128 * k) (recordOf orderid id account marks x) 28 32 (omega arith))
 
 next-named : (t : List ℕ) (k : ℕ) (id : List ℕ) → 1 ≤ k → nextOf (putId t k id) ≡ nextOf t
 next-named t k id l = next-same (put-below t (128 * k) (textBytes 32 id) 28 32 (omega arith))
@@ -123,12 +125,12 @@ module _ (t message : List ℕ) where
       let x : Order = newOrderOf t message o in
       let id : List ℕ = textOf message (o .id) in
       let account : List ℕ = textOf message (o .account) in
-      let u : List ℕ = accepted t k (nextOf t) id account (o .terms .capacity) (o .terms .class) x in
+      let u : List ℕ = accepted t k (nextOf t) id account (marksOf o) x in
       record {
         reports-are = refl;
         next-is =
-            next-worked t u (textOf message (o .time)) k (accepted-long t u id account k (nextOf t) (o .terms .capacity) (o .terms .class) x (a .market .long) refl)
-            (next-accepted t k (nextOf t) id account (o .terms .capacity) (o .terms .class) x (new-free t message o a e)) (a .numbers);
+            next-worked t u (textOf message (o .time)) k (accepted-long t u id account k (nextOf t) (marksOf o) x (a .market .long) refl)
+            (next-accepted t k (nextOf t) id account (marksOf o) x (new-free t message o a e)) (a .numbers);
         short = ticket-short u message _ _ _ (enter-legible t message o a e);
       }
 
@@ -176,15 +178,15 @@ module _ (t message : List ℕ) where
 
 -- ---- the call
 
-pub submitted-counted : (t message : List ℕ) (room : ℕ) → Counted t (submitted t message room)
-submitted-counted t message room = by (comes t message room)
+pub submitted-counted : (q : Instrument) (t message : List ℕ) (room : ℕ) → Counted t (submitted q t message room)
+submitted-counted q t message room = by (comes q t message room)
   where
-    by : Comes t message room → Counted t (submitted t message room)
+    by : Comes q t message room → Counted t (submitted q t message room)
     by (no-room a e) = rw e (record { reports-are = refl; next-is = sym (add-zero (nextOf t)); short = omega arith })
     by (no-market a n e) = rw e (record { reports-are = refl; next-is = sym (add-zero (nextOf t)); short = omega arith })
     by (in-work a n w e) = rw e (record { reports-are = refl; next-is = sym (add-zero (nextOf t)); short = omega arith })
     by (spent a n w h e) = rw e (record { reports-are = refl; next-is = sym (add-zero (nextOf t)); short = omega arith })
-    by (heard a n q e) = rw e (handled-counted t message _ q)
+    by (heard a n x e) = rw e (handled-counted t message _ x)
 
 -- a market is never refused as none: among requests, no answer is that
 handled-named : (t message : List ℕ) (x : Asked) → submitNumber (handled t message x .answer) ≡ 2 → ⊥
@@ -207,12 +209,12 @@ handled-named t message (Cancels o) e = by (cancelStands t message o) e
     by Stands e = omega arith
     by (Fails r) e = omega arith
 
-pub submitted-named : (t message : List ℕ) (room : ℕ) → isMarket t ≡ true → submitNumber (submitted t message room .answer) ≡ 2 → ⊥
-submitted-named t message room m = by (comes t message room)
+pub submitted-named : (q : Instrument) (t message : List ℕ) (room : ℕ) → isMarketOf q t ≡ true → submitNumber (submitted q t message room .answer) ≡ 2 → ⊥
+submitted-named q t message room m = by (comes q t message room)
   where
-    by : Comes t message room → submitNumber (submitted t message room .answer) ≡ 2 → ⊥
-    by (no-room a e) q = let z : _≡_ {A = ℕ} 1 2 = rw e at q in omega arith
-    by (no-market a n e) q = not-both m n
-    by (in-work a n w e) q = let z : _≡_ {A = ℕ} 3 2 = rw e at q in omega arith
-    by (spent a n w h e) q = let z : _≡_ {A = ℕ} 4 2 = rw e at q in omega arith
-    by (heard a n p e) q = handled-named t message (askedOf (venueOf t) (portOf t) message) (rw e at q)
+    by : Comes q t message room → submitNumber (submitted q t message room .answer) ≡ 2 → ⊥
+    by (no-room a e) x = let z : _≡_ {A = ℕ} 1 2 = rw e at x in omega arith
+    by (no-market a n e) x = not-both m n
+    by (in-work a n w e) x = let z : _≡_ {A = ℕ} 3 2 = rw e at x in omega arith
+    by (spent a n w h e) x = let z : _≡_ {A = ℕ} 4 2 = rw e at x in omega arith
+    by (heard a n p e) x = handled-named t message (askedOf (instrumentOf t) (venueOf t) (portOf t) message) (rw e at x)

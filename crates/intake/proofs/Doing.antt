@@ -5,14 +5,13 @@ use mathlib.Core.Bool.{true, _||_}
 use mathlib.Core.List.{List}
 use Prim.Native.Nat.{ℕ, _+_, _*_, _≤_, _<_}
 use native.Mathlib.Omega.{arith}
-use lib.Dec.{eqb, leb}
+use lib.Dec.{eqb}
 use lib.ListN.{length}
-use mir.Syntax.{w8}
-use mir.Val.{Fits}
-use borrow.Author.Tests.{eqb-true, leb-true}
+use borrow.Author.Tests.{eqb-true}
 use Rattle.octets.specs.Octets.{textBytes}
-use Rattle.octets.proofs.Bools.{split, or-r, both-r}
+use Rattle.octets.proofs.Bools.{split, or-r}
 use Rattle.octets.proofs.Places.{length-put}
+use Rattle.decimal.specs.declared.Instrument.the-variants.{Equities}
 use Rattle.request.specs.declared.NewOrder.{NewOrder}
 use Rattle.request.specs.declared.Replacement.{Replacement}
 use Rattle.request.specs.declared.Cancellation.{Cancellation}
@@ -21,21 +20,22 @@ use Rattle.request.proofs.Saying.{enters-spelt, replaces-spelt, cancels-spelt}
 use Rattle.matching.specs.declared.Order.{Order}
 use Rattle.matching.specs.declared.Event.{Event}
 use Rattle.matching.specs.declared.Event.the-variants.{Accepted, Replaced, Withdrawn}
-use Rattle.matching.specs.Matching.{openOf, isImmediate, who, change}
+use Rattle.matching.specs.Matching.{openOf, isSideOf, isImmediate, who, change}
 use Rattle.matching.specs.Held.{Covered, Sound}
+use Rattle.table.specs.declared.record.Marks.{Marks}
 use Rattle.table.specs.Places.{tableBytes}
-use Rattle.table.specs.Heading.{nextOf}
+use Rattle.table.specs.Heading.{nextOf, instrumentOf}
 use Rattle.table.specs.Orders.{orderAt, filled, recordFor, termBytes, amountBytes, recordOf, putId, accepted, replaced, withdrawn}
-use Rattle.table.specs.Market.{isCapacity, isClass}
-use Rattle.table.specs.Facts.{Market, Due}
+use Rattle.table.specs.Facts.{InBytes, Market, Due}
+use Rattle.table.proofs.Instruments.{marked-bytes}
 use Rattle.table.proofs.Lookups.{market-sound}
 use Rattle.ticket.specs.declared.Cause.{Cause}
 use Rattle.ticket.specs.Legible.{Legible}
 use Rattle.calls.specs.declared.Standing.the-variants.{Stands}
 use Rattle.calls.specs.Checks.{textOf, holder, newStands, cancelStands, replaceStands}
-use Rattle.calls.specs.Submit.{sentAt, noText, causeOf, newOrderOf}
+use Rattle.calls.specs.Submit.{sentAt, noText, causeOf, marksOf, newOrderOf}
 use Rattle.intake.specs.Intake.{Asking, orderWith}
-use Rattle.intake.proofs.Standing.{new-sound, new-capacity, new-class, cancel-holds}
+use Rattle.intake.proofs.Standing.{new-sound, new-marked, cancel-holds}
 use Rattle.intake.proofs.Checking.{holder-below, below-256}
 use Rattle.intake.proofs.Legibles.{enter-legible, cancel-due, cancel-legible, replace-due, replace-legible}
 
@@ -50,6 +50,14 @@ force-small x h =
     (λ e. omega (arith, eqb-true (x .tif) 0 e))
     (λ e. one-small (x .tif) 3 4 (omega arith) (omega arith) (or-r (eqb (x .tif) 0) (isImmediate x) (h .tifs) e))
 
+-- and so is a side
+side-byte : (x : ℕ) → isSideOf Equities x ≡ true → x < 256
+unfolding isSideOf
+side-byte x h =
+    split (eqb x 1 || eqb x 2)
+    (λ e. one-small x 1 2 (omega arith) (omega arith) e)
+    (λ e. one-small x 5 6 (omega arith) (omega arith) (rw e at h))
+
 -- ---- a new order
 
 -- the order of its terms
@@ -57,50 +65,37 @@ pub order-new : (t message : List ℕ) (o : NewOrder) (n : ℕ) (x : Order) → 
 order-new t message o n x q y = y ∙ rw q
 
 module _ (t message : List ℕ) (o : NewOrder) (a : Asking t message (Enters o)) where
-  capacity-small : o .terms .capacity < 256
-  unfolding isCapacity
-  capacity-small = one-small (o .terms .capacity) 65 80 (omega arith) (omega arith) (new-capacity t message o a)
-
-  class-small : o .terms .class < 256
-  unfolding isClass
-  class-small =
-      let h = new-class t message o a in
-      split (eqb (o .terms .class) 1) (λ e. omega (arith, eqb-true (o .terms .class) 1 e))
-      (λ e. omega (arith, leb-true (o .terms .class) 6 (both-r (leb 3 (o .terms .class)) _ (or-r (eqb (o .terms .class) 1) _ h e))))
-
-  pub capacity-fits : Fits w8 (o .terms .capacity)
-  capacity-fits = omega (arith, capacity-small)
-
-  pub class-fits : Fits w8 (o .terms .class)
-  class-fits = omega (arith, class-small)
+  -- its marks fit their bytes
+  pub marks-small : InBytes (marksOf o)
+  marks-small = marked-bytes (instrumentOf t) (marksOf o) (new-marked t message o a)
 
   pub new-id-short : (xs : List ℕ) → xs ≡ textOf message (o .id) → length xs ≤ 32
-  new-id-short xs e = rw e (enters-spelt _ _ message o (a .asks) .id .short)
+  new-id-short xs e = rw e (enters-spelt _ _ _ message o (a .asks) .id .short)
 
   pub account-short : (xs : List ℕ) → xs ≡ textOf message (o .account) → length xs ≤ 10
-  account-short xs e = rw e (enters-spelt _ _ message o (a .asks) .account .short)
+  account-short xs e = rw e (enters-spelt _ _ _ message o (a .asks) .account .short)
 
   pub new-stamp-short : length (textOf message (o .time)) ≤ 21
-  new-stamp-short = omega (arith, enters-spelt _ _ message o (a .asks) .time .spelt .short)
+  new-stamp-short = omega (arith, enters-spelt _ _ _ message o (a .asks) .time .spelt .short)
 
   module _ (x : Order) (y : x ≡ newOrderOf t message o) where
     pub side-small : x .side < 256
-    side-small = rw y (one-small (o .terms .side) 1 2 (omega arith) (omega arith) (new-sound t message o a .sides))
+    side-small = rw y (side-byte (o .terms .side) (new-sound t message o a .sides))
 
     pub tif-small : x .tif < 256
     tif-small = rw y (force-small (newOrderOf t message o) (new-sound t message o a))
 
   module _ (s : newStands t message o ≡ Stands) (k : ℕ) (g : k ≡ recordFor t) where
     pub enter-told : (n : ℕ) → n ≡ nextOf t → (x : Order) → x ≡ orderWith (o .terms) n → (c : Cause) → c ≡ causeOf (o .time) noText → (u : List ℕ)
-        → u ≡ accepted t k n (textOf message (o .id)) (textOf message (o .account)) (o .terms .capacity) (o .terms .class) x
+        → u ≡ accepted t k n (textOf message (o .id)) (textOf message (o .account)) (marksOf o) x
         → Legible u message n c (Accepted k x)
     enter-told n q x y c b u z = let w = order-new t message o n x q y in rw (z, q, b, g, w) (enter-legible t message o a s)
 
 -- the length after the record is written
-pub accepted-long : (t u id account : List ℕ) (k orderid capacity class : ℕ) (x : Order) → length t ≡ tableBytes
-    → u ≡ accepted t k orderid id account capacity class x → length u ≡ tableBytes
+pub accepted-long : (t u id account : List ℕ) (k orderid : ℕ) (marks : Marks) (x : Order) → length t ≡ tableBytes
+    → u ≡ accepted t k orderid id account marks x → length u ≡ tableBytes
 unfolding accepted
-accepted-long t u id account k orderid capacity class x h e = ap length e ∙ length-put t (128 * k) (recordOf orderid id account capacity class x) ∙ h
+accepted-long t u id account k orderid marks x h e = ap length e ∙ length-put t (128 * k) (recordOf orderid id account marks x) ∙ h
 
 pub replaced-long : (t u id : List ℕ) (e : Event) → length t ≡ tableBytes → u ≡ replaced t id e → length u ≡ tableBytes
 unfolding replaced
@@ -119,10 +114,10 @@ module _ (t message : List ℕ) (o : Replacement) (a : Asking t message (Replace
   replaced-small = below-256 t k (holder-below t (textOf message (o .original)) k h)
 
   pub replaced-id-short : (xs : List ℕ) → xs ≡ textOf message (o .id) → length xs ≤ 32
-  replaced-id-short xs e = rw e (replaces-spelt _ _ message o (a .asks) .id .short)
+  replaced-id-short xs e = rw e (replaces-spelt _ _ _ message o (a .asks) .id .short)
 
   pub replaced-stamp-short : length (textOf message (o .time)) ≤ 21
-  replaced-stamp-short = omega (arith, replaces-spelt _ _ message o (a .asks) .time .spelt .short)
+  replaced-stamp-short = omega (arith, replaces-spelt _ _ _ message o (a .asks) .time .spelt .short)
 
   module _ (s : replaceStands t message o ≡ Stands) (n : ℕ) (q : n ≡ nextOf t) where
     pub renew-due : Due t k (Replaced k (o .level) (o .quantity) n)
@@ -139,7 +134,7 @@ module _ (t message : List ℕ) (o : Cancellation) (a : Asking t message (Cancel
   canceled-few = holder-below t (textOf message (o .original)) k h
 
   pub canceled-id-short : (xs : List ℕ) → xs ≡ textOf message (o .id) → length xs ≤ 32
-  canceled-id-short xs e = rw e (cancels-spelt _ _ message o (a .asks) .id .short)
+  canceled-id-short xs e = rw e (cancels-spelt _ _ _ message o (a .asks) .id .short)
 
   module _ (s : cancelStands t message o ≡ Stands) where
     pub canceled-some : 1 ≤ k

@@ -14,6 +14,7 @@ use Rattle.request.specs.declared.Cancellation.{Cancellation}
 use Rattle.matching.specs.declared.Order.{Order}
 use Rattle.matching.specs.declared.Event.the-variants.{Accepted, Replaced, Withdrawn}
 use Rattle.matching.specs.Matching.{openOf}
+use Rattle.table.specs.declared.record.Marks.{Marks}
 use Rattle.table.specs.Heading.{nextOf, putNext, putWork}
 use Rattle.table.specs.Orders.{orderAt, recordFor, accepted, replaced, withdrawn}
 use Rattle.table.specs.Best.{putBest, clearBest}
@@ -29,7 +30,7 @@ use Rattle.calls.specs.declared.SubmitAnswer.{SubmitAnswer}
 use Rattle.calls.specs.declared.SubmitAnswer.the-variants as answer
 use Rattle.calls.specs.Told.{joined, areaAfter}
 use Rattle.calls.specs.Checks.{textOf}
-use Rattle.calls.specs.Submit.{reported, sentAt, noText, causeOf, rejecting, faulted, newRejected, changeRejected, newOrderOf, newTaken, replacementTaken, cancelTaken}
+use Rattle.calls.specs.Submit.{reported, sentAt, noText, causeOf, marksOf, rejecting, faulted, newRejected, changeRejected, newOrderOf, newTaken, replacementTaken, cancelTaken}
 use Rattle.intake.specs.Intake.{orderWith, Left}
 
 -- ---- one report
@@ -62,10 +63,10 @@ stamp-short message stamp time e h = rw e h
 
 -- ---- a new record
 
-pub written-new : (t u message id account : List ℕ) (k orderid capacity class : ℕ) (o : NewOrder) (x : Order) → id ≡ textOf message (o .id)
-    → account ≡ textOf message (o .account) → u ≡ accepted t k orderid id account capacity class x
-    → u ≡ accepted t k orderid (textOf message (o .id)) (textOf message (o .account)) capacity class x
-written-new t u message id account k orderid capacity class o x i j e = rw (← i, ← j) e
+pub written-new : (t u message id account : List ℕ) (k orderid : ℕ) (marks : Marks) (o : NewOrder) (x : Order) → id ≡ textOf message (o .id)
+    → account ≡ textOf message (o .account) → u ≡ accepted t k orderid id account marks x
+    → u ≡ accepted t k orderid (textOf message (o .id)) (textOf message (o .account)) marks x
+written-new t u message id account k orderid marks o x i j e = rw (← i, ← j) e
 
 -- ---- the cause
 
@@ -115,11 +116,11 @@ module _ (t message area after : List ℕ) (len n : ℕ) (u : List ℕ) (q : n �
 module _ (t message area after : List ℕ) (len n : ℕ) (q : n ≡ nextOf t) (c : Cause) where
   -- a new order
   module _ (o : NewOrder) (b : c ≡ causeOf (o .time) noText) (k : ℕ) (g : k ≡ recordFor t) (x : Order) (y : x ≡ orderWith (o .terms) n) (u : List ℕ)
-      (z : u ≡ accepted t k n (textOf message (o .id)) (textOf message (o .account)) (o .terms .capacity) (o .terms .class) x) where
+      (z : u ≡ accepted t k n (textOf message (o .id)) (textOf message (o .account)) (marksOf o) x) where
     order-is : x ≡ newOrderOf t message o
     order-is = y ∙ rw q
 
-    after-is : u ≡ accepted t (recordFor t) (nextOf t) (textOf message (o .id)) (textOf message (o .account)) (o .terms .capacity) (o .terms .class)
+    after-is : u ≡ accepted t (recordFor t) (nextOf t) (textOf message (o .id)) (textOf message (o .account)) (marksOf o)
         (newOrderOf t message o)
     after-is = z ∙ rw (g, q, order-is)
 

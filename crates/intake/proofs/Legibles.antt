@@ -25,7 +25,7 @@ use Rattle.matching.specs.declared.Event.the-variants.{Accepted, Replaced, With
 use Rattle.matching.specs.Matching.{at, openOf}
 use Rattle.matching.specs.Held.{Ready}
 use Rattle.table.specs.Places.{tableBytes}
-use Rattle.table.specs.Heading.{nextOf, isListed}
+use Rattle.table.specs.Heading.{nextOf, instrumentOf, isListed}
 use Rattle.table.specs.Orders.{orderAt, bookOf, recordFor, accepted, replaced, withdrawn}
 use Rattle.table.specs.Market.{isPrintable}
 use Rattle.table.specs.Facts.{Due}
@@ -39,9 +39,9 @@ use Rattle.ticket.proofs.Taking.{sent-text, sent-placed, new-legible, replaced-
 use Rattle.calls.specs.declared.Standing.{Standing}
 use Rattle.calls.specs.declared.Standing.the-variants.{Stands, Fails}
 use Rattle.calls.specs.Checks.{textOf, holder, inTable, isCode, newStands, changeStands, cancelStands, andAbove, replaceStands}
-use Rattle.calls.specs.Submit.{sentAt, noText, causeOf, newOrderOf}
+use Rattle.calls.specs.Submit.{sentAt, noText, causeOf, marksOf, newOrderOf}
 use Rattle.intake.specs.Intake.{Asking, Unmet}
-use Rattle.intake.proofs.Standing.{between-printable, between-digits, holder-few, new-named, new-account, new-account-short, new-capacity, new-class, new-enters, new-time, cancel-in, cancel-at, cancel-named, replace-in, replace-named, replace-renews}
+use Rattle.intake.proofs.Standing.{between-printable, between-symbols, holder-few, side-is, new-named, new-account, new-account-short, new-quoted, new-marked, new-enters, new-time, cancel-in, cancel-at, cancel-named, replace-in, replace-named, replace-quoted, replace-renews}
 
 -- ---- texts of the message
 
@@ -62,12 +62,12 @@ module _ (t message : List ℕ) (o : NewOrder) (a : Asking t message (Enters o))
   -- taken: on the table with its record
   pub enter-legible : newStands t message o ≡ Stands
       → Legible
-      (accepted t (recordFor t) (nextOf t) (textOf message (o .id)) (textOf message (o .account)) (o .terms .capacity) (o .terms .class) (newOrderOf t message o))
+      (accepted t (recordFor t) (nextOf t) (textOf message (o .id)) (textOf message (o .account)) (marksOf o) (newOrderOf t message o))
       message (nextOf t) (causeOf (o .time) noText) (Accepted (recordFor t) (newOrderOf t message o))
   enter-legible s =
-      new-legible t message (recordFor t) (textOf message (o .id)) (textOf message (o .account)) (o .terms .capacity) (o .terms .class) (newOrderOf t message o)
+      new-legible t message (recordFor t) (textOf message (o .id)) (textOf message (o .account)) (marksOf o) (newOrderOf t message o)
       (causeOf (o .time) noText) (a .market) (a .idle) (new-named t message o a s) (new-account-short t message o a) (new-account t message o a)
-      (new-capacity t message o a) (new-class t message o a) (new-enters t message o a s)
+      (new-marked t message o a) (new-quoted t message o a) (new-enters t message o a s)
       (rw (sent-text message _ (o .time .start) (o .time .len)) (new-time t message o a))
 
   -- the reasons for which it is rejected
@@ -89,14 +89,14 @@ module _ (t message : List ℕ) (o : NewOrder) (a : Asking t message (Enters o))
       (record { id = sentAt (o .id); quantity = o .terms .quantity; side = o .terms .side; code = sentAt (o .code); reason = reason })
   unfolding oneOf
   refused-legible reason e =
-      let w = enters-spelt _ _ message o (a .asks) in
-      let r = enters-right _ _ message o (a .asks) in
+      let w = enters-spelt _ _ _ message o (a .asks) in
+      let r = enters-right _ _ _ message o (a .asks) in
       record {
         heading = asking-headed t message (Enters o) (o .time) a (w .time .right);
         clOrdId = spelt-placed message t (o .id) 1 32 (w .id);
-        code = sent-placed message t (o .code .start) (o .code .len) _ 1 9 (w .code .some) (omega (arith, w .code .long, w .code .short)) (between-digits _ (w .code .bytes));
+        code = sent-placed message t (o .code .start) (o .code .len) _ 1 9 (w .code .some) (omega (arith, w .code .long, w .code .short)) (between-symbols (instrumentOf t) _ (w .code .bytes));
         quantity = r .sized .quantity-high;
-        side = r .sized .side-is;
+        side = side-is (instrumentOf t) (o .terms .side) (r .sized .side-is);
         reason = new-reason reason e;
       }
 
@@ -133,7 +133,7 @@ module _ (t message : List ℕ) (o : Cancellation) (a : Asking t message (Cancel
   pub cancel-unmet : (reason : ℕ) → cancelStands t message o ≡ Fails reason → Unmet t message (o .time) (o .id) (o .original) k reason 1
   unfolding cancelStands
   cancel-unmet reason e =
-      let w = cancels-spelt _ _ message o (a .asks) in
+      let w = cancels-spelt _ _ _ message o (a .asks) in
       record {
         market = a .market;
         numbers = a .numbers;
@@ -161,7 +161,7 @@ module _ (t message : List ℕ) (o : Cancellation) (a : Asking t message (Cancel
     pub cancel-legible : Legible (withdrawn t (textOf message (o .id)) (Withdrawn k (openOf (orderAt t k)))) message (nextOf t)
         (causeOf (o .time) (sentAt (o .original))) (Withdrawn k (openOf (orderAt t k)))
     cancel-legible =
-        let w = cancels-spelt _ _ message o (a .asks) in
+        let w = cancels-spelt _ _ _ message o (a .asks) in
         withdrawn-legible t message (textOf message (o .id)) k (causeOf (o .time) (sentAt (o .original))) (a .market) (a .idle)
         (cancel-in t message o a k q s) (cancel-named t message o a k q s) (a .numbers)
         (rw (sent-text message _ (o .time .start) (o .time .len)) (w .time .right)) (spelt-placed message _ (o .original) 1 32 (w .original))
@@ -171,7 +171,7 @@ module _ (t message : List ℕ) (o : Replacement) (a : Asking t message (Replace
   pub replace-unmet : (reason : ℕ) → replaceStands t message o ≡ Fails reason → Unmet t message (o .time) (o .id) (o .original) k reason 2
   unfolding replaceStands
   replace-unmet reason e =
-      let w = replaces-spelt _ _ message o (a .asks) in
+      let w = replaces-spelt _ _ _ message o (a .asks) in
       record {
         market = a .market;
         numbers = a .numbers;
@@ -195,9 +195,9 @@ module _ (t message : List ℕ) (o : Replacement) (a : Asking t message (Replace
     pub replace-legible : Legible (replaced t (textOf message (o .id)) (Replaced k (o .level) (o .quantity) (nextOf t))) message (nextOf t)
         (causeOf (o .time) (sentAt (o .original))) (Replaced k (o .level) (o .quantity) (nextOf t))
     replace-legible =
-        let w = replaces-spelt _ _ message o (a .asks) in
+        let w = replaces-spelt _ _ _ message o (a .asks) in
         replaced-legible t message (textOf message (o .id)) k (causeOf (o .time) (sentAt (o .original))) (a .market) (a .idle)
-        (replace-in t message o a k q s) (replace-named t message o a k q s) (o .level) (o .quantity) (nextOf t) (replace-renews t message o a k q s)
+        (replace-in t message o a k q s) (replace-named t message o a k q s) (o .level) (o .quantity) (nextOf t) (replace-renews t message o a k q s) (replace-quoted t message o a)
         (rw (sent-text message _ (o .time .start) (o .time .len)) (w .time .right)) (spelt-placed message _ (o .original) 1 32 (w .original))
 
 -- either, rejected
@@ -225,7 +225,7 @@ pub fault-legible : (t message : List ℕ) (r : Refusal) → Asking t message (R
     → LegibleFaulty t message (nextOf t) (sentAt (r .time)) (record { sequence = r .number; tag = r .tag; kind = sentAt (r .kind); reason = r .reason })
 unfolding oneOf
 fault-legible t message r a =
-    let w = refused-spelt _ _ message r (a .asks) in
+    let w = refused-spelt _ _ _ message r (a .asks) in
     record {
       heading = asking-headed t message (Refused r) (r .time) a (w .time .right);
       sequence-low = w .number-low;

@@ -9,7 +9,10 @@ use lib.Dec.{eqb, ltb}
 use lib.ListN.{length}
 use borrow.Author.Tests.{eqb-true, eqb-false, ltb-true, ltb-false, le-leb, lt-ltb, not-false}
 use Rattle.octets.specs.Octets.{sameBytes}
-use Rattle.octets.proofs.Bools.{split, both-i, or-l, or-r, neither-l, neither-r}
+use Rattle.octets.proofs.Bools.{split, both-i, or-l, or-r, neither-l, neither-r, not-both}
+use Rattle.decimal.specs.declared.Instrument.{Instrument}
+use Rattle.decimal.specs.declared.Instrument.the-variants.{Bonds, Equities}
+use Rattle.decimal.specs.Instruments.{highest}
 use Rattle.decimal.specs.Reading.{isDigit, isTime}
 use Rattle.fix.proofs.Values.{Between}
 use Rattle.request.specs.declared.NewOrder.{NewOrder}
@@ -17,21 +20,25 @@ use Rattle.request.specs.declared.Replacement.{Replacement}
 use Rattle.request.specs.declared.Cancellation.{Cancellation}
 use Rattle.request.specs.declared.Asked.the-variants.{Enters, Replaces, Cancels}
 use Rattle.request.specs.Session.{oneOf}
-use Rattle.request.proofs.Requests.{NewRight, enters-right, replaces-right}
-use Rattle.request.proofs.Saying.{NewSpelt, enters-spelt, ReplacementSpelt, replaces-spelt, CancelSpelt, cancels-spelt}
-use Rattle.matching.specs.Matching.{at, openOf}
+use Rattle.request.proofs.Told.{sides}
+use Rattle.request.proofs.Requests.{isCashOf, NewRight, enters-right, replaces-right}
+use Rattle.request.proofs.Saying.{codeLow, codeHigh, NewSpelt, enters-spelt, ReplacementSpelt, replaces-spelt, CancelSpelt, cancels-spelt}
+use Rattle.matching.specs.Matching.{at, openOf, isSideOf}
 use Rattle.matching.specs.Held.{mayMinimum, Sound, In, Enters as Entering, Renews}
-use Rattle.table.specs.Heading.{codeOf, nextOf, isListed}
+use Rattle.matching.specs.Quoted.{Quoted}
+use Rattle.matching.proofs.Quoting.{side-any, highest-most, quoted-new}
+use Rattle.table.specs.Heading.{codeOf, nextOf, instrumentOf, isListed}
 use Rattle.table.specs.Orders.{orderAt, filled, bookOf, recordWith, recordFor}
-use Rattle.table.specs.Market.{every, isPrintable, isCapacity, isClass}
+use Rattle.table.specs.Market.{every, isPrintable, isCapacity, isClass, isCash, isMarked}
 use Rattle.table.specs.Facts.{Named}
 use Rattle.table.proofs.Books.{length-book, at-book}
 use Rattle.table.proofs.Same.{filled-few}
 use Rattle.table.proofs.Lookups.{record-none, record-found, record-for-takes, record-for-small}
+use Rattle.ticket.specs.Legible.{isSymbolCharacter}
 use Rattle.calls.specs.declared.Standing.{Standing}
 use Rattle.calls.specs.declared.Standing.the-variants.{Stands, Fails}
 use Rattle.calls.specs.Checks.{textOf, holder, inTable, isCode, newStands, changeStands, cancelStands, andAbove, replaceStands}
-use Rattle.calls.specs.Submit.{newOrderOf}
+use Rattle.calls.specs.Submit.{marksOf, newOrderOf}
 use Rattle.intake.specs.Intake.{Asking}
 
 -- ---- texts of the message
@@ -49,6 +56,12 @@ between-printable xs h = between-every isPrintable 32 126 (λ x a b. both-i (le-
 pub between-digits : (xs : List ℕ) → Between 48 57 xs → every isDigit xs ≡ true
 unfolding isDigit
 between-digits xs h = between-every isDigit 48 57 (λ x a b. both-i (le-leb 48 x a) (le-leb x 57 b)) xs h
+
+-- each character of a 55 is one that a bond's code, or a share's symbol, may have in a message
+pub between-symbols : (q : Instrument) (xs : List ℕ) → Between (codeLow q) (codeHigh q) xs → every (isSymbolCharacter q) xs ≡ true
+unfolding isSymbolCharacter
+between-symbols Bonds xs h = between-digits xs h
+between-symbols Equities xs h = between-printable xs h
 
 -- ---- who has a ClOrdID
 
@@ -155,12 +168,35 @@ one-capacity : (x : ℕ) → oneOf x (65 ∷ 80 ∷ []) ≡ true → isCapacity 
 unfolding isCapacity
 one-capacity x h = one-of-two x 65 80 h
 
-module _ (t message : List ℕ) (o : NewOrder) (a : Asking t message (Enters o)) where
-  new-right : NewRight o
-  new-right = enters-right _ _ message o (a .asks)
+-- a side that a message may have is one of the market's
+pub side-is : (q : Instrument) (x : ℕ) → oneOf x (sides q) ≡ true → isSideOf q x ≡ true
+unfolding oneOf isSideOf
+side-is Bonds x h = one-of-two x 1 2 h
+side-is Equities x h =
+    split (eqb x 1) (λ a. rw a)
+    (λ a. split (eqb x 2) (λ b. rw (a, b))
+    (λ b. split (eqb x 5) (λ c. rw (a, b, c))
+    (λ c. split (eqb x 6) (λ d. rw (a, b, c, d)) (λ d. absurd (not-both (rw (a, b, c, d) at h) refl)))))
 
-  new-said : NewSpelt message o
-  new-said = enters-spelt _ _ message o (a .asks)
+-- and so are its 544 and 8214
+cash-is : (q : Instrument) (cash margin : ℕ) → isCashOf q cash margin ≡ true → isCash q cash margin ≡ true
+unfolding isCash
+cash-is Bonds cash margin h = h
+cash-is Equities cash margin h = h
+
+module _ (t message : List ℕ) (o : NewOrder) (a : Asking t message (Enters o)) where
+  new-right : NewRight (instrumentOf t) o
+  new-right = enters-right _ _ _ message o (a .asks)
+
+  new-said : NewSpelt (instrumentOf t) message o
+  new-said = enters-spelt _ _ _ message o (a .asks)
+
+  -- its side and level are the market's
+  new-side : isSideOf (instrumentOf t) (o .terms .side) ≡ true
+  new-side = side-is (instrumentOf t) (o .terms .side) (new-right .sized .side-is)
+
+  pub new-quoted : Quoted (instrumentOf t) (newOrderOf t message o)
+  new-quoted = quoted-new (instrumentOf t) (newOrderOf t message o) new-side (new-right .sized .level-high) refl
 
   -- its order is in range
   pub new-sound : Sound (newOrderOf t message o)
@@ -168,11 +204,11 @@ module _ (t message : List ℕ) (o : NewOrder) (a : Asking t message (Enters o))
   new-sound =
       let r = new-right in
       record {
-        sides = one-of-two (o .terms .side) 1 2 (r .sized .side-is);
+        sides = side-any (instrumentOf t) (o .terms .side) new-side;
         tifs = one-of-three (o .terms .tif) 0 3 4 (r .tif-is);
         minimum = r .minqty-is;
         level-low = r .sized .level-low;
-        level-high = omega (arith, r .sized .level-high);
+        level-high = omega (arith, r .sized .level-high, highest-most (instrumentOf t));
         qty-low = r .sized .quantity-low;
         qty-high = omega (arith, r .sized .quantity-high);
         covered = omega arith;
@@ -182,11 +218,12 @@ module _ (t message : List ℕ) (o : NewOrder) (a : Asking t message (Enters o))
         place-low = a .market .next-low;
       }
 
-  pub new-capacity : isCapacity (o .terms .capacity) ≡ true
-  new-capacity = one-capacity (o .terms .capacity) (new-right .capacity-is)
-
-  pub new-class : isClass (o .terms .class) ≡ true
-  new-class = one-class (o .terms .class) (new-right .class-is)
+  -- and so are its marks
+  pub new-marked : isMarked (instrumentOf t) (marksOf o) ≡ true
+  unfolding isMarked
+  new-marked =
+      both-i (both-i (one-capacity (o .terms .capacity) (new-right .capacity-is)) (one-class (o .terms .class) (new-right .class-is)))
+      (cash-is (instrumentOf t) (o .terms .cash) (o .terms .margin) (new-right .cash-is))
 
   pub new-account : every isPrintable (textOf message (o .account)) ≡ true
   new-account = between-printable _ (new-said .account .bytes)
@@ -269,8 +306,8 @@ replace-both t message o k q e = above-both t k (o .quantity) _ (rw q e)
 
 module _ (t message : List ℕ) (o : Cancellation) (a : Asking t message (Cancels o)) (k : ℕ) (q : k ≡ holder t (textOf message (o .original)))
     (s : cancelStands t message o ≡ Stands) where
-  cancel-said : CancelSpelt message o
-  cancel-said = cancels-spelt _ _ message o (a .asks)
+  cancel-said : CancelSpelt (instrumentOf t) message o
+  cancel-said = cancels-spelt _ _ _ message o (a .asks)
 
   pub cancel-in : In (bookOf t) k
   cancel-in = holder-in t (textOf message (o .original)) k q (cancel-holds t message o k q s .known)
@@ -282,10 +319,14 @@ module _ (t message : List ℕ) (o : Cancellation) (a : Asking t message (Cancel
   cancel-named =
       named t (textOf message (o .id)) (cancel-holds t message o k q s .fresh) (cancel-said .id .some) (cancel-said .id .short) (between-printable _ (cancel-said .id .bytes))
 
+-- its level is one of the market's
+pub replace-quoted : (t message : List ℕ) (o : Replacement) → Asking t message (Replaces o) → o .level ≤ highest (instrumentOf t)
+replace-quoted t message o a = replaces-right _ _ _ message o (a .asks) .level-high
+
 module _ (t message : List ℕ) (o : Replacement) (a : Asking t message (Replaces o)) (k : ℕ) (q : k ≡ holder t (textOf message (o .original)))
     (s : replaceStands t message o ≡ Stands) where
-  replace-said : ReplacementSpelt message o
-  replace-said = replaces-spelt _ _ message o (a .asks)
+  replace-said : ReplacementSpelt (instrumentOf t) message o
+  replace-said = replaces-spelt _ _ _ message o (a .asks)
 
   replace-holds : ChangeHolds t k (textOf message (o .code)) (textOf message (o .id)) (o .side)
   replace-holds = change-holds t k _ _ _ (replace-both t message o k q s .0)
@@ -304,7 +345,7 @@ module _ (t message : List ℕ) (o : Replacement) (a : Asking t message (Replace
 
   pub replace-renews : Renews (nextOf t) (bookOf t) k (o .level) (o .quantity) (nextOf t)
   replace-renews =
-      let r = replaces-right _ _ message o (a .asks) in
+      let r = replaces-right _ _ _ message o (a .asks) in
       let e = replace-at in
       record {
         inside = replace-in;
@@ -312,7 +353,7 @@ module _ (t message : List ℕ) (o : Replacement) (a : Asking t message (Replace
         above = rw e (replace-both t message o k q s .1);
         qty-high = omega (arith, r .quantity-high);
         level-low = r .level-low;
-        level-high = omega (arith, r .level-high);
+        level-high = omega (arith, r .level-high, highest-most (instrumentOf t));
         newest = refl;
         place-low = a .market .next-low;
         filled = omega (arith, length-book t, filled-few t);

@@ -9,7 +9,7 @@ use Rattle.request.specs.declared.Terms.{Terms}
 use Rattle.request.specs.declared.Asked.{Asked}
 use Rattle.request.specs.Asks.{askedOf}
 use Rattle.matching.specs.declared.Order.{Order}
-use Rattle.table.specs.Heading.{venueOf, portOf, nextOf, workOf}
+use Rattle.table.specs.Heading.{venueOf, portOf, nextOf, workOf, instrumentOf}
 use Rattle.table.specs.Orders.{filled}
 use Rattle.table.specs.Market.{isPrintable}
 use Rattle.table.specs.Facts.{Market}
@@ -24,7 +24,7 @@ pub record Asking (t message : List ℕ) (a : Asked) : Type 0 where
   pub market : Market t
   pub idle : workOf t ≡ 0
   pub numbers : nextOf t ≤ 999998976
-  pub asks : askedOf (venueOf t) (portOf t) message ≡ a
+  pub asks : askedOf (instrumentOf t) (venueOf t) (portOf t) message ≡ a
 
 -- a cancel or a replacement of such a market's record k, or of none, that is rejected
 pub record Unmet (t message : List ℕ) (time id original : Part) (k reason response : ℕ) : Type 0 where

@@ -1,4 +1,4 @@
-// Submit: one message is taken or refused, and its first report is written.
+// Submit: one message is taken or refused, and its first report is written, on a market of bonds or of equities.
 mod checks;
 mod handle;
 mod rejects;
@@ -8,8 +8,9 @@ ghost use mathlib.Core.Path.{_≡_};
 ghost use lib.ListN.{length};
 ghost use Rattle.calls.specs.Told.{areaAfter};
 ghost use Rattle.calls.specs.Submit.{submitted};
-use audit::is_market;
+use audit::is_market_of;
 use calls::SubmitAnswer;
+use decimal::Instrument;
 use handle::handle;
 use request::asks::asked;
 use table::heading::next;
@@ -18,15 +19,15 @@ use table::heading::venue;
 use table::heading::work;
 
 // One message is submitted, and its report, if it has one, is written at the start of the report area.
-pub fn submit(table: &mut [u8], message: &[u8], area: &mut [u8]) -> SubmitAnswer
-    ensures { λ r. ⌜ r ≡ submitted (now (table .entry)) (now (message .entry)) (length (now (area .entry))) .answer ⌝ }
-    ensures { λ r. ⌜ now (table .exit) ≡ submitted (now (table .entry)) (now (message .entry)) (length (now (area .entry))) .table ⌝ }
-    ensures { λ r. ⌜ now (area .exit) ≡ areaAfter (now (area .entry)) (submitted (now (table .entry)) (now (message .entry)) (length (now (area .entry))) .reports) ⌝ }
+pub fn submit(q: Instrument, table: &mut [u8], message: &[u8], area: &mut [u8]) -> SubmitAnswer
+    ensures { λ r. ⌜ r ≡ submitted q (now (table .entry)) (now (message .entry)) (length (now (area .entry))) .answer ⌝ }
+    ensures { λ r. ⌜ now (table .exit) ≡ submitted q (now (table .entry)) (now (message .entry)) (length (now (area .entry))) .table ⌝ }
+    ensures { λ r. ⌜ now (area .exit) ≡ areaAfter (now (area .entry)) (submitted q (now (table .entry)) (now (message .entry)) (length (now (area .entry))) .reports) ⌝ }
 {
     if area.len() < 1024 {
         return SubmitAnswer::NoRoom;
     }
-    if !is_market(table) {
+    if !is_market_of(q, table) {
         return SubmitAnswer::NoMarket;
     }
     if work(table) != 0 {
@@ -35,6 +36,6 @@ pub fn submit(table: &mut [u8], message: &[u8], area: &mut [u8]) -> SubmitAnswer
     if 999998976 < next(table) {
         return SubmitAnswer::NumbersSpent;
     }
-    let a = asked(venue(table), port(table), message);
+    let a = asked(q, venue(table), port(table), message);
     handle(table, message, area, a)
 }

@@ -14,7 +14,7 @@ ghost use Rattle.table.specs.Facts.{Market};
 ghost use Rattle.table.specs.Changes.{numbered};
 ghost use Rattle.calls.specs.declared.Standing.the-variants.{Stands};
 ghost use Rattle.calls.specs.Checks.{textOf, holder, newStands, cancelStands, replaceStands};
-ghost use Rattle.calls.specs.Submit.{sentAt, noText, causeOf, newOrderOf, newTaken, replacementTaken, cancelTaken};
+ghost use Rattle.calls.specs.Submit.{sentAt, noText, causeOf, marksOf, newOrderOf, newTaken, replacementTaken, cancelTaken};
 ghost use Rattle.intake.specs.Intake.{orderWith, Asking, Left};
 use crate::checks::record_for;
 use crate::checks::text_of;
@@ -32,6 +32,7 @@ use table::best::put_best;
 use table::heading::next;
 use table::heading::put_next;
 use table::heading::put_work;
+use table::record::Marks;
 use table::record::accept;
 use table::record::load;
 use ticket::Cause;
@@ -121,18 +122,21 @@ fn new_order(terms: Terms, place: u64) -> Order
 fn write_new(t: &mut [u8], message: &[u8], k: usize, orderid: u64, o: NewOrder, order: Order)
     requires { ⌜ Asking (now t) (now message) (Enters o) × (k < 256) × (order ≡ newOrderOf (now t) (now message) o) ⌝ }
     ensures { λ _. ⌜ now (t .exit) ≡ accepted (now (t .entry)) k orderid (textOf (now (message .entry)) (o .id)) (textOf (now (message .entry)) (o .account))
-        (o .terms .capacity) (o .terms .class) order ⌝ }
+        (marksOf o) order ⌝ }
 {
-    let capacity = o.terms.capacity as u8;
-    let class = o.terms.class as u8;
+    let marks = Marks {
+        capacity: o.terms.capacity,
+        class: o.terms.class,
+        cash: o.terms.cash,
+        margin: o.terms.margin,
+    };
     accept(
         t,
         k,
         orderid,
         text_of(message, o.id),
         text_of(message, o.account),
-        capacity,
-        class,
+        marks,
         order,
     );
 }

@@ -1,3 +1,3 @@
 -- The laws of `kamurjesh`. Nothing here need be believed.
--- Yields: a level as a signed yield.
-pub mod Yields
+-- Quotes: a level as a signed yield or price.
+pub mod Quotes

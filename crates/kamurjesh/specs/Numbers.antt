@@ -1,7 +1,10 @@
 -- The numbers that the C interface gives for a level that Depth finds and for the place of a field, each 0 where there is nothing to
--- say (document 01, "The table and its calls"). The yield is signed, in thousandths. Assumes nothing.
+-- say (document 01, "The table and its calls"; document 02, T-08). The yield is signed, in thousandths; so is the price, in tenths, though
+-- it is never below zero. Assumes nothing.
 use Prim.Native.Nat.{ℕ}
 use lib.IntN.{ℤ, pos, subℕ}
+use Rattle.decimal.specs.declared.Instrument.{Instrument}
+use Rattle.decimal.specs.declared.Instrument.the-variants.{Bonds, Equities}
 use Rattle.matching.specs.declared.Depth.{Depth}
 use Rattle.matching.specs.declared.Depth.the-variants.{Level, NoLevel}
 use Rattle.market.specs.declared.DepthAnswer.{DepthAnswer}
@@ -18,10 +21,14 @@ levelIn InWork = NoLevel
 levelIn BadSide = NoLevel
 levelIn (Found d) = d
 
--- its yield in thousandths: a level is 1,000,000,000 and the yield
-abbrev pub yieldOf : Depth → ℤ
-yieldOf (Level level total orders) = subℕ level 1_000_000_000
-yieldOf NoLevel = pos 0
+-- the yield in thousandths, which is the level less 1,000,000,000; the price in tenths, which is 1,000,000,000 less the level
+unfoldable pub signedOf : Instrument → ℕ → ℤ
+signedOf Bonds level = subℕ level 1_000_000_000
+signedOf Equities level = subℕ 1_000_000_000 level
+
+unfoldable pub quoteOf : Instrument → Depth → ℤ
+quoteOf q (Level level total orders) = signedOf q level
+quoteOf q NoLevel = pos 0
 
 -- ---- the place of a field
 

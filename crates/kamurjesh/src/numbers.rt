@@ -1,7 +1,6 @@
 // Answers as numbers.
 ghost use mathlib.Core.Path.{_≡_};
 ghost use Prim.Native.Nat.{_≤_};
-ghost use lib.IntN.{subℕ};
 ghost use Rattle.matching.specs.Depth.{totalOf, ordersOf};
 ghost use Rattle.market.specs.Depth.{hasLevel, levelIs, depthNumber};
 ghost use Rattle.calls.specs.Open.{openNumberOf};
@@ -9,10 +8,11 @@ ghost use Rattle.calls.specs.Submit.{submitNumber, submitLength};
 ghost use Rattle.calls.specs.Run.{runNumber, runBytes, runReports, runSteps};
 ghost use Rattle.calls.specs.Read.{readNumber, kindNumber};
 ghost use Rattle.feed.specs.Copies.{copyNumber, copyLength, copyNext};
-ghost use Rattle.kamurjesh.specs.Numbers.{levelIn, yieldOf, isThere, startOf, lenOf};
+ghost use Rattle.kamurjesh.specs.Numbers.{levelIn, signedOf, quoteOf, isThere, startOf, lenOf};
 use calls::OpenAnswer;
 use calls::RunAnswer;
 use calls::SubmitAnswer;
+use decimal::Instrument;
 use feed::CopyAnswer;
 use market::DepthAnswer;
 use matching::Depth;
@@ -161,25 +161,28 @@ pub fn has_level(level: Depth) -> u64
     }
 }
 
-// The yield of a level in thousandths.
-fn thousandths(level: u64) -> i64
+// The yield of a level in thousandths, or the price in tenths.
+fn signed(q: Instrument, level: u64) -> i64
     requires { ⌜ level ≤ 1_999_999_999 ⌝ }
-    ensures { λ r. ⌜ r ≡ subℕ level 1_000_000_000 ⌝ }
+    ensures { λ r. ⌜ r ≡ signedOf q level ⌝ }
 {
-    level as i64 - 1000000000
+    match q {
+        Instrument::Bonds => level as i64 - 1000000000,
+        Instrument::Equities => 1000000000 - level as i64,
+    }
 }
 
-// Its yield in thousandths.
-pub fn yield_of(level: Depth) -> i64
+// Its yield in thousandths, or its price in tenths.
+pub fn quote_of(q: Instrument, level: Depth) -> i64
     requires { ⌜ levelIs level ≤ 1_999_999_999 ⌝ }
-    ensures { λ r. ⌜ r ≡ yieldOf level ⌝ }
+    ensures { λ r. ⌜ r ≡ quoteOf q level ⌝ }
 {
     match level {
         Depth::Level {
             level: l,
             total: _,
             orders: _,
-        } => thousandths(l),
+        } => signed(q, l),
         Depth::NoLevel => 0,
     }
 }

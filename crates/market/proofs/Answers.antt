@@ -7,13 +7,15 @@ use native.Mathlib.Omega.{arith}
 use lib.Dec.{eqb}
 use lib.ListN.{length}
 use borrow.Author.Tests.{eq-eqb, ne-eqb}
+use Rattle.decimal.specs.declared.Instrument.{Instrument}
 use Rattle.matching.specs.declared.Depth.{Depth}
 use Rattle.matching.specs.Depth.{depth}
 use Rattle.table.specs.Places.{tableBytes}
 use Rattle.table.specs.Heading.{workOf}
 use Rattle.table.specs.Orders.{bookOf}
-use Rattle.table.specs.Market.{isMarket}
+use Rattle.table.specs.Market.{isMarketOf}
 use Rattle.table.specs.Facts.{Market}
+use Rattle.table.proofs.Instruments.{of-market}
 use Rattle.table.proofs.Facts.{market-facts}
 use Rattle.octets.proofs.Bools.{split}
 use Rattle.table.specs.Opened.{isOpening, openNumber}
@@ -23,15 +25,15 @@ use Rattle.market.specs.declared.DepthAnswer.the-variants.{NoMarket, InW
 use Rattle.market.specs.Depth.{isSide, depthAnswer}
 
 -- what the check of a market says
-module _ (t : List ℕ) (f : Bool) (p : f ≡ isMarket t) where
-  no-market : not f ≡ true → not (isMarket t) ≡ true
+module _ (i : Instrument) (t : List ℕ) (f : Bool) (p : f ≡ isMarketOf i t) where
+  no-market : not f ≡ true → not (isMarketOf i t) ≡ true
   no-market h = rw (← p) h
 
-  some-market : not f ≡ false → not (isMarket t) ≡ false
+  some-market : not f ≡ false → not (isMarketOf i t) ≡ false
   some-market h = rw (← p) h
 
   pub checked : not f ≡ false → Market t
-  checked h = market-facts t (sym p ∙ yes f h)
+  checked h = market-facts t (of-market i t (sym p ∙ yes f h))
     where
       yes : (b : Bool) → not b ≡ false → b ≡ true
       yes true e = refl
@@ -42,37 +44,37 @@ module _ (t : List ℕ) (f : Bool) (p : f ≡ isMarket t) where
 
 -- ---- Depth
 
-module _ (t : List ℕ) (side k : ℕ) (f : Bool) (p : f ≡ isMarket t) where
-  pub depth-none : not f ≡ true → NoMarket ≡ depthAnswer t side k
+module _ (i : Instrument) (t : List ℕ) (side k : ℕ) (f : Bool) (p : f ≡ isMarketOf i t) where
+  pub depth-none : not f ≡ true → NoMarket ≡ depthAnswer i t side k
   unfolding depthAnswer
-  depth-none h = rw (no-market t f p h)
+  depth-none h = rw (no-market i t f p h)
 
   module _ (m : not f ≡ false) (w : ℕ) (q : w ≡ workOf t) where
-    pub depth-busy : 0 < w → InWork ≡ depthAnswer t side k
+    pub depth-busy : 0 < w → InWork ≡ depthAnswer i t side k
     unfolding depthAnswer
-    depth-busy h = rw (some-market t f p m, ← q, ne-eqb w 0 (λ e. omega arith))
+    depth-busy h = rw (some-market i t f p m, ← q, ne-eqb w 0 (λ e. omega arith))
 
     module _ (z : w ≤ 0) (g : Bool) (s : g ≡ isSide side) where
       idle : eqb (workOf t) 0 ≡ true
       idle = eq-eqb (workOf t) 0 (omega arith)
 
-      pub depth-bad : not g ≡ true → BadSide ≡ depthAnswer t side k
+      pub depth-bad : not g ≡ true → BadSide ≡ depthAnswer i t side k
       unfolding depthAnswer
-      depth-bad h = rw (some-market t f p m, idle, ← s, h)
+      depth-bad h = rw (some-market i t f p m, idle, ← s, h)
 
-      pub depth-found : not g ≡ false → (d : Depth) → d ≡ depth (bookOf t) side k → Found d ≡ depthAnswer t side k
+      pub depth-found : not g ≡ false → (d : Depth) → d ≡ depth (bookOf t) side k → Found d ≡ depthAnswer i t side k
       unfolding depthAnswer
-      depth-found h d e = rw (some-market t f p m, idle, ← s, h, e)
+      depth-found h d e = rw (some-market i t f p m, idle, ← s, h, e)
 
 -- ---- Open
 
-module _ (t venue port code : List ℕ) (first : ℕ) (mpids modes : List ℕ) (n : ℕ) (e : n ≡ openNumber t venue port code first mpids modes) where
-  pub open-taken : n ≡ 0 → Opened ≡ openAnswer t venue port code first mpids modes
+module _ (i : Instrument) (t venue port code : List ℕ) (first : ℕ) (mpids modes : List ℕ) (n : ℕ) (e : n ≡ openNumber i t venue port code first mpids modes) where
+  pub open-taken : n ≡ 0 → Opened ≡ openAnswer i t venue port code first mpids modes
   unfolding openAnswer openNumber
   open-taken z =
-      split (isOpening t venue port code first mpids modes) (λ h. rw h)
+      split (isOpening i t venue port code first mpids modes) (λ h. rw h)
       (λ h. let q : n ≡ 9 = e ∙ rw h in let f : ⊥ = omega arith in absurd f)
 
-  pub open-refused : (n ≡ 0 → ⊥) → BadSetting ≡ openAnswer t venue port code first mpids modes
+  pub open-refused : (n ≡ 0 → ⊥) → BadSetting ≡ openAnswer i t venue port code first mpids modes
   unfolding openAnswer openNumber
-  open-refused d = split (isOpening t venue port code first mpids modes) (λ h. absurd (d (e ∙ rw h))) (λ h. rw h)
+  open-refused d = split (isOpening i t venue port code first mpids modes) (λ h. absurd (d (e ∙ rw h))) (λ h. rw h)

@@ -1,7 +1,7 @@
 -- The laws that looking for a level wants: the next level, an order on and at the end; the levels one after another; the
 -- sums of a level, an order on and at the end.
 use mathlib.Core.Path.{_≡_, refl, sym, ap, _∙_}
-use mathlib.Core.Bool.{Bool, true, false, cond}
+use mathlib.Core.Bool.{Bool, true, false, cond, _&&_, _||_}
 use mathlib.Core.List.{List}
 use mathlib.Core.Logic.{⊎-elim}
 use Prim.Native.Nat.{ℕ, zero, suc, _+_, _*_, _-_, _≤_, _<_}
@@ -11,13 +11,17 @@ use native.Mathlib.Omega.{arith}
 use lib.Dec.{eqb}
 use lib.ListN.{length}
 use borrow.Author.Tests.{eq-eqb, ne-eqb}
+use Rattle.octets.proofs.Bools.{split}
 use Rattle.octets.proofs.Places.{below-or}
+use Rattle.decimal.specs.declared.Instrument.{Instrument}
+use Rattle.decimal.specs.Instruments.{highest}
 use Rattle.matching.specs.declared.Order.{Order}
 use Rattle.matching.specs.declared.Depth.{Depth}
 use Rattle.matching.specs.declared.Depth.the-variants.{Level, NoLevel}
-use Rattle.matching.specs.Matching.{Book, at, sumOver, countOf}
-use Rattle.matching.specs.Depth.{nearer, next, levelAt, onLevel, share, total, orders, depth}
+use Rattle.matching.specs.Matching.{Book, at, buys, ahead, sumOver, countOf}
+use Rattle.matching.specs.Depth.{stands, behind, nearer, next, levelAt, onLevel, share, total, orders, depth}
 use Rattle.matching.specs.Held.{Sound}
+use Rattle.matching.specs.Quoted.{AllQuoted}
 use Rattle.matching.proofs.Levels.{total-room}
 use Rattle.table.specs.Orders.{orderAt, filled, bookOf}
 use Rattle.table.specs.Facts.{Market}
@@ -134,6 +138,19 @@ module _ (t : List ℕ) (n s l : ℕ) where
   unfolding orders countOf
   sums-orders i had count e h k p =
       sum-end (λ o. cond (onLevel s l o) 1 0) (bookOf t) i (length (bookOf t)) count (omega (arith, length-book t)) (omega (arith, length-book t)) (p .counted)
+
+-- ---- what a market may have
+
+-- no level is above the market's highest
+pub next-highest : (q : Instrument) (b : Book) (s : ℕ) → AllQuoted q b → (x n : ℕ) → n ≤ length b → next b s x n ≤ highest q
+unfolding next nearer
+next-highest q b s all x zero h = omega arith
+next-highest q b s all x (suc n) h =
+    let c = next b s x n in
+    let o = at b (suc n) in
+    split (stands s o && behind s x (o .level) && (eqb c 0 || ahead (buys s) (o .level) c))
+    (λ t. rw t (all (suc n) (record { low = omega arith; high = h }) .level))
+    (λ t. rw t (next-highest q b s all x n (omega arith)))
 
 -- ---- the answer
 

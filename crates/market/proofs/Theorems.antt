@@ -1,11 +1,12 @@
--- What holds of the six calls together: on a market each of them leaves a market, so that a table that Open made and only the calls
+-- What holds of the six calls together, for bonds as for equities: on a market each of them leaves a market that trades the same, so that a table that Open made and only the calls
 -- have written is never refused as none; and two results that meet the contract of a call are the same, down to every lent byte.
 use mathlib.Core.Path.{_≡_, sym, _∙_}
 use mathlib.Core.Bool.{true}
 use mathlib.Core.List.{List}
 use Prim.Native.Nat.{ℕ}
 use lib.ListN.{length}
-use Rattle.table.specs.Market.{isMarket}
+use Rattle.decimal.specs.declared.Instrument.{Instrument}
+use Rattle.table.specs.Market.{isMarketOf}
 use Rattle.table.specs.Opened.{isOpening, opened}
 use Rattle.table.proofs.Theorems.{opening-makes-a-market}
 use Rattle.report.specs.declared.Reading.{Reading}
@@ -26,59 +27,59 @@ use Rattle.market.proofs.Tops.{top-is-depth}
 
 -- ---- a market stays a market
 
-pub open-makes : (t venue port code : List ℕ) (first : ℕ) (mpids modes : List ℕ) → isOpening t venue port code first mpids modes ≡ true
-    → isMarket (opened t venue port code first mpids modes) ≡ true
+pub open-makes : (q : Instrument) (t venue port code : List ℕ) (first : ℕ) (mpids modes : List ℕ) → isOpening q t venue port code first mpids modes ≡ true
+    → isMarketOf q (opened q t venue port code first mpids modes) ≡ true
 open-makes = opening-makes-a-market
 
-pub submit-leaves : (t message : List ℕ) (room : ℕ) → isMarket t ≡ true → isMarket (submitted t message room .table) ≡ true
+pub submit-leaves : (q : Instrument) (t message : List ℕ) (room : ℕ) → isMarketOf q t ≡ true → isMarketOf q (submitted q t message room .table) ≡ true
 submit-leaves = submit-keeps
 
-pub run-leaves : (t : List ℕ) (room budget : ℕ) → isMarket t ≡ true → isMarket (ran t room budget .table) ≡ true
+pub run-leaves : (q : Instrument) (t : List ℕ) (room budget : ℕ) → isMarketOf q t ≡ true → isMarketOf q (ran q t room budget .table) ≡ true
 run-leaves = run-keeps
 
 -- ---- on a market Top answers what Depth answers for k = 0, refusals and "no such level" included
 
-pub top-tells-depth : (t : List ℕ) (side : ℕ) → isMarket t ≡ true → topAnswer t side ≡ depthAnswer t side 0
+pub top-tells-depth : (q : Instrument) (t : List ℕ) (side : ℕ) → isMarketOf q t ≡ true → topAnswer q t side ≡ depthAnswer q t side 0
 top-tells-depth = top-is-depth
 
 -- ---- what a call may answer and leave, by its contract: the answer r, the table u and the report area b
 
-pub record OpenGives (t venue port code : List ℕ) (first : ℕ) (mpids modes : List ℕ) (r : OpenAnswer) (u : List ℕ) : Type 0 where
-  pub answer : r ≡ openAnswer t venue port code first mpids modes
-  pub table : u ≡ opened t venue port code first mpids modes
+pub record OpenGives (q : Instrument) (t venue port code : List ℕ) (first : ℕ) (mpids modes : List ℕ) (r : OpenAnswer) (u : List ℕ) : Type 0 where
+  pub answer : r ≡ openAnswer q t venue port code first mpids modes
+  pub table : u ≡ opened q t venue port code first mpids modes
 
-pub record SubmitGives (t message area : List ℕ) (r : SubmitAnswer) (u b : List ℕ) : Type 0 where
-  pub answer : r ≡ submitted t message (length area) .answer
-  pub table : u ≡ submitted t message (length area) .table
-  pub reports : b ≡ areaAfter area (submitted t message (length area) .reports)
+pub record SubmitGives (q : Instrument) (t message area : List ℕ) (r : SubmitAnswer) (u b : List ℕ) : Type 0 where
+  pub answer : r ≡ submitted q t message (length area) .answer
+  pub table : u ≡ submitted q t message (length area) .table
+  pub reports : b ≡ areaAfter area (submitted q t message (length area) .reports)
 
-pub record RunGives (t area : List ℕ) (budget : ℕ) (r : RunAnswer) (u b : List ℕ) : Type 0 where
-  pub answer : r ≡ ran t (length area) budget .answer
-  pub table : u ≡ ran t (length area) budget .table
-  pub reports : b ≡ areaAfter area (ran t (length area) budget .reports)
+pub record RunGives (q : Instrument) (t area : List ℕ) (budget : ℕ) (r : RunAnswer) (u b : List ℕ) : Type 0 where
+  pub answer : r ≡ ran q t (length area) budget .answer
+  pub table : u ≡ ran q t (length area) budget .table
+  pub reports : b ≡ areaAfter area (ran q t (length area) budget .reports)
 
 -- ---- and nothing else
 
 same : {A : Type 0} {x r s : A} → r ≡ x → s ≡ x → r ≡ s
 same p q = p ∙ sym q
 
-pub open-is-one : (t venue port code : List ℕ) (first : ℕ) (mpids modes : List ℕ) (r s : OpenAnswer) (u v : List ℕ)
-    → OpenGives t venue port code first mpids modes r u → OpenGives t venue port code first mpids modes s v → (r ≡ s) × (u ≡ v)
-open-is-one t venue port code first mpids modes r s u v a b = (same (a .answer) (b .answer), same (a .table) (b .table))
+pub open-is-one : (q : Instrument) (t venue port code : List ℕ) (first : ℕ) (mpids modes : List ℕ) (r s : OpenAnswer) (u v : List ℕ)
+    → OpenGives q t venue port code first mpids modes r u → OpenGives q t venue port code first mpids modes s v → (r ≡ s) × (u ≡ v)
+open-is-one q t venue port code first mpids modes r s u v a b = (same (a .answer) (b .answer), same (a .table) (b .table))
 
-pub submit-is-one : (t message area : List ℕ) (r s : SubmitAnswer) (u v b c : List ℕ)
-    → SubmitGives t message area r u b → SubmitGives t message area s v c → (r ≡ s) × (u ≡ v) × (b ≡ c)
-submit-is-one t message area r s u v b c p q = (same (p .answer) (q .answer), same (p .table) (q .table), same (p .reports) (q .reports))
+pub submit-is-one : (q : Instrument) (t message area : List ℕ) (r s : SubmitAnswer) (u v b c : List ℕ)
+    → SubmitGives q t message area r u b → SubmitGives q t message area s v c → (r ≡ s) × (u ≡ v) × (b ≡ c)
+submit-is-one q t message area r s u v b c x y = (same (x .answer) (y .answer), same (x .table) (y .table), same (x .reports) (y .reports))
 
-pub run-is-one : (t area : List ℕ) (budget : ℕ) (r s : RunAnswer) (u v b c : List ℕ)
-    → RunGives t area budget r u b → RunGives t area budget s v c → (r ≡ s) × (u ≡ v) × (b ≡ c)
-run-is-one t area budget r s u v b c p q = (same (p .answer) (q .answer), same (p .table) (q .table), same (p .reports) (q .reports))
+pub run-is-one : (q : Instrument) (t area : List ℕ) (budget : ℕ) (r s : RunAnswer) (u v b c : List ℕ)
+    → RunGives q t area budget r u b → RunGives q t area budget s v c → (r ≡ s) × (u ≡ v) × (b ≡ c)
+run-is-one q t area budget r s u v b c x y = (same (x .answer) (y .answer), same (x .table) (y .table), same (x .reports) (y .reports))
 
-pub depth-is-one : (t : List ℕ) (side k : ℕ) (r s : DepthAnswer) → r ≡ depthAnswer t side k → s ≡ depthAnswer t side k → r ≡ s
-depth-is-one t side k r s p q = same p q
+pub depth-is-one : (q : Instrument) (t : List ℕ) (side k : ℕ) (r s : DepthAnswer) → r ≡ depthAnswer q t side k → s ≡ depthAnswer q t side k → r ≡ s
+depth-is-one q t side k r s x y = same x y
 
-pub top-is-one : (t : List ℕ) (side : ℕ) (r s : DepthAnswer) → r ≡ topAnswer t side → s ≡ topAnswer t side → r ≡ s
-top-is-one t side r s p q = same p q
+pub top-is-one : (q : Instrument) (t : List ℕ) (side : ℕ) (r s : DepthAnswer) → r ≡ topAnswer q t side → s ≡ topAnswer q t side → r ≡ s
+top-is-one q t side r s x y = same x y
 
-pub read-is-one : (report : List ℕ) (r s : Reading) → r ≡ readOf report → s ≡ readOf report → r ≡ s
-read-is-one report r s p q = same p q
+pub read-is-one : (q : Instrument) (report : List ℕ) (r s : Reading) → r ≡ readOf q report → s ≡ readOf q report → r ≡ s
+read-is-one q report r s x y = same x y

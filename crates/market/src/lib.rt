@@ -1,16 +1,18 @@
-// The six calls of a market: open, submit, run, depth, top, read. They ask nothing of their caller: a table, a message, a report area
-// may be any bytes of any length. Each contract says what is answered and what every lent byte is afterwards, by the
-// definitions of the crate calls.
+// The six calls of a market: open, submit, run, depth, top, read, each for bonds or for equities. They ask nothing of their caller: a
+// table, a message, a report area may be any bytes of any length. Each contract says what is answered and what every lent byte is
+// afterwards, by the definitions of the crate calls.
 pub mod front;
 pub mod levels;
 
 use crate::front::has_heading;
 use crate::front::in_words;
+use crate::front::of_side;
 use crate::levels::level;
-use audit::is_market;
+use audit::is_market_of;
 use calls::OpenAnswer;
 use calls::RunAnswer;
 use calls::SubmitAnswer;
+use decimal::Instrument;
 use matching::Depth;
 use report::Reading;
 use table::best::best_at;
@@ -37,6 +39,7 @@ pub enum DepthAnswer {
 
 // Opens a market: writes the whole table from the settings and the lists of MPIDs and modes, or changes nothing.
 pub fn open(
+    q: Instrument,
     table: &mut [u8],
     venue: &[u8],
     port: &[u8],
@@ -45,45 +48,45 @@ pub fn open(
     mpids: &[u64],
     modes: &[u64],
 ) -> OpenAnswer
-    ensures { λ r. ⌜ (r ≡ openAnswer (now (table .entry)) (now (venue .entry)) (now (port .entry)) (now (code .entry)) first (now (mpids .entry)) (now (modes .entry)))
-        × (now (table .exit) ≡ opened (now (table .entry)) (now (venue .entry)) (now (port .entry)) (now (code .entry)) first (now (mpids .entry)) (now (modes .entry))) ⌝ }
+    ensures { λ r. ⌜ (r ≡ openAnswer q (now (table .entry)) (now (venue .entry)) (now (port .entry)) (now (code .entry)) first (now (mpids .entry)) (now (modes .entry)))
+        × (now (table .exit) ≡ opened q (now (table .entry)) (now (venue .entry)) (now (port .entry)) (now (code .entry)) first (now (mpids .entry)) (now (modes .entry))) ⌝ }
 {
-    if table::opening::open_table(table, venue, port, code, first, mpids, modes) == 0 {
+    if table::opening::open_table(q, table, venue, port, code, first, mpids, modes) == 0 {
         return OpenAnswer::Opened;
     }
     OpenAnswer::BadSetting
 }
 
 // Takes one message: refuses it, or rejects it with a report, or does what it asks and writes its first report.
-pub fn submit(table: &mut [u8], message: &[u8], area: &mut [u8]) -> SubmitAnswer
-    ensures { λ r. ⌜ (r ≡ submitted (now (table .entry)) (now (message .entry)) (length (now (area .entry))) .answer)
-        × (now (table .exit) ≡ submitted (now (table .entry)) (now (message .entry)) (length (now (area .entry))) .table)
-        × (now (area .exit) ≡ areaAfter (now (area .entry)) (submitted (now (table .entry)) (now (message .entry)) (length (now (area .entry))) .reports)) ⌝ }
+pub fn submit(q: Instrument, table: &mut [u8], message: &[u8], area: &mut [u8]) -> SubmitAnswer
+    ensures { λ r. ⌜ (r ≡ submitted q (now (table .entry)) (now (message .entry)) (length (now (area .entry))) .answer)
+        × (now (table .exit) ≡ submitted q (now (table .entry)) (now (message .entry)) (length (now (area .entry))) .table)
+        × (now (area .exit) ≡ areaAfter (now (area .entry)) (submitted q (now (table .entry)) (now (message .entry)) (length (now (area .entry))) .reports)) ⌝ }
 {
-    intake::submit(table, message, area)
+    intake::submit(q, table, message, area)
 }
 
 // Takes steps of the order in work, at most as many as the budget, while there is room for their reports in the area.
-pub fn run(table: &mut [u8], area: &mut [u8], budget: u64) -> RunAnswer
-    ensures { λ r. ⌜ (r ≡ ran (now (table .entry)) (length (now (area .entry))) budget .answer)
-        × (now (table .exit) ≡ ran (now (table .entry)) (length (now (area .entry))) budget .table)
-        × (now (area .exit) ≡ areaAfter (now (area .entry)) (ran (now (table .entry)) (length (now (area .entry))) budget .reports)) ⌝ }
+pub fn run(q: Instrument, table: &mut [u8], area: &mut [u8], budget: u64) -> RunAnswer
+    ensures { λ r. ⌜ (r ≡ ran q (now (table .entry)) (length (now (area .entry))) budget .answer)
+        × (now (table .exit) ≡ ran q (now (table .entry)) (length (now (area .entry))) budget .table)
+        × (now (area .exit) ≡ areaAfter (now (area .entry)) (ran q (now (table .entry)) (length (now (area .entry))) budget .reports)) ⌝ }
 {
-    turns::run(table, area, budget)
+    turns::run(q, table, area, budget)
 }
 
-// Whether a side is 1, the buys, or 2, the sells.
+// Whether a side is 1, the buys, or 2, all the sells.
 fn is_side(side: u64) -> bool
     ensures { λ r. ⌜ r ≡ isSide side ⌝ }
 {
     (side == 1) | (side == 2)
 }
 
-// The k-th level of a side from the best. Refused if the table is no market, an order is in work, or the side is none.
-pub fn depth(table: &[u8], side: u64, k: u64) -> DepthAnswer
-    ensures { λ r. ⌜ r ≡ depthAnswer (now (table .entry)) side k ⌝ }
+// The k-th level of a side from the best. Refused if the table is no such market, an order is in work, or the side is none.
+pub fn depth(q: Instrument, table: &[u8], side: u64, k: u64) -> DepthAnswer
+    ensures { λ r. ⌜ r ≡ depthAnswer q (now (table .entry)) side k ⌝ }
 {
-    if !is_market(table) {
+    if !is_market_of(q, table) {
         return DepthAnswer::NoMarket;
     }
     if 0 < work(table) {
@@ -97,13 +100,15 @@ pub fn depth(table: &[u8], side: u64, k: u64) -> DepthAnswer
 
 // The best level of a side, as the heading says. Refused if the length of the table or its heading is wrong, an order is in work, or the
 // side is none. No record is looked at; on a market the answer is that of depth for k = 0.
-pub fn top(table: &[u8], side: u64) -> DepthAnswer
-    ensures { λ r. ⌜ r ≡ topAnswer (now (table .entry)) side ⌝ }
+pub fn top(q: Instrument, table: &[u8], side: u64) -> DepthAnswer
+    ensures { λ r. ⌜ r ≡ topAnswer q (now (table .entry)) side ⌝ }
 {
     if table.len() != places::TABLE {
         return DepthAnswer::NoMarket;
     }
-    if !has_heading(table) {
+    let buy = best_at(table, 1);
+    let sell = best_at(table, 2);
+    if !has_heading(q, table, buy, sell) {
         return DepthAnswer::NoMarket;
     }
     if 0 < work(table) {
@@ -112,12 +117,12 @@ pub fn top(table: &[u8], side: u64) -> DepthAnswer
     if !is_side(side) {
         return DepthAnswer::BadSide;
     }
-    DepthAnswer::Found(in_words(best_at(table, side)))
+    DepthAnswer::Found(in_words(of_side(side, buy, sell)))
 }
 
 // The kind and the fields of a report, or that the bytes are none.
-pub fn read(report: &[u8]) -> Reading
-    ensures { λ r. ⌜ r ≡ readOf (now (report .entry)) ⌝ }
+pub fn read(q: Instrument, report: &[u8]) -> Reading
+    ensures { λ r. ⌜ r ≡ readOf q (now (report .entry)) ⌝ }
 {
-    report::read::read(report)
+    report::read::read(q, report)
 }

@@ -7,7 +7,8 @@ use Prim.Native.Nat.{ℕ, _+_, _≤_}
 use native.Mathlib.Omega.{arith}
 use lib.ListN.{length}
 use Rattle.octets.specs.Characters.{bytes}
-use Rattle.decimal.specs.Writing.{decimal, places, plain, fixed, shareOf, meanOf}
+use Rattle.decimal.specs.declared.Instrument.the-variants.{Bonds}
+use Rattle.decimal.specs.Writing.{decimal, places, plain, fixed, meanText, shareOf, meanOf}
 use Rattle.matching.specs.declared.Event.{Event}
 use Rattle.matching.specs.declared.Depth.the-variants.{Level, NoLevel}
 use Rattle.matching.specs.Matching.{Book, at, openOf, Ran, run, meets, better, faces, choose, best, sameOwner, prevention, meeting, ending, preventing, causes, placeAfter, change, after, play, partner, outcome, happens, workAfter, minimumOf, wouldTrade, misses, sumOver, countOf}
@@ -144,16 +145,16 @@ mean11 : meanOf 3_000_000_302 3 ≡ 1_000_000_100_667
 unfolding meanOf shareOf
 mean11 = refl
 
-text11 : fixed 6 1_000_000_100_667 ≡ bytes "0.100667"
-unfolding fixed plain decimal places
+text11 : meanText Bonds 1_000_000_100_667 ≡ bytes "0.100667"
+unfolding meanText fixed plain decimal places
 text11 = refl
 
 mean-mirror11 : meanOf 2_999_999_698 3 ≡ 999_999_899_333
 unfolding meanOf shareOf
 mean-mirror11 = refl
 
-text-mirror11 : fixed 6 999_999_899_333 ≡ bytes "-0.100667"
-unfolding fixed plain decimal places
+text-mirror11 : meanText Bonds 999_999_899_333 ≡ bytes "-0.100667"
+unfolding meanText fixed plain decimal places
 text-mirror11 = refl
 
 level10 : depth book10 2 0 ≡ Level (yield 100) 4_999_999_995 5
@@ -181,7 +182,7 @@ module _ (modes : ℕ → ℕ) (m : ℕ) (b : Book) (w n : ℕ) (in-book : w ≤
         ended = λ k. ap (λ (r : Ran). r .work) (same (c .ended) k) ∙ c .ended;
       }
 
-  averaged : {sum executed mean : ℕ} {text : List ℕ} → Means m b w n sum executed → meanOf sum executed ≡ mean → fixed 6 mean ≡ text
+  averaged : {sum executed mean : ℕ} {text : List ℕ} → Means m b w n sum executed → meanOf sum executed ≡ mean → meanText Bonds mean ≡ text
       → Averages modes b w n sum executed mean text
   averaged c mean text =
       record {

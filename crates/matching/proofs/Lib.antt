@@ -2,9 +2,10 @@
 -- Values: returns of single functions; Books: orders by number, and sums over them; Events: what an event changes; Steps: the
 -- ways that a step can go; Conserved: what becomes of each quantity; Fair: bought is sold, and nobody trades with himself;
 -- Crossing: the book stays uncrossed; Ends: the work ends; Sounds: orders stay in range; Holding: a step keeps what a market
--- asks; Requests: and so does what Submit does; Best: nothing is better than the best; Levels: the levels of a side; Modes: one
--- mode is asked for; Minimum: what an order would trade, and what a match does to it; Turns, Offers, Looking: that this is found by
--- looking at the book; Deciding: what comes of the decision on a minimum; Cases: the rehearsed cases; Theorems: what people read.
+-- asks; Requests: and so does what Submit does; Quoting: orders keep to the sides and levels of their market; Best: nothing is better
+-- than the best; Levels: the levels of a side; Modes: one mode is asked for; Minimum: what an order would trade, and what a match does to
+-- it; Turns, Offers, Looking: that this is found by looking at the book; Deciding: what comes of the decision on a minimum; Cases:
+-- the rehearsed cases; Theorems: what people read.
 pub mod Values
 pub mod Books
 pub mod Events
@@ -17,6 +18,7 @@ pub mod Ends
 pub mod Sounds
 pub mod Holding
 pub mod Requests
+pub mod Quoting
 pub mod Best
 pub mod Levels
 pub mod Modes

@@ -7,10 +7,11 @@ use mathlib.Core.Logic.{_≢_}
 use Prim.Native.Nat.{ℕ, suc, _+_, _*_, _≤_, _<_}
 use lib.ListN.{length}
 use lib.Dec.{eqb, leb}
+use Rattle.decimal.specs.declared.Instrument.the-variants.{Equities}
 use Rattle.matching.specs.declared.Order.{Order}
 use Rattle.matching.specs.declared.Event.{Event}
 use Rattle.matching.specs.declared.Event.the-variants.{Accepted, Replaced, Withdrawn, Canceled, Decremented, Traded, Killed, Expired}
-use Rattle.matching.specs.Matching.{Book, at, openOf, isBuy, isImmediate, opposedTo, who, after}
+use Rattle.matching.specs.Matching.{Book, at, openOf, isSideOf, isBuy, isImmediate, opposedTo, who, after}
 
 -- executed, decremented and canceled are at most the quantity
 abbrev pub Covered : Order → Type 0
@@ -20,10 +21,10 @@ Covered o = o .executed + o .decremented + o .canceled ≤ o .qty
 unfoldable pub mayMinimum : Order → Bool
 mayMinimum o = cond (eqb (o .tif) 3) (leb (o .minqty) (o .qty)) (eqb (o .minqty) 0)
 
--- one order in its ranges: what is canceled leaves nothing open; the sum of quantity times level is what the executed
--- quantity can come to at levels 1 to 1,999,999,999
+-- one order in its ranges, in whichever market: its side is one of any market; what is canceled leaves nothing open; the sum of
+-- quantity times level is what the executed quantity can come to at levels 1 to 1,999,999,999. What the market itself asks is in Quoted
 pub record Sound (o : Order) : Type 0 where
-  pub sides : (eqb (o .side) 1 || eqb (o .side) 2) ≡ true
+  pub sides : isSideOf Equities (o .side) ≡ true
   pub tifs : (eqb (o .tif) 0 || isImmediate o) ≡ true
   pub minimum : mayMinimum o ≡ true
   pub level-low : 0 < o .level

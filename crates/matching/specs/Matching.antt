@@ -8,6 +8,8 @@ use mathlib.Core.Bool.{Bool, false, cond, not, _&&_, _||_}
 use mathlib.Core.List.{List, [], _∷_, _++_}
 use lib.ListN.{length, getD, set}
 use lib.Dec.{ltb, leb, eqb}
+use Rattle.decimal.specs.declared.Instrument.{Instrument}
+use Rattle.decimal.specs.declared.Instrument.the-variants.{Bonds, Equities}
 use Rattle.matching.specs.declared.Order.{Order}
 use Rattle.matching.specs.declared.Prevention.{Prevention}
 use Rattle.matching.specs.declared.Prevention.the-variants.{CancelNewest, CancelOldest, Decrement}
@@ -22,7 +24,13 @@ use Rattle.matching.specs.declared.Event.the-variants.{Accepted, Replace
 abbrev pub buys : ℕ → Bool
 buys side = eqb side 1
 
--- the levels b of a buy and s of a sell meet: the seller offers the yield that the buyer wants, or more
+-- the sides that an order of a market may have: of bonds 1 and 2, of equities also 5 and 6, which are sells
+unfoldable pub isSideOf : Instrument → ℕ → Bool
+isSideOf Bonds side = eqb side 1 || eqb side 2
+isSideOf Equities side = eqb side 1 || eqb side 2 || eqb side 5 || eqb side 6
+
+-- the levels b of a buy and s of a sell meet: the seller offers the yield that the buyer wants, or more; or asks the price that the
+-- buyer gives, or less
 abbrev pub crosses : ℕ → ℕ → Bool
 crosses b s = leb b s
 

@@ -3,7 +3,8 @@
 use mathlib.Core.Path.{_≡_}
 use mathlib.Core.List.{List, [], _∷_, _++_, map}
 use Prim.Native.Nat.{ℕ, _+_, _-_}
-use Rattle.decimal.specs.Writing.{fixed, meanOf}
+use Rattle.decimal.specs.declared.Instrument.the-variants.{Bonds}
+use Rattle.decimal.specs.Writing.{meanText, meanOf}
 use Rattle.matching.specs.declared.Order.{Order}
 use Rattle.matching.specs.declared.Event.{Event}
 use Rattle.matching.specs.declared.Event.the-variants.{Accepted, Replaced, Traded, Canceled, Decremented, Killed, Expired}
@@ -185,4 +186,4 @@ pub record Averages (modes : ℕ → ℕ) (b : Book) (w n sum executed mean : �
   pub is-sum : (k : ℕ) → at (run modes (misses modes 0 b w) (n + k) b w .book) w .sum ≡ sum
   pub is-executed : (k : ℕ) → at (run modes (misses modes 0 b w) (n + k) b w .book) w .executed ≡ executed
   pub is-mean : meanOf sum executed ≡ mean
-  pub is-text : fixed 6 mean ≡ text
+  pub is-text : meanText Bonds mean ≡ text

@@ -9,6 +9,7 @@ use lib.ListN.{length, take, drop, replicate, length-take, length-map}
 use lib.Seq.{sets, sets-eq, length-sets, take-at, take-all}
 use borrow.Author.Tests.{leb-true, leb-false, lt-leb}
 use Rattle.octets.proofs.Bools.{split, both-not-r}
+use Rattle.decimal.specs.declared.Instrument.{Instrument}
 use Rattle.table.specs.Opened.{areGiven, areSettings, isOpening, opened, openNumber}
 use Rattle.members.specs.Members.{mpidsOf, modesOf}
 use Rattle.members.specs.Apart.{inNine, listedOf}
@@ -51,8 +52,8 @@ too-many : (mpids modes : List ℕ) → 8 < length mpids → areGiven mpids mode
 unfolding areGiven
 too-many mpids modes h = search (second-fails, lt-leb)
 
-module _ (t v p c : List ℕ) (f : ℕ) (ms : List Member) where
-  refused : (ns : List Member) → 8 < length ns → isOpening t v p c f (mpidsOf ns) (modesOf ns) ≡ false
+module _ (q : Instrument) (t v p c : List ℕ) (f : ℕ) (ms : List Member) where
+  refused : (ns : List Member) → 8 < length ns → isOpening q t v p c f (mpidsOf ns) (modesOf ns) ≡ false
   unfolding isOpening areSettings
   refused ns h = let e = length-map ns (λ m. m .mpid) in let g : 8 < length (mpidsOf ns) = omega arith in let z = too-many (mpidsOf ns) (modesOf ns) g in search (both-not-r, z)
 
@@ -63,17 +64,17 @@ module _ (t v p c : List ℕ) (f : ℕ) (ms : List Member) where
   nine : 8 < length ms → 8 < length (take 9 ms)
   nine h = let e = length-take 9 ms in omega arith
 
-  same-number : openNumber t v p c f (mpidsOf (take 9 ms)) (modesOf (take 9 ms)) ≡ openNumber t v p c f (mpidsOf ms) (modesOf ms)
+  same-number : openNumber q t v p c f (mpidsOf (take 9 ms)) (modesOf (take 9 ms)) ≡ openNumber q t v p c f (mpidsOf ms) (modesOf ms)
   unfolding openNumber
-  same-number = by-nine (λ ns. openNumber t v p c f (mpidsOf ns) (modesOf ns)) (λ h. rw (refused (take 9 ms) (nine h), refused ms h))
+  same-number = by-nine (λ ns. openNumber q t v p c f (mpidsOf ns) (modesOf ns)) (λ h. rw (refused (take 9 ms) (nine h), refused ms h))
 
-  same-table : opened t v p c f (mpidsOf (take 9 ms)) (modesOf (take 9 ms)) ≡ opened t v p c f (mpidsOf ms) (modesOf ms)
+  same-table : opened q t v p c f (mpidsOf (take 9 ms)) (modesOf (take 9 ms)) ≡ opened q t v p c f (mpidsOf ms) (modesOf ms)
   unfolding opened
-  same-table = by-nine (λ ns. opened t v p c f (mpidsOf ns) (modesOf ns)) (λ h. rw (refused (take 9 ms) (nine h), refused ms h))
+  same-table = by-nine (λ ns. opened q t v p c f (mpidsOf ns) (modesOf ns)) (λ h. rw (refused (take 9 ms) (nine h), refused ms h))
 
   -- ---- so the lists that were taken apart give Open's answer and the table
-  pub answer : (l : Listed) → l ≡ listedOf ms → openNumber t v p c f (take (l .n) (l .mpids)) (take (l .n) (l .modes)) ≡ openNumber t v p c f (mpidsOf ms) (modesOf ms)
+  pub answer : (l : Listed) → l ≡ listedOf ms → openNumber q t v p c f (take (l .n) (l .mpids)) (take (l .n) (l .modes)) ≡ openNumber q t v p c f (mpidsOf ms) (modesOf ms)
   answer l e = rw (e, mpids-back, modes-back) same-number
 
-  pub whole-table : (l : Listed) → l ≡ listedOf ms → opened t v p c f (take (l .n) (l .mpids)) (take (l .n) (l .modes)) ≡ opened t v p c f (mpidsOf ms) (modesOf ms)
+  pub whole-table : (l : Listed) → l ≡ listedOf ms → opened q t v p c f (take (l .n) (l .mpids)) (take (l .n) (l .modes)) ≡ opened q t v p c f (mpidsOf ms) (modesOf ms)
   whole-table l e = rw (e, mpids-back, modes-back) same-table

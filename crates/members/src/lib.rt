@@ -6,6 +6,7 @@ ghost use lib.ListN.{length, getD, take};
 ghost use Rattle.members.specs.Members.{mpidsOf, modesOf};
 ghost use Rattle.members.specs.Apart.{nobody, empty, added, listedOf};
 ghost use Rattle.table.specs.Opened.{opened, openNumber};
+use decimal::Instrument;
 use table::opening::open_table;
 
 // One member of the market: its MPID, and its mode when its own orders meet.
@@ -83,6 +84,7 @@ fn take_apart(members: &[Member]) -> Listed
 
 // Opens a market for the members that were taken apart: 0, or refusal 9 with nothing changed.
 fn open_lists(
+    q: Instrument,
     table: &mut [u8],
     venue: &[u8],
     port: &[u8],
@@ -91,17 +93,18 @@ fn open_lists(
     list: Listed,
 ) -> u64
     requires { ⌜ (list .n ≤ 9) × (length (list .mpids) ≡ 9) × (length (list .modes) ≡ 9) ⌝ }
-    ensures { λ r. ⌜ (r ≡ openNumber (now (table .entry)) (now (venue .entry)) (now (port .entry)) (now (code .entry)) first (take (list .n) (list .mpids)) (take (list .n) (list .modes)))
-        × (now (table .exit) ≡ opened (now (table .entry)) (now (venue .entry)) (now (port .entry)) (now (code .entry)) first (take (list .n) (list .mpids)) (take (list .n) (list .modes))) ⌝ }
+    ensures { λ r. ⌜ (r ≡ openNumber q (now (table .entry)) (now (venue .entry)) (now (port .entry)) (now (code .entry)) first (take (list .n) (list .mpids)) (take (list .n) (list .modes)))
+        × (now (table .exit) ≡ opened q (now (table .entry)) (now (venue .entry)) (now (port .entry)) (now (code .entry)) first (take (list .n) (list .mpids)) (take (list .n) (list .modes))) ⌝ }
 {
     let n = list.n;
     let mpids = list.mpids;
     let modes = list.modes;
-    open_table(table, venue, port, code, first, &mpids[..n], &modes[..n])
+    open_table(q, table, venue, port, code, first, &mpids[..n], &modes[..n])
 }
 
-// Opens a market for the members lent: 0, or refusal 9 with nothing changed, as opening is defined for their MPIDs and modes.
+// Opens a market of bonds or of equities for the members lent: 0, or refusal 9 with nothing changed, as opening is defined for their MPIDs and modes.
 pub fn open(
+    q: Instrument,
     table: &mut [u8],
     venue: &[u8],
     port: &[u8],
@@ -109,9 +112,9 @@ pub fn open(
     first: u64,
     members: &[Member],
 ) -> u64
-    ensures { λ r. ⌜ (r ≡ openNumber (now (table .entry)) (now (venue .entry)) (now (port .entry)) (now (code .entry)) first (mpidsOf (now (members .entry))) (modesOf (now (members .entry))))
-        × (now (table .exit) ≡ opened (now (table .entry)) (now (venue .entry)) (now (port .entry)) (now (code .entry)) first (mpidsOf (now (members .entry))) (modesOf (now (members .entry)))) ⌝ }
+    ensures { λ r. ⌜ (r ≡ openNumber q (now (table .entry)) (now (venue .entry)) (now (port .entry)) (now (code .entry)) first (mpidsOf (now (members .entry))) (modesOf (now (members .entry))))
+        × (now (table .exit) ≡ opened q (now (table .entry)) (now (venue .entry)) (now (port .entry)) (now (code .entry)) first (mpidsOf (now (members .entry))) (modesOf (now (members .entry)))) ⌝ }
 {
     let list = take_apart(members);
-    open_lists(table, venue, port, code, first, list)
+    open_lists(q, table, venue, port, code, first, list)
 }

@@ -2,7 +2,7 @@
 -- report of each event in turn.
 use mathlib.Core.Path.{_≡_, refl, ap, _∙_}
 use mathlib.Core.Bool.{Bool, true, false}
-use mathlib.Core.List.{List, [], _∷_, _++_, append-nil}
+use mathlib.Core.List.{List, [], _∷_, _++_, map, append-nil, map-append}
 use Prim.Native.Nat.{ℕ, zero, suc, _+_, _*_, _-_, _≤_}
 use native.Mathlib.Nat.{add-zero}
 use native.Mathlib.Omega.{arith}
@@ -10,45 +10,55 @@ use lib.Dec.{eqb}
 use lib.ListN.{length}
 use borrow.Author.Tests.{eqb-true, eqb-false, eq-eqb, le-ltb}
 use Rattle.octets.proofs.Bools.{split}
+use Rattle.decimal.specs.declared.Instrument.{Instrument}
 use Rattle.matching.specs.declared.Event.{Event}
 use Rattle.matching.specs.Matching.{Book, metBy, who, happens, bookAfter, workAfter, Ran, run}
-use Rattle.table.specs.Heading.{nextOf, workOf, modeOf}
+use Rattle.table.specs.Heading.{nextOf, workOf, instrumentOf, modeOf}
 use Rattle.table.specs.Orders.{orderIdAt, bookOf, applied}
-use Rattle.table.specs.Market.{isMarket}
+use Rattle.table.specs.Market.{isMarketOf}
 use Rattle.table.specs.Facts.{Market}
 use Rattle.table.specs.Changes.{missesNow, stepEvents, stepWork, stepped}
+use Rattle.table.proofs.Instruments.{of-market, market-instrument, instrument-below}
 use Rattle.table.proofs.Facts.{market-facts}
-use Rattle.table.proofs.Kept.{stepped-kept}
+use Rattle.table.proofs.Kept.{stepped-kept, stepped-instrument}
 use Rattle.table.proofs.OrderIds.{applied-order-id, stepped-order-id}
 use Rattle.ticket.specs.Tickets.{keptCause}
 use Rattle.ticket.proofs.Running.{Legibles, step-legibles}
 use Rattle.readback.proofs.Events.{event-says}
+use Rattle.report.specs.declared.Reading.{Reading}
+use Rattle.report.specs.Reports.{readOf}
 use Rattle.calls.specs.Told.{joined}
 use Rattle.calls.specs.Run.{eventReport, eventReports, stepReports, Worked, stops, still, worked, Ran as RanBy, ran, runSteps}
 use Rattle.turns.proofs.Stepping.{step-book, step-work, step-modes, step-decided, step-short}
 use Rattle.turns.proofs.Taking.{stops-still, worked-on}
-use Rattle.turns.proofs.Agreeing.{agrees}
+use Rattle.turns.proofs.Agreeing.{agrees, run-one}
 use Rattle.turns.proofs.Theorems.{run-ends}
 use Rattle.promises.specs.Shown.{ReportsOf}
 
+-- ---- an event leaves what is traded
+pub applied-instrument : (t : List ℕ) (e : Event) → instrumentOf (applied t e) ≡ instrumentOf t
+unfolding applied
+applied-instrument t e = instrument-below t (128 * who e + 64) _ (omega arith)
+
 -- ---- the reports of a step
-reports-of : (ids : ℕ → ℕ) (es : List Event) (t : List ℕ) (n : ℕ) → ((i : ℕ) → orderIdAt t i ≡ ids i) → Legibles t n es
-    → ReportsOf ids (eventReports t n es) es
+reports-of : (q : Instrument) (ids : ℕ → ℕ) (es : List Event) (t : List ℕ) (n : ℕ) → instrumentOf t ≡ q → ((i : ℕ) → orderIdAt t i ≡ ids i) → Legibles t n es
+    → ReportsOf ids (map (readOf q) (eventReports t n es)) es
 unfolding eventReports eventReport
-reports-of ids [] t n s h = tt
-reports-of ids (e ∷ es) t n s h =
+reports-of q ids [] t n k s h = tt
+reports-of q ids (e ∷ es) t n k s h =
     let w : (i : ℕ) → orderIdAt (applied t e) i ≡ ids i = λ i. applied-order-id t e i ∙ s i in
-    let g = event-says (applied t e) [] n (keptCause (applied t e)) e (h .0) in (
+    let v : instrumentOf (applied t e) ≡ q = applied-instrument t e ∙ k in
+    let g = rw v at (event-says (applied t e) [] n (keptCause (applied t e)) e (h .0)) in (
       record { kind = g .is-kind; order = g .says-37 ∙ w (who e); quantity = g .says-32; reason = g .says-378 },
-      reports-of ids es (applied t e) (n + 1) w (h .1),
+      reports-of q ids es (applied t e) (n + 1) v w (h .1),
     )
 
-pub step-reports : (t : List ℕ) → Market t → 1 ≤ workOf t → ReportsOf (orderIdAt t) (stepReports t) (stepEvents t)
+pub step-reports : (q : Instrument) (t : List ℕ) → instrumentOf t ≡ q → Market t → 1 ≤ workOf t → ReportsOf (orderIdAt t) (map (readOf q) (stepReports t)) (stepEvents t)
 unfolding stepReports
-step-reports t m l = reports-of (orderIdAt t) (stepEvents t) t (nextOf t) (λ i. refl) (step-legibles t m l)
+step-reports q t k m l = reports-of q (orderIdAt t) (stepEvents t) t (nextOf t) k (λ i. refl) (step-legibles t m l)
 
 -- by the same OrderIDs
-pub reports-same : (ids jds : ℕ → ℕ) → ((i : ℕ) → ids i ≡ jds i) → (rs : List (List ℕ)) (es : List Event) → ReportsOf ids rs es → ReportsOf jds rs es
+pub reports-same : (ids jds : ℕ → ℕ) → ((i : ℕ) → ids i ≡ jds i) → (rs : List Reading) (es : List Event) → ReportsOf ids rs es → ReportsOf jds rs es
 reports-same ids jds s [] [] x = tt
 reports-same ids jds s [] (e ∷ es) x = absurd x
 reports-same ids jds s (r ∷ rs) [] x = absurd x
@@ -58,15 +68,7 @@ reports-same ids jds s (r ∷ rs) (e ∷ es) x = (
 )
 
 -- ---- steps
-run-busy : (modes : ℕ → ℕ) (missed : Bool) (n : ℕ) (b : Book) (w : ℕ) → 1 ≤ w
-    → let rest = run modes false n (bookAfter modes missed b w) (workAfter missed b w) in
-    run modes missed (suc n) b w
-    ≡ record { book = rest .book; work = rest .work; events = happens modes missed b w ++ rest .events; steps = suc (rest .steps) }
-unfolding run
-run-busy modes missed n b zero l = absurd (omega arith)
-run-busy modes missed n b (suc k) l = refl
-
-pub reports-append : (ids : ℕ → ℕ) (rs qs : List (List ℕ)) (es fs : List Event) → ReportsOf ids rs es → ReportsOf ids qs fs
+pub reports-append : (ids : ℕ → ℕ) (rs qs : List Reading) (es fs : List Event) → ReportsOf ids rs es → ReportsOf ids qs fs
     → ReportsOf ids (rs ++ qs) (es ++ fs)
 reports-append ids [] qs [] fs x y = y
 reports-append ids [] qs (e ∷ es) fs x y = absurd x
@@ -74,11 +76,11 @@ reports-append ids (r ∷ rs) qs [] fs x y = absurd x
 reports-append ids (r ∷ rs) qs (e ∷ es) fs x y = (x .0, reports-append ids rs qs es fs (x .1) y)
 
 -- their reports, in turn
-worked-events : (n : ℕ) (t : List ℕ) (room : ℕ) → Market t → 1024 * n ≤ room
-    → ReportsOf (orderIdAt t) (worked n t room .reports) (run (modeOf t) (missesNow t) n (bookOf t) (workOf t) .events)
+worked-events : (q : Instrument) (n : ℕ) (t : List ℕ) (room : ℕ) → instrumentOf t ≡ q → Market t → 1024 * n ≤ room
+    → ReportsOf (orderIdAt t) (map (readOf q) (worked n t room .reports)) (run (modeOf t) (missesNow t) n (bookOf t) (workOf t) .events)
 unfolding worked run stepEvents stepWork
-worked-events zero t room m h = tt
-worked-events (suc n) t room m h =
+worked-events q zero t room k m h = tt
+worked-events q (suc n) t room k m h =
     split (eqb (workOf t) 0)
     (λ z.
     let e = eqb-true (workOf t) 0 z in
@@ -92,35 +94,36 @@ worked-events (suc n) t room m h =
     let after : List ℕ = stepped t in
     let left : ℕ = room - length (joined rs) in
     let g =
-    reports-same (orderIdAt after) (orderIdAt t) (stepped-order-id t) (worked n after left .reports)
+    reports-same (orderIdAt after) (orderIdAt t) (stepped-order-id t) (map (readOf q) (worked n after left .reports))
     (run (modeOf after) (missesNow after) n (bookOf after) (workOf after) .events)
-    (worked-events n after left (stepped-kept t m l) (omega arith)) in
-    let k = rw (step-decided t m l, step-modes t m l, step-book t m l, step-work t m l) at g in
-    rw (s, run-busy (modeOf t) (missesNow t) n (bookOf t) (workOf t) l) (reports-append (orderIdAt t) rs _ _ _ (step-reports t m l) k))
+    (worked-events q n after left (stepped-instrument t m l ∙ k) (stepped-kept t m l) (omega arith)) in
+    let d = rw (step-decided t m l, step-modes t m l, step-book t m l, step-work t m l) at g in
+    rw (s, run-one (modeOf t) (missesNow t) n (bookOf t) (workOf t) l, map-append (readOf q) rs (worked n after left .reports))
+    (reports-append (orderIdAt t) (map (readOf q) rs) _ _ _ (step-reports q t k m l) d))
 
 -- what was worked on a table is what was run on a book, by the OrderIDs of its records
-pub record Matches (ids : ℕ → ℕ) (w : Worked) (r : Ran) : Type 0 where
+pub record Matches (q : Instrument) (ids : ℕ → ℕ) (w : Worked) (r : Ran) : Type 0 where
   pub book : bookOf (w .table) ≡ r .book
   pub work : workOf (w .table) ≡ r .work
   pub steps : w .steps ≡ r .steps
-  pub events : ReportsOf ids (w .reports) (r .events)
+  pub events : ReportsOf ids (map (readOf q) (w .reports)) (r .events)
 
-pub worked-matches : (n : ℕ) (t : List ℕ) (room : ℕ) → Market t → 1024 * n ≤ room → Matches (orderIdAt t) (worked n t room) (run (modeOf t) (missesNow t) n (bookOf t) (workOf t))
-worked-matches n t room m h =
+pub worked-matches : (q : Instrument) (n : ℕ) (t : List ℕ) (room : ℕ) → instrumentOf t ≡ q → Market t → 1024 * n ≤ room → Matches q (orderIdAt t) (worked n t room) (run (modeOf t) (missesNow t) n (bookOf t) (workOf t))
+worked-matches q n t room k m h =
     let g = agrees n t room m h in
-    record { book = g .book; work = g .work; steps = g .steps; events = worked-events n t room m h }
+    record { book = g .book; work = g .work; steps = g .steps; events = worked-events q n t room k m h }
 
 -- ---- a budget beyond the end of the work
-module _ (n k : ℕ) (t : List ℕ) (room : ℕ) (m : Market t) (h : 1024 * n ≤ room) (z : run (modeOf t) (missesNow t) n (bookOf t) (workOf t) .work ≡ 0) where
-  first : Matches (orderIdAt t) (worked n t room) (run (modeOf t) (missesNow t) n (bookOf t) (workOf t))
-  first = worked-matches n t room m h
+module _ (q : Instrument) (n k : ℕ) (t : List ℕ) (room : ℕ) (same : instrumentOf t ≡ q) (m : Market t) (h : 1024 * n ≤ room) (z : run (modeOf t) (missesNow t) n (bookOf t) (workOf t) .work ≡ 0) where
+  first : Matches q (orderIdAt t) (worked n t room) (run (modeOf t) (missesNow t) n (bookOf t) (workOf t))
+  first = worked-matches q n t room same m h
 
   rest : worked k (worked n t room .table) (room - length (joined (worked n t room .reports))) ≡ still (worked n t room .table)
   rest =
       let e : workOf (worked n t room .table) ≡ 0 = first .work ∙ z in
       stops-still (worked n t room .table) (room - length (joined (worked n t room .reports))) k (rw (eq-eqb (workOf (worked n t room .table)) 0 e))
 
-  pub worked-beyond : Matches (orderIdAt t) (worked (n + k) t room) (run (modeOf t) (missesNow t) n (bookOf t) (workOf t))
+  pub worked-beyond : Matches q (orderIdAt t) (worked (n + k) t room) (run (modeOf t) (missesNow t) n (bookOf t) (workOf t))
   worked-beyond =
       let g = worked-on n k t room in
       let e : worked (n + k) t room .table ≡ worked n t room .table = g .table ∙ ap (λ (x : Worked). x .table) rest in
@@ -135,24 +138,24 @@ module _ (n k : ℕ) (t : List ℕ) (room : ℕ) (m : Market t) (h : 1024 * n �
       }
 
 -- ---- Run, where n steps end the work
-pub record RunsAs (ids : ℕ → ℕ) (r : RanBy) (q : Ran) : Type 0 where
-  pub book : bookOf (r .table) ≡ q .book
-  pub work : workOf (r .table) ≡ q .work
-  pub steps : runSteps (r .answer) ≡ q .steps
-  pub events : ReportsOf ids (r .reports) (q .events)
+pub record RunsAs (q : Instrument) (ids : ℕ → ℕ) (r : RanBy) (s : Ran) : Type 0 where
+  pub book : bookOf (r .table) ≡ s .book
+  pub work : workOf (r .table) ≡ s .work
+  pub steps : runSteps (r .answer) ≡ s .steps
+  pub events : ReportsOf ids (map (readOf q) (r .reports)) (s .events)
 
-pub ran-matches : (n : ℕ) (t : List ℕ) (room budget : ℕ) → isMarket t ≡ true → 1 ≤ n → 1024 * n ≤ room → n ≤ budget
-    → run (modeOf t) (missesNow t) n (bookOf t) (workOf t) .work ≡ 0 → RunsAs (orderIdAt t) (ran t room budget) (run (modeOf t) (missesNow t) n (bookOf t) (workOf t))
+pub ran-matches : (q : Instrument) (n : ℕ) (t : List ℕ) (room budget : ℕ) → isMarketOf q t ≡ true → 1 ≤ n → 1024 * n ≤ room → n ≤ budget
+    → run (modeOf t) (missesNow t) n (bookOf t) (workOf t) .work ≡ 0 → RunsAs q (orderIdAt t) (ran q t room budget) (run (modeOf t) (missesNow t) n (bookOf t) (workOf t))
 unfolding ran
-ran-matches n t room budget m low h l z =
+ran-matches q n t room budget m low h l z =
     let e : budget ≡ n + (budget - n) = omega arith in
-    let g = rw (← e) at (worked-beyond n (budget - n) t room (market-facts t m) h z) in
+    let g = rw (← e) at (worked-beyond q n (budget - n) t room (market-instrument q t m) (market-facts t (of-market q t m)) h z) in
     rw (le-ltb room 1024 (omega arith), m) (record { book = g .book; work = g .work; steps = g .steps; events = g .events })
 
 -- m + 1 steps end the work
-pub ran-ends : (t : List ℕ) (room budget : ℕ) → isMarket t ≡ true → 1024 * (metBy (bookOf t) (workOf t) + 1) ≤ room → metBy (bookOf t) (workOf t) + 1 ≤ budget
-    → (workOf (ran t room budget .table) ≡ 0) × (runSteps (ran t room budget .answer) ≤ metBy (bookOf t) (workOf t) + 1)
+pub ran-ends : (q : Instrument) (t : List ℕ) (room budget : ℕ) → isMarketOf q t ≡ true → 1024 * (metBy (bookOf t) (workOf t) + 1) ≤ room → metBy (bookOf t) (workOf t) + 1 ≤ budget
+    → (workOf (ran q t room budget .table) ≡ 0) × (runSteps (ran q t room budget .answer) ≤ metBy (bookOf t) (workOf t) + 1)
 unfolding ran
-ran-ends t room budget m h l =
-    let g = run-ends budget t room m l h in
+ran-ends q t room budget m h l =
+    let g = run-ends budget t room (of-market q t m) l h in
     rw (le-ltb room 1024 (omega arith), m) (g .ended, g .within)

@@ -13,7 +13,7 @@ use Rattle.octets.proofs.Bools.{split, not-both}
 use Rattle.matching.specs.declared.Order.{Order}
 use Rattle.matching.specs.declared.Event.{Event}
 use Rattle.matching.specs.declared.Event.the-variants.{Accepted, Replaced, Withdrawn, Canceled, Decremented, Traded, Killed, Expired}
-use Rattle.matching.specs.Matching.{Book, at, put as putOrder, openOf, who, change, after}
+use Rattle.matching.specs.Matching.{Book, at, put as putOrder, openOf, buys, who, change, after}
 use Rattle.matching.specs.Held.{In, Takes, anew, over}
 use Rattle.matching.specs.Happens.{Fresh}
 use Rattle.matching.proofs.Books.{length-put}
@@ -23,12 +23,13 @@ use Rattle.table.specs.Heading.{nextOf}
 use Rattle.table.specs.Orders.{orderIdAt, bookOf}
 use Rattle.table.specs.Facts.{Market}
 use Rattle.report.specs.declared.Reading.{Reading}
-use Rattle.report.specs.Reports.{readOf}
-use Rattle.promises.specs.Tallies.{Account, blank, noted, accountFrom, tradedFor, traded, isSelfTrade, selfTrades, unread}
-use Rattle.promises.proofs.Tells.{Exact, Tells, tells-read, accountIn, accountBefore}
+use Rattle.readback.specs.Told.{kindTold}
+use Rattle.promises.specs.Tallies.{Account, blank, noted, accountFrom, isTrade, sells, tradedFor, traded, tradesOf, unread}
+use Rattle.promises.proofs.Tells.{Exact, tells-read, accountIn, accountBefore}
 use Rattle.promises.proofs.OrderIds.{Nobody, ids-apart, nobody-yet}
+use Rattle.promises.proofs.Pairs.{no-trade-of, paired-none}
 use Rattle.promises.proofs.Leads.{Settled, shut-settled, Accounts, accountsAfter, Leads, kept-accounts}
-use Rattle.promises.proofs.Playing.{TellsOn, account-here, account-there, account-then, order-there, traded-one, nought}
+use Rattle.promises.proofs.Playing.{TellsOn, account-here, account-there, account-then, order-there}
 
 abbrev pub isAsked : Event → Bool
 isAsked (Accepted n o) = true
@@ -40,41 +41,36 @@ isAsked (Traded n m q l) = false
 isAsked (Killed n q) = false
 isAsked (Expired n q) = false
 
-asked-traded : (e : Event) (r : Reading) (i : ℕ) (o : Order) (m s : ℕ) → isAsked e ≡ true → Tells r i e o m → tradedFor s r ≡ 0
-asked-traded (Accepted n x) r i o m s a t = traded-one r i _ o m s t ∙ nought (eqb (o .side) s)
-asked-traded (Replaced n l q p) r i o m s a t = traded-one r i _ o m s t ∙ nought (eqb (o .side) s)
-asked-traded (Withdrawn n q) r i o m s a t = traded-one r i _ o m s t ∙ nought (eqb (o .side) s)
-asked-traded (Canceled n q) r i o m s a t = absurd (not-both a refl)
-asked-traded (Decremented n q) r i o m s a t = absurd (not-both a refl)
-asked-traded (Traded n k q l) r i o m s a t = absurd (not-both a refl)
-asked-traded (Killed n q) r i o m s a t = absurd (not-both a refl)
-asked-traded (Expired n q) r i o m s a t = absurd (not-both a refl)
+-- it is told by no Trade
+asked-told : (e : Event) → isAsked e ≡ true → isTrade (kindTold e) ≡ false
+asked-told (Accepted n x) a = refl
+asked-told (Replaced n l q p) a = refl
+asked-told (Withdrawn n q) a = refl
+asked-told (Canceled n q) a = refl
+asked-told (Decremented n q) a = refl
+asked-told (Traded n k q l) a = absurd (not-both a refl)
+asked-told (Killed n q) a = refl
+asked-told (Expired n q) a = refl
 
-asked-fair : (e : Event) (r : Reading) (i : ℕ) (o : Order) (m : ℕ) → isAsked e ≡ true → Tells r i e o m → isSelfTrade r ≡ false
-unfolding isSelfTrade
-asked-fair (Accepted n x) r i o m a t = rw (t .kind)
-asked-fair (Replaced n l q p) r i o m a t = rw (t .kind)
-asked-fair (Withdrawn n q) r i o m a t = rw (t .kind)
-asked-fair (Canceled n q) r i o m a t = absurd (not-both a refl)
-asked-fair (Decremented n q) r i o m a t = absurd (not-both a refl)
-asked-fair (Traded n k q l) r i o m a t = absurd (not-both a refl)
-asked-fair (Killed n q) r i o m a t = absurd (not-both a refl)
-asked-fair (Expired n q) r i o m a t = absurd (not-both a refl)
+untraded : (takes : ℕ → Bool) (r : Reading) → isTrade (r .kind) ≡ false → tradedFor takes r ≡ 0
+unfolding tradedFor
+untraded takes r e = rw e
 
 -- the accounts aside
-asked-leads : (t u v : List ℕ) (e : Event) (r : List ℕ) → isAsked e ≡ true → TellsOn u e r
+asked-leads : (t u v : List ℕ) (e : Event) (r : Reading) → isAsked e ≡ true → nextOf t ≤ nextOf v → TellsOn u e r
     → ((acc : ℕ → Account) → Accounts t acc → Accounts v (accountsAfter acc (r ∷ []))) → Leads t v (r ∷ [])
-unfolding traded selfTrades unread
-asked-leads t u v e r a tells accounts =
+unfolding traded tradesOf unread
+asked-leads t u v e r a l tells accounts =
+    let z : isTrade (r .kind) ≡ false = ap isTrade (tells .kind) ∙ asked-told e a in
     record {
       accounts = accounts;
-      balanced = ap (λ (n : ℕ). n + 0) (asked-traded e (readOf r) _ _ _ 1 a tells ∙ sym (asked-traded e (readOf r) _ _ _ 2 a tells));
-      fair = rw (asked-fair e (readOf r) _ _ _ a tells);
-      read = rw (tells-read (readOf r) _ e _ _ tells);
+      balanced = ap (λ (n : ℕ). n + 0) (untraded buys r z ∙ sym (untraded sells r z));
+      pairs = paired-none (nextOf t) (nextOf v) (r ∷ []) l (λ n. rw (no-trade-of n r z));
+      read = rw (tells-read r _ e _ tells);
     }
 
 -- a change of an order: u is the table after the event, v the one that is left
-module _ (t u v : List ℕ) (e : Event) (r : List ℕ) (m : Market t) (i : In (bookOf t) (who e)) (x : Exact (bookOf t) e)
+module _ (t u v : List ℕ) (e : Event) (r : Reading) (m : Market t) (i : In (bookOf t) (who e)) (x : Exact (bookOf t) e)
     (old : accountBefore (bookOf t) e ≡ accountIn (at (bookOf t) (who e))) (same : bookOf u ≡ after (bookOf t) e) (left : bookOf v ≡ bookOf u)
     (ids : (i : ℕ) → orderIdAt u i ≡ orderIdAt t i) (kept : (i : ℕ) → orderIdAt v i ≡ orderIdAt u i) (next : nextOf t ≤ nextOf v) (tells : TellsOn u e r) where
   size : length (bookOf u) ≡ length (bookOf t)
@@ -90,7 +86,7 @@ module _ (t u v : List ℕ) (e : Event) (r : List ℕ) (m : Market t) (i : In (b
   pub changed-leads : isAsked e ≡ true → Leads t v (r ∷ [])
   unfolding accountFrom
   changed-leads a =
-      asked-leads t u v e r a tells
+      asked-leads t u v e r a next tells
       (kept-accounts t v (r ∷ []) m
       (record {
         size = ap length left ∙ size;
@@ -103,7 +99,7 @@ module _ (t u v : List ℕ) (e : Event) (r : List ℕ) (m : Market t) (i : In (b
       }))
 
 -- a new order o, as record k: its OrderID is the next number, and an order that had the record is gone with nothing open
-module _ (t u v : List ℕ) (k : ℕ) (o : Order) (r : List ℕ) (m : Market t) (x : Fresh (bookOf t) k o) (same : bookOf u ≡ after (bookOf t) (Accepted k o))
+module _ (t u v : List ℕ) (k : ℕ) (o : Order) (r : Reading) (m : Market t) (x : Fresh (bookOf t) k o) (same : bookOf u ≡ after (bookOf t) (Accepted k o))
     (left : bookOf v ≡ bookOf u) (id : orderIdAt u k ≡ nextOf t) (ids : (i : ℕ) → i ≢ k → orderIdAt u i ≡ orderIdAt t i)
     (kept : (i : ℕ) → orderIdAt v i ≡ orderIdAt u i) (next : nextOf v ≡ nextOf t + 1) (tells : TellsOn u (Accepted k o) r) where
   after-put : bookOf u ≡ putOrder (bookOf t) k o
@@ -123,13 +119,13 @@ module _ (t u v : List ℕ) (k : ℕ) (o : Order) (r : List ℕ) (m : Market t) 
   short-new = omega (arith, takes-high (bookOf t) k (x .number))
 
   -- the account of its OrderID, and of any other number
-  begun : noted (nextOf t) blank (readOf r) ≡ accountIn (at (bookOf v) k)
+  begun : noted (nextOf t) blank r ≡ accountIn (at (bookOf v) k)
   begun =
-      ap (λ (n : ℕ). noted n blank (readOf r)) (sym id)
+      ap (λ (n : ℕ). noted n blank r) (sym id)
       ∙ account-here t u (Accepted k o) (in-new .low) (in-new .high) short-new x same r tells
       ∙ ap (λ (b : Book). accountIn (at b k)) (sym left)
 
-  passed : (n : ℕ) → n ≢ nextOf t → (a : Account) → noted n a (readOf r) ≡ a
+  passed : (n : ℕ) → n ≢ nextOf t → (a : Account) → noted n a r ≡ a
   passed n d a = account-there t u (Accepted k o) (in-new .low) (in-new .high) short-new x same r tells n (λ q. d (q ∙ id)) a
 
   -- another order is as it was
@@ -145,21 +141,21 @@ module _ (t u v : List ℕ) (k : ℕ) (o : Order) (r : List ℕ) (m : Market t) 
   settled h a e = subst (λ (y : Account). Settled y) (sym e) (shut-settled (at (bookOf t) k) (m .held .sound k h .covered) (shut (x .number) h))
 
   module _ (acc : ℕ → Account) (a : Accounts t acc) where
-    there : (i : ℕ) → In (bookOf v) i → noted (orderIdAt v i) (acc (orderIdAt v i)) (readOf r) ≡ accountIn (at (bookOf v) i)
+    there : (i : ℕ) → In (bookOf v) i → noted (orderIdAt v i) (acc (orderIdAt v i)) r ≡ accountIn (at (bookOf v) i)
     there i h =
         split (eqb i k)
         (λ z.
         let q = eqb-true i k z in
         let e : orderIdAt v i ≡ nextOf t = ap (λ (j : ℕ). orderIdAt v j) q ∙ kept k ∙ id in
-        ap (λ (n : ℕ). noted n (acc n) (readOf r)) e
-        ∙ ap (λ (y : Account). noted (nextOf t) y (readOf r)) (a .unnamed (nextOf t) (omega arith))
+        ap (λ (n : ℕ). noted n (acc n) r) e
+        ∙ ap (λ (y : Account). noted (nextOf t) y r) (a .unnamed (nextOf t) (omega arith))
         ∙ begun
         ∙ ap (λ (j : ℕ). accountIn (at (bookOf v) j)) (sym q))
         (λ z.
         let d = eqb-false i k z in
         let l = in-old i d h in
         let e : orderIdAt v i ≡ orderIdAt t i = kept i ∙ ids i d in
-        ap (λ (n : ℕ). noted n (acc n) (readOf r)) e
+        ap (λ (n : ℕ). noted n (acc n) r) e
         ∙ passed (orderIdAt t i) (nobody-yet t m (nextOf t) (omega arith) i l) (acc (orderIdAt t i))
         ∙ a .there i l
         ∙ ap (λ (y : Order). accountIn y) (sym (other i d)))
@@ -195,4 +191,4 @@ module _ (t u v : List ℕ) (k : ℕ) (o : Order) (r : List ℕ) (m : Market t) 
         }
 
   pub new-order-leads : Leads t v (r ∷ [])
-  new-order-leads = asked-leads t u v (Accepted k o) r refl tells taken
+  new-order-leads = asked-leads t u v (Accepted k o) r refl (omega arith) tells taken

@@ -7,6 +7,7 @@ use native.Mathlib.Omega.{arith}
 use lib.ListN.{length}
 use borrow.Author.Tests.{eq-eqb, ltb-false}
 use Rattle.octets.proofs.Bools.{split}
+use Rattle.decimal.specs.declared.Instrument.{Instrument}
 use Rattle.matching.specs.declared.Order.{Order}
 use Rattle.matching.specs.declared.Depth.{Depth}
 use Rattle.matching.specs.declared.Depth.the-variants.{NoLevel}
@@ -17,7 +18,8 @@ use Rattle.matching.proofs.Books.{sum-same, sum-add}
 use Rattle.matching.proofs.Theorems.{depth-totals, depth-orders, depth-ends}
 use Rattle.table.specs.Heading.{workOf}
 use Rattle.table.specs.Orders.{filled, bookOf}
-use Rattle.table.specs.Market.{isMarket}
+use Rattle.table.specs.Market.{isMarketOf}
+use Rattle.table.proofs.Instruments.{of-market}
 use Rattle.table.proofs.Facts.{market-facts}
 use Rattle.table.proofs.Books.{length-book}
 use Rattle.market.specs.declared.DepthAnswer.the-variants.{Found}
@@ -80,28 +82,28 @@ sides-count b =
     ∙ sum-same _ _ b b (length b) (λ k l h. both-count (at b k))
 
 -- ---- Depth on a market with nothing in work
-module _ (t : List ℕ) (m : isMarket t ≡ true) (idle : workOf t ≡ 0) where
-  pub found : (s k : ℕ) → isSide s ≡ true → depthAnswer t s k ≡ Found (depth (bookOf t) s k)
+module _ (q : Instrument) (t : List ℕ) (m : isMarketOf q t ≡ true) (idle : workOf t ≡ 0) where
+  pub found : (s k : ℕ) → isSide s ≡ true → depthAnswer q t s k ≡ Found (depth (bookOf t) s k)
   unfolding depthAnswer
   found s k e = rw (m, eq-eqb (workOf t) 0 idle, e)
 
-  over-depth : (f : Depth → ℕ) (s n : ℕ) → isSide s ≡ true → overDepth f t s n ≡ overLevels f (bookOf t) s n
+  over-depth : (f : Depth → ℕ) (s n : ℕ) → isSide s ≡ true → overDepth q f t s n ≡ overLevels f (bookOf t) s n
   unfolding overDepth overLevels
   over-depth f s zero e = refl
   over-depth f s (suc n) e = rw (found s n e, over-depth f s n e)
 
   sound : (k : ℕ) → In (bookOf t) k → Sound (at (bookOf t) k)
-  sound = market-facts t m .held .sound
+  sound = market-facts t (of-market q t m) .held .sound
 
-  over-all : (f : Depth → ℕ) → f NoLevel ≡ 0 → (s n : ℕ) → isSide s ≡ true → filled t ≤ n → overDepth f t s n ≡ overLevels f (bookOf t) s (length (bookOf t))
+  over-all : (f : Depth → ℕ) → f NoLevel ≡ 0 → (s n : ℕ) → isSide s ≡ true → filled t ≤ n → overDepth q f t s n ≡ overLevels f (bookOf t) s (length (bookOf t))
   over-all f z s n e h =
       let l = length-book t in
-      let q : n ≡ length (bookOf t) + (n - length (bookOf t)) = omega arith in
-      over-depth f s n e ∙ ap (λ (k : ℕ). overLevels f (bookOf t) s k) q
+      let p : n ≡ length (bookOf t) + (n - length (bookOf t)) = omega arith in
+      over-depth f s n e ∙ ap (λ (k : ℕ). overLevels f (bookOf t) s k) p
       ∙ over-more (bookOf t) s f z (length (bookOf t)) (n - length (bookOf t)) (depth-ends (bookOf t) s sound)
 
   module _ (n : ℕ) (h : filled t ≤ n) where
-    pub totals-open : overDepth totalOf t 1 n + overDepth totalOf t 2 n ≡ openIn t
+    pub totals-open : overDepth q totalOf t 1 n + overDepth q totalOf t 2 n ≡ openIn t
     unfolding openIn
     totals-open =
         let a = over-all totalOf refl 1 n refl h in
@@ -110,7 +112,7 @@ module _ (t : List ℕ) (m : isMarket t ≡ true) (idle : workOf t ≡ 0) where
         let d = depth-totals (bookOf t) 2 sound in
         rw (← length-book t) (omega (arith, sides-open (bookOf t)))
 
-    pub orders-open : overDepth ordersOf t 1 n + overDepth ordersOf t 2 n ≡ ordersIn t
+    pub orders-open : overDepth q ordersOf t 1 n + overDepth q ordersOf t 2 n ≡ ordersIn t
     unfolding ordersIn
     orders-open =
         let a = over-all ordersOf refl 1 n refl h in

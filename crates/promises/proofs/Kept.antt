@@ -1,7 +1,7 @@
 -- From the first table on: what the reports of a history tell of its last table.
 use mathlib.Core.Path.{_≡_, refl, sym, ap, _∙_}
 use mathlib.Core.Bool.{Bool, true, false}
-use mathlib.Core.List.{List, []}
+use mathlib.Core.List.{List, [], map}
 use mathlib.Core.Logic.{_≢_}
 use Prim.Native.Nat.{ℕ, _+_, _≤_, _<_}
 use native.Mathlib.Omega.{arith}
@@ -9,6 +9,7 @@ use lib.Dec.{eqb, ltb}
 use lib.ListN.{length}
 use borrow.Author.Tests.{eqb-true, eqb-false}
 use Rattle.octets.proofs.Bools.{split, not-both}
+use Rattle.decimal.specs.declared.Instrument.{Instrument}
 use Rattle.request.specs.declared.NewOrder.{NewOrder}
 use Rattle.request.specs.declared.Replacement.{Replacement}
 use Rattle.request.specs.declared.Cancellation.{Cancellation}
@@ -17,15 +18,18 @@ use Rattle.request.specs.declared.Asked.the-variants.{Garbled, Refused, Enters,
 use Rattle.request.specs.Asks.{askedOf}
 use Rattle.matching.specs.declared.Order.{Order}
 use Rattle.matching.specs.Depth.{depth}
-use Rattle.matching.specs.Matching.{at, openOf}
+use Rattle.matching.specs.Matching.{at, openOf, isBuy}
 use Rattle.matching.specs.Held.{Covered, In}
-use Rattle.table.specs.Heading.{venueOf, portOf, nextOf, workOf}
+use Rattle.table.specs.Heading.{venueOf, portOf, nextOf, workOf, instrumentOf}
 use Rattle.table.specs.Orders.{orderIdAt, orderAt, filled, bookOf}
-use Rattle.table.specs.Market.{isMarket}
+use Rattle.table.specs.Market.{isMarket, isMarketOf}
 use Rattle.table.specs.Opened.{isOpening, opened}
+use Rattle.table.proofs.Instruments.{of-market}
 use Rattle.table.proofs.Facts.{market-facts}
 use Rattle.table.proofs.Books.{at-book}
 use Rattle.table.proofs.Theorems.{opening-makes-a-market}
+use Rattle.report.specs.declared.Reading.{Reading}
+use Rattle.report.specs.Reports.{readOf}
 use Rattle.calls.specs.declared.SubmitAnswer.the-variants as submit-answer
 use Rattle.calls.specs.declared.RunAnswer.the-variants as run-answer
 use Rattle.calls.specs.declared.SubmitAnswer.{SubmitAnswer}
@@ -39,7 +43,7 @@ use Rattle.intake.proofs.Keeping.{Comes, no-room, no-market, in-work, spent, he
 use Rattle.market.specs.declared.DepthAnswer.the-variants as depth-answer
 use Rattle.market.specs.Depth.{isSide, depthAnswer}
 use Rattle.promises.specs.History.{Call, tableAfter, reportsAfter}
-use Rattle.promises.specs.Tallies.{Account, blank, accountOf, bought, sold, selfTrades, unread}
+use Rattle.promises.specs.Tallies.{Account, blank, accountOf, bought, sold, tradesOf, selfTrades, unread}
 use Rattle.promises.specs.Whole.{recordBy, openBy}
 use Rattle.promises.proofs.Tells.{accountIn}
 use Rattle.promises.proofs.OrderIds.{in-filled, filled-in, by-none, by-some, by-in, open-is, open-none, open-there}
@@ -49,9 +53,10 @@ use Rattle.promises.proofs.Histories.{history-keeps, history-leads}
 use Rattle.promises.proofs.Telling.{step-tells, all-told}
 
 -- what reports tell of a table
-pub record Told (t : List ℕ) (rs : List (List ℕ)) : Type 0 where
+pub record Told (t : List ℕ) (rs : List Reading) : Type 0 where
   pub accounts : Accounts t (λ n. accountOf n rs)
   pub balanced : bought rs ≡ sold rs
+  pub twos : (n : ℕ) → 0 < tradesOf n rs → tradesOf n rs ≡ 2
   pub fair : selfTrades rs ≡ 0
   pub read : unread rs ≡ 0
 
@@ -69,26 +74,27 @@ no-accounts t e =
     none : (i : ℕ) → In (bookOf t) i → i ≤ 0
     none i h = rw e at (h .high)
 
-module _ (before venue port code : List ℕ) (first : ℕ) (mpids modes : List ℕ) (taken : isOpening before venue port code first mpids modes ≡ true)
+module _ (q : Instrument) (before venue port code : List ℕ) (first : ℕ) (mpids modes : List ℕ) (taken : isOpening q before venue port code first mpids modes ≡ true)
     (calls : List Call) where
   abbrev start : List ℕ
-  start = opened before venue port code first mpids modes
+  start = opened q before venue port code first mpids modes
 
-  pub after-market : isMarket (tableAfter start calls) ≡ true
-  after-market = history-keeps calls start (opening-makes-a-market before venue port code first mpids modes taken)
+  pub after-market : isMarketOf q (tableAfter q start calls) ≡ true
+  after-market = history-keeps q calls start (opening-makes-a-market q before venue port code first mpids modes taken)
 
-  pub after-told : Told (tableAfter start calls) (reportsAfter start calls)
+  pub after-told : Told (tableAfter q start calls) (map (readOf q) (reportsAfter q start calls))
   after-told =
-      let g = history-leads all-told step-tells calls start (opening-makes-a-market before venue port code first mpids modes taken) in
+      let g = history-leads q (all-told q) (step-tells q) calls start (opening-makes-a-market q before venue port code first mpids modes taken) in
       record {
-        accounts = g .accounts (λ n. blank) (no-accounts start (opened-book before venue port code first mpids modes taken));
+        accounts = g .accounts (λ n. blank) (no-accounts start (opened-book q before venue port code first mpids modes taken));
         balanced = g .balanced;
-        fair = g .fair;
+        twos = g .pairs .twos;
+        fair = g .pairs .fair;
         read = g .read;
       }
 
 -- ---- what that comes to, for every number
-module _ (t : List ℕ) (rs : List (List ℕ)) (m : isMarket t ≡ true) (g : Told t rs) where
+module _ (t : List ℕ) (rs : List Reading) (m : isMarket t ≡ true) (g : Told t rs) where
   -- of an order in the table
   adds : (o : Order) → Covered o → accountIn o .accepted ≡ accountIn o .executions + accountIn o .decrements + accountIn o .cancels + openOf o
   unfolding openOf
@@ -169,47 +175,47 @@ module _ (t message : List ℕ) where
   handled-found (Replaces o) = replacing-found o (replaceStands t message o)
   handled-found (Cancels o) = canceling-found o (cancelStands t message o)
 
-  submitted-found : (room : ℕ) → isMarket t ≡ true → isNoMarket (submitted t message room .answer) ≡ false
-  submitted-found room m = by (comes t message room)
+  submitted-found : (q : Instrument) (room : ℕ) → isMarketOf q t ≡ true → isNoMarket (submitted q t message room .answer) ≡ false
+  submitted-found q room m = by (comes q t message room)
     where
-      by : Comes t message room → isNoMarket (submitted t message room .answer) ≡ false
+      by : Comes q t message room → isNoMarket (submitted q t message room .answer) ≡ false
       by (no-room a e) = rw e
       by (no-market a n e) = absurd (not-both m n)
       by (in-work a n w e) = rw e
       by (spent a n w h e) = rw e
-      by (heard a n q e) = rw e (handled-found (askedOf (venueOf t) (portOf t) message))
+      by (heard a n x e) = rw e (handled-found (askedOf (instrumentOf t) (venueOf t) (portOf t) message))
 
-module _ (t : List ℕ) (m : isMarket t ≡ true) where
-  pub submit-found : (message : List ℕ) (room : ℕ) → submitted t message room .answer ≢ submit-answer.NoMarket
-  submit-found message room e = not-both (ap isNoMarket e) (submitted-found t message room m)
+module _ (q : Instrument) (t : List ℕ) (m : isMarketOf q t ≡ true) where
+  pub submit-found : (message : List ℕ) (room : ℕ) → submitted q t message room .answer ≢ submit-answer.NoMarket
+  submit-found message room e = not-both (ap isNoMarket e) (submitted-found t message q room m)
 
-  pub run-found : (room budget : ℕ) → ran t room budget .answer ≢ run-answer.NoMarket
+  pub run-found : (room budget : ℕ) → ran q t room budget .answer ≢ run-answer.NoMarket
   unfolding ran
   run-found room budget e =
       split (ltb room roomAsked)
-      (λ z. let q : run-answer.NoRoom ≡ run-answer.NoMarket = rw z at e in let y : _≡_ {A = ℕ} 0 1 = cc in omega arith)
+      (λ z. let x : run-answer.NoRoom ≡ run-answer.NoMarket = rw z at e in let y : _≡_ {A = ℕ} 0 1 = cc in omega arith)
       (λ z.
       let w = worked budget t room in
-      let q : run-answer.Ran (length (joined (w .reports))) (length (w .reports)) (w .steps) ≡ run-answer.NoMarket = rw (z, m) at e in
+      let x : run-answer.Ran (length (joined (w .reports))) (length (w .reports)) (w .steps) ≡ run-answer.NoMarket = rw (z, m) at e in
       let y : _≡_ {A = ℕ} 0 1 = cc in
       omega arith)
 
-  pub depth-found : (side k : ℕ) → depthAnswer t side k ≢ depth-answer.NoMarket
+  pub depth-found : (side k : ℕ) → depthAnswer q t side k ≢ depth-answer.NoMarket
   unfolding depthAnswer
   depth-found side k e =
       split (eqb (workOf t) 0)
       (λ z.
       split (isSide side)
-      (λ w. let q : depth-answer.Found (depth (bookOf t) side k) ≡ depth-answer.NoMarket = rw (m, z, w) at e in let y : _≡_ {A = ℕ} 0 1 = cc in omega arith)
-      (λ w. let q : depth-answer.BadSide ≡ depth-answer.NoMarket = rw (m, z, w) at e in let y : _≡_ {A = ℕ} 0 1 = cc in omega arith))
-      (λ z. let q : depth-answer.InWork ≡ depth-answer.NoMarket = rw (m, z) at e in let y : _≡_ {A = ℕ} 0 1 = cc in omega arith)
+      (λ w. let x : depth-answer.Found (depth (bookOf t) side k) ≡ depth-answer.NoMarket = rw (m, z, w) at e in let y : _≡_ {A = ℕ} 0 1 = cc in omega arith)
+      (λ w. let x : depth-answer.BadSide ≡ depth-answer.NoMarket = rw (m, z, w) at e in let y : _≡_ {A = ℕ} 0 1 = cc in omega arith))
+      (λ z. let x : depth-answer.InWork ≡ depth-answer.NoMarket = rw (m, z) at e in let y : _≡_ {A = ℕ} 0 1 = cc in omega arith)
 
   -- ---- an open buy is above an open sell
-  pub buys-above : workOf t ≡ 0 → (i j : ℕ) → 1 ≤ i → i ≤ filled t → 1 ≤ j → j ≤ filled t → orderAt t i .side ≡ 1 → orderAt t j .side ≡ 2
+  pub buys-above : workOf t ≡ 0 → (i j : ℕ) → 1 ≤ i → i ≤ filled t → 1 ≤ j → j ≤ filled t → isBuy (orderAt t i) ≡ true → isBuy (orderAt t j) ≡ false
       → 0 < openOf (orderAt t i) → 0 < openOf (orderAt t j) → orderAt t j .level < orderAt t i .level
   buys-above idle i j li hi lj hj si sj oi oj =
       let p = at-book t i li hi in
-      let q = at-book t j lj hj in
-      let u = market-facts t m .held .uncrossed i j (λ e. omega arith) (λ e. omega arith) in
-      let v = rw (p, q) at u in
-      v (rw si) (rw sj) oi oj
+      let r = at-book t j lj hj in
+      let u = market-facts t (of-market q t m) .held .uncrossed i j (λ e. omega arith) (λ e. omega arith) in
+      let v = rw (p, r) at u in
+      v si sj oi oj

@@ -1,5 +1,5 @@
 -- Reports lead from one table to another: the accounts of the table before, taken on by them, are those of the table after; they buy what
--- they sell, none is a self-trade, and each can be read. Reports one after the other do if their parts do.
+-- they sell, their Trades are in pairs by 880, and each can be read. Reports one after the other do if their parts do.
 use mathlib.Core.Path.{_≡_, refl, sym, ap, subst, _∙_}
 use mathlib.Core.Bool.{Bool, true, false}
 use mathlib.Core.List.{List, [], _∷_, _++_}
@@ -9,7 +9,7 @@ use lib.Dec.{eqb}
 use lib.ListN.{length}
 use Rattle.octets.proofs.Bools.{split, not-both}
 use Rattle.matching.specs.declared.Order.{Order}
-use Rattle.matching.specs.Matching.{Book, at, openOf}
+use Rattle.matching.specs.Matching.{Book, at, openOf, buys}
 use Rattle.matching.specs.Held.{Covered, In}
 use Rattle.table.specs.Heading.{nextOf}
 use Rattle.table.specs.Orders.{orderIdAt, bookOf}
@@ -17,11 +17,11 @@ use Rattle.table.specs.Facts.{Market}
 use Rattle.report.specs.declared.Kind.{Kind}
 use Rattle.report.specs.declared.Kind.the-variants.{Accepted, Replaced, Canceled, Trade, Rejected, CancelReject, SessionReject, Refused}
 use Rattle.report.specs.declared.Reading.{Reading}
-use Rattle.report.specs.Reports.{readOf}
 use Rattle.readback.specs.Says.{says}
-use Rattle.promises.specs.Tallies.{Account, blank, afterReport, noted, accountFrom, isTrade, tradedFor, traded, bought, sold, isSelfTrade, selfTrades, isRefused, unread}
+use Rattle.promises.specs.Tallies.{Account, blank, afterReport, noted, accountFrom, isTrade, sells, tradedFor, traded, bought, sold, tradesOf, isRefused, unread}
 use Rattle.promises.proofs.Tells.{accountIn}
 use Rattle.promises.proofs.OrderIds.{Nobody, nobody-yet}
+use Rattle.promises.proofs.Pairs.{Paired, no-trade-of, paired-none, paired-then}
 
 -- ---- the accounts of a table, one for each number that 37 may name
 
@@ -50,24 +50,24 @@ accounts-same t f g s a =
     }
 
 -- the accounts after reports
-abbrev pub accountsAfter : (ℕ → Account) → List (List ℕ) → ℕ → Account
+abbrev pub accountsAfter : (ℕ → Account) → List Reading → ℕ → Account
 accountsAfter acc rs n = accountFrom n (acc n) rs
 
-pub record Leads (t u : List ℕ) (rs : List (List ℕ)) : Type 0 where
+pub record Leads (t u : List ℕ) (rs : List Reading) : Type 0 where
   pub accounts : (acc : ℕ → Account) → Accounts t acc → Accounts u (accountsAfter acc rs)
   pub balanced : bought rs ≡ sold rs
-  pub fair : selfTrades rs ≡ 0
+  pub pairs : Paired (nextOf t) (nextOf u) rs
   pub read : unread rs ≡ 0
 
 -- ---- the same orders before and after reports that follow each of them and name nobody else
-pub record Kept (t u : List ℕ) (rs : List (List ℕ)) : Type 0 where
+pub record Kept (t u : List ℕ) (rs : List Reading) : Type 0 where
   pub size : length (bookOf u) ≡ length (bookOf t)
   pub ids : (i : ℕ) → orderIdAt u i ≡ orderIdAt t i
   pub next : nextOf t ≤ nextOf u
   pub follows : (i : ℕ) → In (bookOf t) i → accountFrom (orderIdAt t i) (accountIn (at (bookOf t) i)) rs ≡ accountIn (at (bookOf u) i)
   pub others : (n : ℕ) → Nobody t n → (a : Account) → accountFrom n a rs ≡ a
 
-pub kept-accounts : (t u : List ℕ) (rs : List (List ℕ)) → Market t → Kept t u rs → (acc : ℕ → Account) → Accounts t acc → Accounts u (accountsAfter acc rs)
+pub kept-accounts : (t u : List ℕ) (rs : List Reading) → Market t → Kept t u rs → (acc : ℕ → Account) → Accounts t acc → Accounts u (accountsAfter acc rs)
 kept-accounts t u rs m k acc a =
     record {
       there = λ i h.
@@ -84,41 +84,45 @@ kept-accounts t u rs m k acc a =
     }
 
 -- ---- one after the other
-account-append : (k : ℕ) (a : Account) (rs qs : List (List ℕ)) → accountFrom k a (rs ++ qs) ≡ accountFrom k (accountFrom k a rs) qs
+account-append : (k : ℕ) (a : Account) (rs qs : List Reading) → accountFrom k a (rs ++ qs) ≡ accountFrom k (accountFrom k a rs) qs
 unfolding accountFrom
 account-append k a [] qs = refl
-account-append k a (r ∷ rs) qs = account-append k (noted k a (readOf r)) rs qs
+account-append k a (r ∷ rs) qs = account-append k (noted k a r) rs qs
 
-traded-append : (s : ℕ) (rs qs : List (List ℕ)) → traded s (rs ++ qs) ≡ traded s rs + traded s qs
+traded-append : (takes : ℕ → Bool) (rs qs : List Reading) → traded takes (rs ++ qs) ≡ traded takes rs + traded takes qs
 unfolding traded
-traded-append s [] qs = omega arith
-traded-append s (r ∷ rs) qs = omega (arith, traded-append s rs qs)
+traded-append takes [] qs = omega arith
+traded-append takes (r ∷ rs) qs = omega (arith, traded-append takes rs qs)
 
-self-append : (rs qs : List (List ℕ)) → selfTrades (rs ++ qs) ≡ selfTrades rs + selfTrades qs
-unfolding selfTrades
-self-append [] qs = omega arith
-self-append (r ∷ rs) qs = omega (arith, self-append rs qs)
-
-unread-append : (rs qs : List (List ℕ)) → unread (rs ++ qs) ≡ unread rs + unread qs
+unread-append : (rs qs : List Reading) → unread (rs ++ qs) ≡ unread rs + unread qs
 unfolding unread
 unread-append [] qs = omega arith
 unread-append (r ∷ rs) qs = omega (arith, unread-append rs qs)
 
-pub leads-then : (t u v : List ℕ) (rs qs : List (List ℕ)) → Leads t u rs → Leads u v qs → Leads t v (rs ++ qs)
+both-sums : {a b c d : ℕ} → a ≡ b → c ≡ d → a + c ≡ b + d
+both-sums e f = omega arith
+
+pub leads-then : (t u v : List ℕ) (rs qs : List Reading) → Leads t u rs → Leads u v qs → Leads t v (rs ++ qs)
 leads-then t u v rs qs x y =
     record {
       accounts = λ acc a.
           accounts-same v (accountsAfter (accountsAfter acc rs) qs) (accountsAfter acc (rs ++ qs)) (λ n. account-append n (acc n) rs qs)
           (y .accounts (accountsAfter acc rs) (x .accounts acc a));
-      balanced = omega (arith, traded-append 1 rs qs, traded-append 2 rs qs, x .balanced, y .balanced);
-      fair = omega (arith, self-append rs qs, x .fair, y .fair);
+      balanced = traded-append buys rs qs ∙ both-sums (x .balanced) (y .balanced) ∙ sym (traded-append sells rs qs);
+      pairs = paired-then (nextOf t) (nextOf u) (nextOf v) rs qs (x .pairs) (y .pairs);
       read = omega (arith, unread-append rs qs, x .read, y .read);
     }
 
 -- ---- no report, and the table as it was
 pub leads-still : (t : List ℕ) → Leads t t []
-unfolding accountFrom traded selfTrades unread
-leads-still t = record { accounts = λ acc a. accounts-same t acc (accountsAfter acc []) (λ n. refl) a; balanced = refl; fair = refl; read = refl }
+unfolding accountFrom traded tradesOf unread
+leads-still t =
+    record {
+      accounts = λ acc a. accounts-same t acc (accountsAfter acc []) (λ n. refl) a;
+      balanced = refl;
+      pairs = paired-none (nextOf t) (nextOf t) [] (omega arith) (λ n. refl);
+      read = refl;
+    }
 
 -- ---- a report about no order's amounts
 abbrev pub isSilent : Kind → Bool
@@ -166,17 +170,13 @@ module _ (r : Reading) (h : isSilent (r .kind) ≡ true) where
   unfolding noted
   silent-noted k a = split (eqb (says 37 r) k) (λ e. rw e (no-change (r .kind) r a h)) (λ e. rw e)
 
-  silent-traded : (s : ℕ) → tradedFor s r ≡ 0
+  silent-traded : (takes : ℕ → Bool) → tradedFor takes r ≡ 0
   unfolding tradedFor
-  silent-traded s = rw (no-trade (r .kind) h)
+  silent-traded takes = rw (no-trade (r .kind) h)
 
-  silent-fair : isSelfTrade r ≡ false
-  unfolding isSelfTrade
-  silent-fair = rw (no-trade (r .kind) h)
-
-pub leads-silent : (t u r : List ℕ) → Market t → bookOf u ≡ bookOf t → ((i : ℕ) → orderIdAt u i ≡ orderIdAt t i) → nextOf t ≤ nextOf u
-    → isSilent (readOf r .kind) ≡ true → Leads t u (r ∷ [])
-unfolding accountFrom traded selfTrades unread
+pub leads-silent : (t u : List ℕ) (r : Reading) → Market t → bookOf u ≡ bookOf t → ((i : ℕ) → orderIdAt u i ≡ orderIdAt t i) → nextOf t ≤ nextOf u
+    → isSilent (r .kind) ≡ true → Leads t u (r ∷ [])
+unfolding accountFrom traded tradesOf unread
 leads-silent t u r m e s l h =
     record {
       accounts =
@@ -185,10 +185,10 @@ leads-silent t u r m e s l h =
             size = ap length e;
             ids = s;
             next = l;
-            follows = λ i k. silent-noted (readOf r) h (orderIdAt t i) _ ∙ ap (λ (b : Book). accountIn (at b i)) (sym e);
-            others = λ n g a. silent-noted (readOf r) h n a;
+            follows = λ i k. silent-noted r h (orderIdAt t i) _ ∙ ap (λ (b : Book). accountIn (at b i)) (sym e);
+            others = λ n g a. silent-noted r h n a;
           });
-      balanced = ap (λ (n : ℕ). n + 0) (silent-traded (readOf r) h 1 ∙ sym (silent-traded (readOf r) h 2));
-      fair = rw (silent-fair (readOf r) h);
-      read = rw (silent-read (readOf r .kind) h);
+      balanced = ap (λ (n : ℕ). n + 0) (silent-traded r h buys ∙ sym (silent-traded r h sells));
+      pairs = paired-none (nextOf t) (nextOf u) (r ∷ []) l (λ n. rw (no-trade-of n r (no-trade (r .kind) h)));
+      read = rw (silent-read (r .kind) h);
     }

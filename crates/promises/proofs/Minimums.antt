@@ -2,7 +2,7 @@
 -- the order has traded its minimum when its work has ended, or was killed whole.
 use mathlib.Core.Path.{_≡_, refl, sym, ap, _∙_}
 use mathlib.Core.Bool.{Bool, true, false, _&&_}
-use mathlib.Core.List.{List, [], _∷_, _++_, append-nil}
+use mathlib.Core.List.{List, [], _∷_, _++_, map, append-nil, map-append}
 use mathlib.Core.Logic.{_⊎_, inl, inr, ⊎-elim}
 use Prim.Native.Nat.{ℕ, zero, suc, _+_, _-_, _≤_, _<_}
 use native.Mathlib.Omega.{arith}
@@ -10,25 +10,30 @@ use lib.Dec.{eqb, ltb}
 use lib.ListN.{length}
 use borrow.Author.Tests.{ne-eqb}
 use Rattle.octets.proofs.Bools.{split, not-both}
+use Rattle.decimal.specs.declared.Instrument.{Instrument}
 use Rattle.matching.specs.Matching.{Book, at, openOf, bookAfter, workAfter, happens, Ran, run, minimumOf, misses}
 use Rattle.matching.specs.Held.{In}
 use Rattle.matching.specs.Runs.{KilledWhole}
 use Rattle.matching.proofs.Events.{length-play}
 use Rattle.matching.proofs.Steps.{run-plays, run-fits}
 use Rattle.matching.proofs.Theorems as matching
-use Rattle.table.specs.Heading.{workOf, decidedOf, modeOf}
+use Rattle.table.specs.Heading.{workOf, instrumentOf, decidedOf, modeOf}
 use Rattle.table.specs.Orders.{orderIdAt, orderAt, filled, bookOf}
-use Rattle.table.specs.Market.{isMarket}
+use Rattle.table.specs.Market.{isMarketOf}
 use Rattle.table.specs.Facts.{Market}
 use Rattle.table.specs.Changes.{missesNow, stepEvents, stepWork, stepped}
+use Rattle.table.proofs.Instruments.{of-market, market-instrument}
 use Rattle.table.proofs.Facts.{market-facts}
-use Rattle.table.proofs.Kept.{stepped-kept}
+use Rattle.table.proofs.Kept.{stepped-kept, stepped-instrument}
 use Rattle.table.proofs.OrderIds.{stepped-order-id}
 use Rattle.table.proofs.Books.{length-book, at-book}
+use Rattle.report.specs.declared.Reading.{Reading}
+use Rattle.report.specs.Reports.{readOf}
 use Rattle.calls.specs.Told.{joined, roomAsked}
 use Rattle.calls.specs.Run.{stepReports, stops, worked, ran}
 use Rattle.turns.proofs.Stepping.{step-book, step-work, step-modes, step-decided}
 use Rattle.turns.proofs.Taking.{goes-busy}
+use Rattle.turns.proofs.Agreeing.{run-one}
 use Rattle.promises.specs.History.{Call, Submit, Run, Depth, Top, Read, tableAfter, reportsAfter, noSubmit}
 use Rattle.promises.specs.Shown.{ReportsOf}
 use Rattle.promises.specs.Minimums.{CanceledWhole, Reached}
@@ -37,7 +42,7 @@ use Rattle.promises.proofs.Histories.{call-keeps}
 use Rattle.promises.proofs.Putting.{Put, nothing, undecided}
 
 -- table u with the reports rs is what n steps of matching lead to from table t
-pub record Stepping (t u : List ℕ) (rs : List (List ℕ)) (n : ℕ) : Type 0 where
+pub record Stepping (t u : List ℕ) (rs : List Reading) (n : ℕ) : Type 0 where
   pub book : bookOf u ≡ run (modeOf t) (missesNow t) n (bookOf t) (workOf t) .book
   pub work : workOf u ≡ run (modeOf t) (missesNow t) n (bookOf t) (workOf t) .work
   pub modes : modeOf u ≡ modeOf t
@@ -45,7 +50,7 @@ pub record Stepping (t u : List ℕ) (rs : List (List ℕ)) (n : ℕ) : Type 0 w
   pub ids : (i : ℕ) → orderIdAt u i ≡ orderIdAt t i
   pub events : ReportsOf (orderIdAt t) rs (run (modeOf t) (missesNow t) n (bookOf t) (workOf t) .events)
 
-pub record Steps (t u : List ℕ) (rs : List (List ℕ)) : Type 0 where
+pub record Steps (t u : List ℕ) (rs : List Reading) : Type 0 where
   pub number : ℕ
   pub by : Stepping t u rs number
 
@@ -55,18 +60,11 @@ unfolding run
 none-steps t = record { number = 0; by = record { book = refl; work = refl; modes = refl; missed = refl; ids = λ i. refl; events = tt } }
 
 -- one
-one-run : (modes : ℕ → ℕ) (missed : Bool) (b : Book) (w : ℕ) → 1 ≤ w
-    → run modes missed 1 b w ≡ record { book = bookAfter modes missed b w; work = workAfter missed b w; events = happens modes missed b w; steps = 1 }
-unfolding run
-one-run modes missed b zero l = absurd (omega arith)
-one-run modes missed b (suc k) l =
-    let e = append-nil (happens modes missed b (suc k)) in
-    λ j. record { book = bookAfter modes missed b (suc k); work = workAfter missed b (suc k); events = e j; steps = 1 }
-
-one-step : (t : List ℕ) → Market t → 1 ≤ workOf t → Steps t (stepped t) (stepReports t)
-unfolding stepEvents stepWork
-one-step t m l =
-    let e = one-run (modeOf t) (missesNow t) (bookOf t) (workOf t) l in
+one-step : (q : Instrument) (t : List ℕ) → instrumentOf t ≡ q → Market t → 1 ≤ workOf t → Steps t (stepped t) (map (readOf q) (stepReports t))
+unfolding run stepEvents stepWork
+one-step q t k m l =
+    let e = run-one (modeOf t) (missesNow t) 0 (bookOf t) (workOf t) l in
+    let n = append-nil (happens (modeOf t) (missesNow t) (bookOf t) (workOf t)) in
     record {
       number = 1;
       by = record {
@@ -75,7 +73,7 @@ one-step t m l =
         modes = step-modes t m l;
         missed = step-decided t m l;
         ids = stepped-order-id t;
-        events = rw e (step-reports t m l);
+        events = rw (e, n) (step-reports q t k m l);
       };
     }
 
@@ -90,7 +88,7 @@ missed-then (suc m) n x =
     no true = refl
     no false = refl
 
-stepping-then : (t u v : List ℕ) (rs qs : List (List ℕ)) (m n : ℕ) → Stepping t u rs m → Stepping u v qs n → Stepping t v (rs ++ qs) (m + n)
+stepping-then : (t u v : List ℕ) (rs qs : List Reading) (m n : ℕ) → Stepping t u rs m → Stepping u v qs n → Stepping t v (rs ++ qs) (m + n)
 stepping-then t u v rs qs m n a b =
     let g = matching.goes-on (modeOf t) (missesNow t) m n (bookOf t) (workOf t) in
     let first = run (modeOf t) (missesNow t) m (bookOf t) (workOf t) in
@@ -106,44 +104,45 @@ stepping-then t u v rs qs m n a b =
       events = rw (g .events) (reports-append (orderIdAt t) rs qs _ _ (a .events) f);
     }
 
-steps-then : (t u v : List ℕ) (rs qs : List (List ℕ)) → Steps t u rs → Steps u v qs → Steps t v (rs ++ qs)
+steps-then : (t u v : List ℕ) (rs qs : List Reading) → Steps t u rs → Steps u v qs → Steps t v (rs ++ qs)
 steps-then t u v rs qs a b = record { number = a .number + b .number; by = stepping-then t u v rs qs (a .number) (b .number) (a .by) (b .by) }
 
 -- Run, and calls of which Submit is no part
-worked-steps : (n : ℕ) (t : List ℕ) (room : ℕ) → Market t → Steps t (worked n t room .table) (worked n t room .reports)
+worked-steps : (q : Instrument) (n : ℕ) (t : List ℕ) (room : ℕ) → instrumentOf t ≡ q → Market t → Steps t (worked n t room .table) (map (readOf q) (worked n t room .reports))
 unfolding worked
-worked-steps zero t room m = none-steps t
-worked-steps (suc n) t room m =
+worked-steps q zero t room k m = none-steps t
+worked-steps q (suc n) t room k m =
     split (stops t room)
     (λ e. rw e (none-steps t))
     (λ e.
     let l = goes-busy t room e in
-    rw e
-    (steps-then t (stepped t) _ (stepReports t) _ (one-step t m l)
-    (worked-steps n (stepped t) (room - length (joined (stepReports t))) (stepped-kept t m l))))
+    rw (e, map-append (readOf q) (stepReports t) (worked n (stepped t) (room - length (joined (stepReports t))) .reports))
+    (steps-then t (stepped t) _ (map (readOf q) (stepReports t)) _ (one-step q t k m l)
+    (worked-steps q n (stepped t) (room - length (joined (stepReports t))) (stepped-instrument t m l ∙ k) (stepped-kept t m l))))
 
-ran-steps : (t : List ℕ) (room budget : ℕ) → isMarket t ≡ true → Steps t (ran t room budget .table) (ran t room budget .reports)
+ran-steps : (q : Instrument) (t : List ℕ) (room budget : ℕ) → isMarketOf q t ≡ true → Steps t (ran q t room budget .table) (map (readOf q) (ran q t room budget .reports))
 unfolding ran
-ran-steps t room budget m =
+ran-steps q t room budget m =
     split (ltb room roomAsked)
     (λ e. rw e (none-steps t))
-    (λ e. rw (e, m) (worked-steps budget t room (market-facts t m)))
+    (λ e. rw (e, m) (worked-steps q budget t room (market-instrument q t m) (market-facts t (of-market q t m))))
 
-pub after-steps : (cs : List Call) (t : List ℕ) → isMarket t ≡ true → noSubmit cs ≡ true → Steps t (tableAfter t cs) (reportsAfter t cs)
+pub after-steps : (q : Instrument) (cs : List Call) (t : List ℕ) → isMarketOf q t ≡ true → noSubmit cs ≡ true → Steps t (tableAfter q t cs) (map (readOf q) (reportsAfter q t cs))
 unfolding tableAfter reportsAfter
-after-steps [] t m h = none-steps t
-after-steps (Submit message room ∷ cs) t m h = absurd (not-both h refl)
-after-steps (Run room budget ∷ cs) t m h =
-    steps-then t (ran t room budget .table) _ (ran t room budget .reports) _ (ran-steps t room budget m)
-    (after-steps cs (ran t room budget .table) (call-keeps t (Run room budget) m) h)
-after-steps (Depth side k ∷ cs) t m h = after-steps cs t m h
-after-steps (Top side ∷ cs) t m h = after-steps cs t m h
-after-steps (Read report ∷ cs) t m h = after-steps cs t m h
+after-steps q [] t m h = none-steps t
+after-steps q (Submit message room ∷ cs) t m h = absurd (not-both h refl)
+after-steps q (Run room budget ∷ cs) t m h =
+    rw (map-append (readOf q) (ran q t room budget .reports) (reportsAfter q (ran q t room budget .table) cs))
+    (steps-then t (ran q t room budget .table) _ (map (readOf q) (ran q t room budget .reports)) _ (ran-steps q t room budget m)
+    (after-steps q cs (ran q t room budget .table) (call-keeps q t (Run room budget) m) h))
+after-steps q (Depth side k ∷ cs) t m h = after-steps q cs t m h
+after-steps q (Top side ∷ cs) t m h = after-steps q cs t m h
+after-steps q (Read report ∷ cs) t m h = after-steps q cs t m h
 
 -- ---- the order in work, open and not decided yet, once its work has ended
-module _ (t : List ℕ) (m : isMarket t ≡ true) (l : 1 ≤ workOf t) (o : 0 < openOf (orderAt t (workOf t))) (d : decidedOf t ≡ 0) where
+module _ (q : Instrument) (t : List ℕ) (m : isMarketOf q t ≡ true) (l : 1 ≤ workOf t) (o : 0 < openOf (orderAt t (workOf t))) (d : decidedOf t ≡ 0) where
   facts : Market t
-  facts = market-facts t m
+  facts = market-facts t (of-market q t m)
 
   inside : In (bookOf t) (workOf t)
   inside = record { low = l; high = facts .held .work }
@@ -155,7 +154,7 @@ module _ (t : List ℕ) (m : isMarket t ≡ true) (l : 1 ≤ workOf t) (o : 0 < 
   unfolding missesNow
   undecided-now = rw d
 
-  module _ (u : List ℕ) (rs : List (List ℕ)) (n : ℕ) (s : Stepping t u rs n) (same : filled u ≡ filled t) (z : workOf u ≡ 0) where
+  module _ (u : List ℕ) (rs : List Reading) (n : ℕ) (s : Stepping t u rs n) (same : filled u ≡ filled t) (z : workOf u ≡ 0) where
     abbrev w : ℕ
     w = workOf t
 
@@ -186,19 +185,20 @@ module _ (t : List ℕ) (m : isMarket t ≡ true) (l : 1 ≤ workOf t) (o : 0 < 
 
     pub minimum-stepped : CanceledWhole t u rs w ⊎ Reached t u w
     minimum-stepped =
-        let q : 0 < openOf (at (bookOf t) w) = rw here o in
+        let p : 0 < openOf (at (bookOf t) w) = rw here o in
         let y : ended .work ≡ 0 = sym (rw undecided-now at (s .work)) ∙ z in
         ⊎-elim (λ (k : KilledWhole (bookOf t) w ended). inl (by-kill k))
         (λ (k : minimumOf (at (bookOf t) w) ≤ at (ended .book) w .executed - at (bookOf t) w .executed). inr (by-trade k))
-        (matching.minimum-kept (modeOf t) (bookOf t) w inside n q y)
+        (matching.minimum-kept (modeOf t) (bookOf t) w inside n p y)
 
-  pub minimum-after : (cs : List Call) → noSubmit cs ≡ true → workOf (tableAfter t cs) ≡ 0
-      → CanceledWhole t (tableAfter t cs) (reportsAfter t cs) (workOf t) ⊎ Reached t (tableAfter t cs) (workOf t)
+  pub minimum-after : (cs : List Call) → noSubmit cs ≡ true → workOf (tableAfter q t cs) ≡ 0
+      → CanceledWhole t (tableAfter q t cs) (map (readOf q) (reportsAfter q t cs)) (workOf t) ⊎ Reached t (tableAfter q t cs) (workOf t)
   minimum-after cs h z =
-      let s = after-steps cs t m h in
-      minimum-stepped (tableAfter t cs) (reportsAfter t cs) (s .number) (s .by) (same-size (tableAfter t cs) (reportsAfter t cs) (s .number) (s .by)) z
+      let s = after-steps q cs t m h in
+      minimum-stepped (tableAfter q t cs) (map (readOf q) (reportsAfter q t cs)) (s .number) (s .by)
+      (same-size (tableAfter q t cs) (map (readOf q) (reportsAfter q t cs)) (s .number) (s .by)) z
     where
-      same-size : (u : List ℕ) (rs : List (List ℕ)) (n : ℕ) → Stepping t u rs n → filled u ≡ filled t
+      same-size : (u : List ℕ) (rs : List Reading) (n : ℕ) → Stepping t u rs n → filled u ≡ filled t
       same-size u rs n s =
           sym (length-book u) ∙ ap length (s .book)
           ∙ ap length (run-plays (modeOf t) (missesNow t) n (bookOf t) (workOf t))
@@ -206,8 +206,8 @@ module _ (t : List ℕ) (m : isMarket t ≡ true) (l : 1 ≤ workOf t) (o : 0 < 
           ∙ length-book t
 
 -- what was put in work, once its work has ended
-pub minimum-put : (t : List ℕ) → isMarket t ≡ true → Put t → 1 ≤ workOf t → (cs : List Call) → noSubmit cs ≡ true → workOf (tableAfter t cs) ≡ 0
-    → CanceledWhole t (tableAfter t cs) (reportsAfter t cs) (workOf t) ⊎ Reached t (tableAfter t cs) (workOf t)
-minimum-put t m (nothing z) l cs = absurd (omega arith)
-minimum-put t m (undecided o d) l cs =
-    minimum-after t m l (rw (at-book t (workOf t) l (omega (arith, market-facts t m .held .work, length-book t))) at o) d cs
+pub minimum-put : (q : Instrument) (t : List ℕ) → isMarketOf q t ≡ true → Put t → 1 ≤ workOf t → (cs : List Call) → noSubmit cs ≡ true → workOf (tableAfter q t cs) ≡ 0
+    → CanceledWhole t (tableAfter q t cs) (map (readOf q) (reportsAfter q t cs)) (workOf t) ⊎ Reached t (tableAfter q t cs) (workOf t)
+minimum-put q t m (nothing z) l cs = absurd (omega arith)
+minimum-put q t m (undecided o d) l cs =
+    minimum-after q t m l (rw (at-book t (workOf t) l (omega (arith, market-facts t (of-market q t m) .held .work, length-book t))) at o) d cs

@@ -1,20 +1,20 @@
--- Events that happen one after the other to a table, and their reports: every account follows, by OrderID, trades balance, and no MPID
--- trades with itself, if each report tells its event and each event is exact.
-use mathlib.Core.Path.{_≡_, refl, sym, ap, subst, _∙_}
-use mathlib.Core.Bool.{Bool, true, false, cond}
-use mathlib.Core.List.{List, [], _∷_}
+-- Events that happen one after the other to a table, and their reports: every account follows, by OrderID, and what is bought and sold,
+-- if each report tells its event and each event is exact; and the two Trades of a step have one 880, and are not of one MPID.
+use mathlib.Core.Path.{_≡_, refl, sym, ap, _∙_}
+use mathlib.Core.Bool.{Bool, true, false, cond, not}
+use mathlib.Core.List.{List, [], _∷_, map}
 use mathlib.Core.Logic.{_≢_}
 use Prim.Native.Nat.{ℕ, _+_, _≤_}
 use native.Mathlib.Omega.{arith}
 use lib.Dec.{eqb}
 use lib.ListN.{length}
-use borrow.Author.Tests.{eqb-true, eqb-false, eq-eqb}
-use Rattle.octets.proofs.Bools.{split, or-r}
+use borrow.Author.Tests.{eqb-true, eqb-false}
+use Rattle.octets.proofs.Bools.{split}
 use Rattle.matching.specs.declared.Order.{Order}
 use Rattle.matching.specs.declared.Event.{Event}
 use Rattle.matching.specs.declared.Event.the-variants.{Accepted, Replaced, Withdrawn, Canceled, Decremented, Traded, Killed, Expired}
-use Rattle.matching.specs.Matching.{Book, at, isBuy, who, change, after, play}
-use Rattle.matching.specs.Held.{In, Sound, Ready, Readies}
+use Rattle.matching.specs.Matching.{Book, at, buys, isBuy, who, change, after, play}
+use Rattle.matching.specs.Held.{In, Ready, Readies}
 use Rattle.matching.specs.Accounts.{trades, bought as boughtBy, sold as soldBy}
 use Rattle.matching.specs.Happens.{moves}
 use Rattle.matching.proofs.Events.{Terms, termsOf, change-terms, after-here, after-there}
@@ -25,25 +25,30 @@ use Rattle.table.proofs.Frames.{Framed, framed-long, framed-filled}
 use Rattle.table.proofs.OrderIds.{applied-order-id}
 use Rattle.table.proofs.Applied.{AllMove, framed-applied, book-applied}
 use Rattle.report.specs.declared.Reading.{Reading}
-use Rattle.report.specs.Reports.{readOf}
 use Rattle.calls.specs.Run.{eventReport, eventReports}
-use Rattle.readback.specs.Told.{otherTold}
-use Rattle.promises.specs.Tallies.{Account, noted, accountFrom, tradedFor, traded, isSelfTrade, selfTrades, unread}
+use Rattle.readback.specs.Says.{says}
+use Rattle.readback.specs.Told.{pairTold}
+use Rattle.promises.specs.Tallies.{Account, noted, accountFrom, sells, tradedFor, traded, unread}
 use Rattle.promises.proofs.Tells.{Exact, Tells, tells-read, accountIn, accountBefore, before-moves, noted-here, noted-there}
 use Rattle.promises.proofs.Exacts.{Exacts}
 
 -- a report r tells event e on the table t after it
-abbrev pub TellsOn : List ℕ → Event → List ℕ → Type 0
-TellsOn t e r = Tells (readOf r) (orderIdAt t (who e)) e (orderAt t (who e)) (otherTold t e)
+abbrev pub TellsOn : List ℕ → Event → Reading → Type 0
+TellsOn t e r = Tells r (orderIdAt t (who e)) e (orderAt t (who e))
 
--- the reports of events, numbered from n on, tell them in turn
-abbrev pub TellsAll : List ℕ → ℕ → List Event → Type 0
-TellsAll t n [] = Unit {0}
-TellsAll t n (e ∷ es) = TellsOn (applied t e) e (eventReport (applied t e) n e) × TellsAll (applied t e) (n + 1) es
+-- and report number n its pair
+pub record TellsPair (t : List ℕ) (n : ℕ) (e : Event) (r : Reading) : Type 0 where
+  pub event : TellsOn t e r
+  pub pair : says 880 r ≡ pairTold t n e
+
+-- the reports of events, numbered from n on, tell them in turn, as they are read
+abbrev pub TellsAll : (List ℕ → Reading) → List ℕ → ℕ → List Event → Type 0
+TellsAll read t n [] = Unit {0}
+TellsAll read t n (e ∷ es) = TellsPair (applied t e) n e (read (eventReport (applied t e) n e)) × TellsAll read (applied t e) (n + 1) es
 
 -- ---- one event: u is the table after it
 module _ (t u : List ℕ) (e : Event) (low : 1 ≤ who e) (high : who e ≤ length (bookOf u)) (short : who e ≤ length (bookOf t) + 1) (x : Exact (bookOf t) e)
-    (same : bookOf u ≡ after (bookOf t) e) (r : List ℕ) (tells : TellsOn u e r) where
+    (same : bookOf u ≡ after (bookOf t) e) (r : Reading) (tells : TellsOn u e r) where
   order-now : orderAt u (who e) ≡ change e (at (bookOf t) (who e))
   order-now =
       sym (at-book u (who e) low (omega (arith, length-book u)))
@@ -51,14 +56,14 @@ module _ (t u : List ℕ) (e : Event) (low : 1 ≤ who e) (high : who e ≤ leng
       ∙ after-here (bookOf t) e low (omega arith)
 
   -- the account of its OrderID, and of any other number
-  pub account-here : noted (orderIdAt u (who e)) (accountBefore (bookOf t) e) (readOf r) ≡ accountIn (at (bookOf u) (who e))
+  pub account-here : noted (orderIdAt u (who e)) (accountBefore (bookOf t) e) r ≡ accountIn (at (bookOf u) (who e))
   account-here =
-      let y : Tells (readOf r) (orderIdAt u (who e)) e (change e (at (bookOf t) (who e))) (otherTold u e) = rw order-now at tells in
-      noted-here (bookOf t) (readOf r) (orderIdAt u (who e)) (otherTold u e) e x y
+      let y : Tells r (orderIdAt u (who e)) e (change e (at (bookOf t) (who e))) = rw order-now at tells in
+      noted-here (bookOf t) r (orderIdAt u (who e)) e x y
       ∙ ap (λ (o : Order). accountIn o) (sym (after-here (bookOf t) e low (omega arith)) ∙ ap (λ (b : Book). at b (who e)) (sym same))
 
-  pub account-there : (n : ℕ) → n ≢ orderIdAt u (who e) → (a : Account) → noted n a (readOf r) ≡ a
-  account-there n d a = noted-there (bookOf t) (readOf r) (orderIdAt u (who e)) (otherTold u e) e (orderAt u (who e)) tells n d a
+  pub account-there : (n : ℕ) → n ≢ orderIdAt u (who e) → (a : Account) → noted n a r ≡ a
+  account-there n d a = noted-there (bookOf t) r (orderIdAt u (who e)) e (orderAt u (who e)) tells n d a
 
   -- the other orders are as they were
   pub order-there : (k : ℕ) → k ≢ who e → at (bookOf u) k ≡ at (bookOf t) k
@@ -66,7 +71,7 @@ module _ (t u : List ℕ) (e : Event) (low : 1 ≤ who e) (high : who e ≤ leng
 
   -- an event of an order that was there: ids gives the OrderIDs
   module _ (ids : ℕ → ℕ) (named : orderIdAt u (who e) ≡ ids (who e)) (old : accountBefore (bookOf t) e ≡ accountIn (at (bookOf t) (who e))) where
-    pub account-then : (k : ℕ) → (ids k ≡ ids (who e) → k ≡ who e) → noted (ids k) (accountIn (at (bookOf t) k)) (readOf r) ≡ accountIn (at (bookOf u) k)
+    pub account-then : (k : ℕ) → (ids k ≡ ids (who e) → k ≡ who e) → noted (ids k) (accountIn (at (bookOf t) k)) r ≡ accountIn (at (bookOf u) k)
     account-then k one =
         split (eqb k (who e))
         (λ z. rw (eqb-true k (who e) z) here)
@@ -74,46 +79,35 @@ module _ (t u : List ℕ) (e : Event) (low : 1 ≤ who e) (high : who e ≤ leng
         let d = eqb-false k (who e) z in
         account-there (ids k) (λ h. d (one (h ∙ named))) _ ∙ ap (λ (o : Order). accountIn o) (sym (order-there k d)))
       where
-        here : noted (ids (who e)) (accountIn (at (bookOf t) (who e))) (readOf r) ≡ accountIn (at (bookOf u) (who e))
+        here : noted (ids (who e)) (accountIn (at (bookOf t) (who e))) r ≡ accountIn (at (bookOf u) (who e))
         here =
-            ap (λ (n : ℕ). noted n (accountIn (at (bookOf t) (who e))) (readOf r)) (sym named)
-            ∙ ap (λ (a : Account). noted (orderIdAt u (who e)) a (readOf r)) (sym old)
+            ap (λ (n : ℕ). noted n (accountIn (at (bookOf t) (who e))) r) (sym named)
+            ∙ ap (λ (a : Account). noted (orderIdAt u (who e)) a r) (sym old)
             ∙ account-here
 
--- ---- what a report trades for a side, and that it is no self-trade
-pub nought : (c : Bool) → _≡_ {A = ℕ} (cond c 0 0) 0
+-- ---- what a report trades
+nought : (c : Bool) → _≡_ {A = ℕ} (cond c 0 0) 0
 nought true = refl
 nought false = refl
 
-pub traded-one : (r : Reading) (i : ℕ) (e : Event) (o : Order) (m s : ℕ) → Tells r i e o m → tradedFor s r ≡ cond (eqb (o .side) s) (trades e) 0
+traded-one : (takes : ℕ → Bool) (r : Reading) (i : ℕ) (e : Event) (o : Order) → Tells r i e o → tradedFor takes r ≡ cond (takes (o .side)) (trades e) 0
 unfolding tradedFor
-traded-one r i (Accepted n x) o m s t = rw (t .kind) (sym (nought (eqb (o .side) s)))
-traded-one r i (Replaced n l q p) o m s t = rw (t .kind) (sym (nought (eqb (o .side) s)))
-traded-one r i (Withdrawn n q) o m s t = rw (t .kind) (sym (nought (eqb (o .side) s)))
-traded-one r i (Canceled n q) o m s t = rw (t .kind) (sym (nought (eqb (o .side) s)))
-traded-one r i (Decremented n q) o m s t = rw (t .kind) (sym (nought (eqb (o .side) s)))
-traded-one r i (Traded n k q l) o m s t = rw (t .side, t .executed, t .kind)
-traded-one r i (Killed n q) o m s t = rw (t .kind) (sym (nought (eqb (o .side) s)))
-traded-one r i (Expired n q) o m s t = rw (t .kind) (sym (nought (eqb (o .side) s)))
+traded-one takes r i (Accepted n x) o t = rw (t .kind) (sym (nought (takes (o .side))))
+traded-one takes r i (Replaced n l q p) o t = rw (t .kind) (sym (nought (takes (o .side))))
+traded-one takes r i (Withdrawn n q) o t = rw (t .kind) (sym (nought (takes (o .side))))
+traded-one takes r i (Canceled n q) o t = rw (t .kind) (sym (nought (takes (o .side))))
+traded-one takes r i (Decremented n q) o t = rw (t .kind) (sym (nought (takes (o .side))))
+traded-one takes r i (Traded n k q l) o t = rw (t .side, t .executed, t .kind)
+traded-one takes r i (Killed n q) o t = rw (t .kind) (sym (nought (takes (o .side))))
+traded-one takes r i (Expired n q) o t = rw (t .kind) (sym (nought (takes (o .side))))
 
-not-self : (r : Reading) (i n k q l : ℕ) (o : Order) (m : ℕ) → Tells r i (Traded n k q l) o m → (o .mpid ≡ m → o .mpid ≡ 0) → isSelfTrade r ≡ false
-unfolding isSelfTrade
-not-self r i n k q l o m t h =
-    rw (t .mpid, t .other, t .kind)
-    (split (eqb (o .mpid) m)
-    (λ z. rw (z, eq-eqb (o .mpid) 0 (h (eqb-true (o .mpid) m z))))
-    (λ z. rw z))
-
--- a side is 1 or 2
-other-side : (o : Order) (q : ℕ) → Sound o → cond (eqb (o .side) 2) q 0 ≡ cond (isBuy o) 0 q
-other-side o q s =
-    split (eqb (o .side) 1)
-    (λ z. let e = eqb-true (o .side) 1 z in rw e)
-    (λ z. rw (z, or-r (eqb (o .side) 1) (eqb (o .side) 2) (s .sides) z))
+-- who does not buy sells
+sells-else : (buy : Bool) (q : ℕ) → cond (not buy) q 0 ≡ cond buy 0 q
+sells-else true q = refl
+sells-else false q = refl
 
 -- ---- one event that changes amounts
-module _ (c : Book) (t : List ℕ) (e : Event) (long : length t ≡ tableBytes) (m : moves e ≡ true) (r : Ready (bookOf t) e) (x : Exact (bookOf t) e)
-    (rep : List ℕ) (tells : TellsOn (applied t e) e rep) (s : (k : ℕ) → at (bookOf t) k .side ≡ at c k .side) where
+module _ (t : List ℕ) (e : Event) (long : length t ≡ tableBytes) (m : moves e ≡ true) (r : Ready (bookOf t) e) where
   frame : Framed t (applied t e)
   frame = framed-applied t e long m r
 
@@ -123,110 +117,96 @@ module _ (c : Book) (t : List ℕ) (e : Event) (long : length t ≡ tableBytes) 
   book : bookOf (applied t e) ≡ after (bookOf t) e
   book = book-applied t e long m r
 
-  high : who e ≤ length (bookOf (applied t e))
-  high = omega (arith, r .inside .high, size)
-
-  short : who e ≤ length (bookOf t) + 1
-  short = omega (arith, r .inside .high)
-
   terms-then : (k : ℕ) → termsOf (at (bookOf (applied t e)) k) ≡ termsOf (at (bookOf t) k)
   terms-then k =
       split (eqb k (who e))
       (λ z.
-      rw (eqb-true k (who e) z, book, after-here (bookOf t) e (r .inside .low) (omega (arith, short))) (change-terms e (at (bookOf t) (who e)) m))
-      (λ z. rw (book, after-there (bookOf t) e (r .inside .low) (omega (arith, short)) k (eqb-false k (who e) z)))
+      rw (eqb-true k (who e) z, book, after-here (bookOf t) e (r .inside .low) (omega (arith, r .inside .high))) (change-terms e (at (bookOf t) (who e)) m))
+      (λ z. rw (book, after-there (bookOf t) e (r .inside .low) (omega (arith, r .inside .high)) k (eqb-false k (who e) z)))
 
   here : (k : ℕ) → In (bookOf t) k → orderAt (applied t e) k ≡ at (bookOf (applied t e)) k
   here k i = sym (at-book (applied t e) k (i .low) (omega (arith, i .high, size, length-book (applied t e))))
 
-  pub sides-then : (k : ℕ) → at (bookOf (applied t e)) k .side ≡ at c k .side
-  sides-then k = ap (λ (q : Terms). q .side) (terms-then k) ∙ s k
-
-  side-then : orderAt (applied t e) (who e) .side ≡ at c (who e) .side
-  side-then = ap (λ (o : Order). o .side) (here (who e) (r .inside)) ∙ sides-then (who e)
-
-  owner-then : (k : ℕ) → In (bookOf t) k → orderAt (applied t e) k .mpid ≡ at (bookOf t) k .mpid
+  pub owner-then : (k : ℕ) → In (bookOf t) k → orderAt (applied t e) k .mpid ≡ at (bookOf t) k .mpid
   owner-then k i = ap (λ (o : Order). o .mpid) (here k i) ∙ ap (λ (q : Terms). q .mpid) (terms-then k)
 
-  -- where ids gives the OrderIDs
-  module _ (ids : ℕ → ℕ) (named : (i : ℕ) → orderIdAt t i ≡ ids i) where
-    pub accounts-then : (k : ℕ) → (ids k ≡ ids (who e) → k ≡ who e)
-        → noted (ids k) (accountIn (at (bookOf t) k)) (readOf rep) ≡ accountIn (at (bookOf (applied t e)) k)
-    accounts-then =
-        account-then t (applied t e) e (r .inside .low) high short x book rep tells ids (applied-order-id t e (who e) ∙ named (who e))
-        (before-moves (bookOf t) e m)
+  pub owner-still : (k : ℕ) → at (bookOf (applied t e)) k .mpid ≡ at (bookOf t) k .mpid
+  owner-still k = ap (λ (q : Terms). q .mpid) (terms-then k)
 
-    pub others-then : (n : ℕ) → ids (who e) ≢ n → (a : Account) → noted n a (readOf rep) ≡ a
-    others-then n d a =
-        account-there t (applied t e) e (r .inside .low) high short x book rep tells n (λ h. d (sym (applied-order-id t e (who e) ∙ named (who e)) ∙ sym h)) a
+  pub in-then : (k : ℕ) → In (bookOf t) k → In (bookOf (applied t e)) k
+  in-then k i = record { low = i .low; high = omega (arith, i .high, size) }
 
-  pub bought-then : tradedFor 1 (readOf rep) ≡ cond (isBuy (at c (who e))) (trades e) 0
-  bought-then = traded-one (readOf rep) _ e _ _ 1 tells ∙ ap (λ (y : ℕ). cond (eqb y 1) (trades e) 0) side-then
+  -- its report, by the sides of a book whose orders they are
+  module _ (c : Book) (x : Exact (bookOf t) e) (rep : Reading) (tells : TellsOn (applied t e) e rep) (s : (k : ℕ) → at (bookOf t) k .side ≡ at c k .side) where
+    pub sides-then : (k : ℕ) → at (bookOf (applied t e)) k .side ≡ at c k .side
+    sides-then k = ap (λ (q : Terms). q .side) (terms-then k) ∙ s k
 
-  pub sold-then : tradedFor 2 (readOf rep) ≡ cond (isBuy (at c (who e))) 0 (trades e)
-  sold-then =
-      traded-one (readOf rep) _ e _ _ 2 tells
-      ∙ ap (λ (y : ℕ). cond (eqb y 2) (trades e) 0) (side-then ∙ sym (s (who e)))
-      ∙ other-side (at (bookOf t) (who e)) (trades e) (r .sound)
-      ∙ ap (λ (y : ℕ). cond (eqb y 1) 0 (trades e)) (s (who e))
+    side-then : orderAt (applied t e) (who e) .side ≡ at c (who e) .side
+    side-then = ap (λ (o : Order). o .side) (here (who e) (r .inside)) ∙ sides-then (who e)
 
-  -- by cases of the event
-  fair-by : (f : Event) → f ≡ e → Tells (readOf rep) (orderIdAt (applied t e) (who f)) f (orderAt (applied t e) (who f)) (otherTold (applied t e) f) → Exact (bookOf t) f → isSelfTrade (readOf rep) ≡ false
-  unfolding isSelfTrade
-  fair-by (Accepted n o) q y z = rw (y .kind)
-  fair-by (Replaced n l a p) q y z = rw (y .kind)
-  fair-by (Withdrawn n a) q y z = rw (y .kind)
-  fair-by (Canceled n a) q y z = rw (y .kind)
-  fair-by (Decremented n a) q y z = rw (y .kind)
-  fair-by (Traded n k a l) q y z =
-      let i : In (bookOf t) n = subst (λ (f : Event). In (bookOf t) (who f)) (sym q) (r .inside) in
-      let p = owner-then n i in
-      let v = owner-then k (z .inside) in
-      not-self (readOf rep) _ n k a l _ _ y (λ h. p ∙ z .owners (sym p ∙ h ∙ v))
-  fair-by (Killed n a) q y z = rw (y .kind)
-  fair-by (Expired n a) q y z = rw (y .kind)
+    high : who e ≤ length (bookOf (applied t e))
+    high = omega (arith, r .inside .high, size)
 
-  pub fair-then : isSelfTrade (readOf rep) ≡ false
-  fair-then = fair-by e refl tells x
+    short : who e ≤ length (bookOf t) + 1
+    short = omega (arith, r .inside .high)
+
+    -- where ids gives the OrderIDs
+    module _ (ids : ℕ → ℕ) (named : (i : ℕ) → orderIdAt t i ≡ ids i) where
+      pub accounts-then : (k : ℕ) → (ids k ≡ ids (who e) → k ≡ who e)
+          → noted (ids k) (accountIn (at (bookOf t) k)) rep ≡ accountIn (at (bookOf (applied t e)) k)
+      accounts-then =
+          account-then t (applied t e) e (r .inside .low) high short x book rep tells ids (applied-order-id t e (who e) ∙ named (who e))
+          (before-moves (bookOf t) e m)
+
+      pub others-then : (n : ℕ) → ids (who e) ≢ n → (a : Account) → noted n a rep ≡ a
+      others-then n d a =
+          account-there t (applied t e) e (r .inside .low) high short x book rep tells n (λ h. d (sym (applied-order-id t e (who e) ∙ named (who e)) ∙ sym h)) a
+
+    pub bought-then : tradedFor buys rep ≡ cond (isBuy (at c (who e))) (trades e) 0
+    bought-then = traded-one buys rep _ e _ tells ∙ ap (λ (y : ℕ). cond (buys y) (trades e) 0) side-then
+
+    pub sold-then : tradedFor sells rep ≡ cond (isBuy (at c (who e))) 0 (trades e)
+    sold-then =
+        traded-one sells rep _ e _ tells
+        ∙ ap (λ (y : ℕ). cond (sells y) (trades e) 0) side-then
+        ∙ sells-else (isBuy (at c (who e))) (trades e)
 
 -- ---- all events in turn, by the sides and OrderIDs of a book whose orders they are
-module _ (c : Book) (ids : ℕ → ℕ) (apart : (i j : ℕ) → In c i → In c j → ids i ≡ ids j → i ≡ j) where
+module _ (read : List ℕ → Reading) (c : Book) (ids : ℕ → ℕ) (apart : (i j : ℕ) → In c i → In c j → ids i ≡ ids j → i ≡ j) where
   pub record Follows (t : List ℕ) (n : ℕ) (es : List Event) : Type 0 where
     pub accounts : (k : ℕ) → In c k
-        → accountFrom (ids k) (accountIn (at (bookOf t) k)) (eventReports t n es) ≡ accountIn (at (play (bookOf t) es) k)
-    pub others : (k : ℕ) → ((i : ℕ) → In c i → ids i ≢ k) → (a : Account) → accountFrom k a (eventReports t n es) ≡ a
-    pub bought : traded 1 (eventReports t n es) ≡ boughtBy c es
-    pub sold : traded 2 (eventReports t n es) ≡ soldBy c es
-    pub fair : selfTrades (eventReports t n es) ≡ 0
-    pub read : unread (eventReports t n es) ≡ 0
+        → accountFrom (ids k) (accountIn (at (bookOf t) k)) (map read (eventReports t n es)) ≡ accountIn (at (play (bookOf t) es) k)
+    pub others : (k : ℕ) → ((i : ℕ) → In c i → ids i ≢ k) → (a : Account) → accountFrom k a (map read (eventReports t n es)) ≡ a
+    pub bought : traded buys (map read (eventReports t n es)) ≡ boughtBy c es
+    pub sold : traded sells (map read (eventReports t n es)) ≡ soldBy c es
+    pub taken : unread (map read (eventReports t n es)) ≡ 0
 
   -- one report before others
-  pub all-follow : (es : List Event) (t : List ℕ) (n : ℕ) → length t ≡ tableBytes → AllMove es → Readies (bookOf t) es → Exacts (bookOf t) es → TellsAll t n es
+  pub all-follow : (es : List Event) (t : List ℕ) (n : ℕ) → length t ≡ tableBytes → AllMove es → Readies (bookOf t) es → Exacts (bookOf t) es → TellsAll read t n es
       → ((k : ℕ) → at (bookOf t) k .side ≡ at c k .side) → length (bookOf t) ≡ length c → ((i : ℕ) → orderIdAt t i ≡ ids i) → Follows t n es
-  unfolding eventReports accountFrom traded selfTrades unread boughtBy soldBy play
+  unfolding eventReports accountFrom traded unread boughtBy soldBy play
   all-follow [] t n long m r x tells s z w =
-      record { accounts = λ k h. refl; others = λ k g a. refl; bought = refl; sold = refl; fair = refl; read = refl }
+      record { accounts = λ k h. refl; others = λ k g a. refl; bought = refl; sold = refl; taken = refl }
   all-follow (e ∷ es) t n long m r x tells s z w =
       let u : List ℕ = applied t e in
-      let rep : List ℕ = eventReport u n e in
+      let rep : Reading = read (eventReport u n e) in
       let book : bookOf u ≡ after (bookOf t) e = book-applied t e long (m .0) (r .0) in
       let inside : In c (who e) = record { low = r .0 .inside .low; high = omega (arith, r .0 .inside .high) } in
       let g : Follows u (n + 1) es =
       all-follow es u (n + 1) (framed-long t u long (framed-applied t e long (m .0) (r .0))) (m .1) (rw book (r .1)) (rw book (x .1)) (tells .1)
-      (sides-then c t e long (m .0) (r .0) (x .0) rep (tells .0) s) (size c t e long (m .0) (r .0) (x .0) rep (tells .0) s ∙ z)
+      (sides-then t e long (m .0) (r .0) c (x .0) rep (tells .0 .event) s) (size t e long (m .0) (r .0) ∙ z)
       (λ i. applied-order-id t e i ∙ w i) in
       record {
         accounts = λ k h.
-            ap (λ (a : Account). accountFrom (ids k) a (eventReports u (n + 1) es))
-            (accounts-then c t e long (m .0) (r .0) (x .0) rep (tells .0) s ids w k (apart k (who e) h inside))
+            ap (λ (a : Account). accountFrom (ids k) a (map read (eventReports u (n + 1) es)))
+            (accounts-then t e long (m .0) (r .0) c (x .0) rep (tells .0 .event) s ids w k (apart k (who e) h inside))
             ∙ g .accounts k h
             ∙ ap (λ (b : Book). accountIn (at (play b es) k)) book;
         others = λ k h a.
-            ap (λ (y : Account). accountFrom k y (eventReports u (n + 1) es))
-            (others-then c t e long (m .0) (r .0) (x .0) rep (tells .0) s ids w k (h (who e) inside) a)
+            ap (λ (y : Account). accountFrom k y (map read (eventReports u (n + 1) es)))
+            (others-then t e long (m .0) (r .0) c (x .0) rep (tells .0 .event) s ids w k (h (who e) inside) a)
             ∙ g .others k h a;
-        bought = omega (arith, bought-then c t e long (m .0) (r .0) (x .0) rep (tells .0) s, g .bought);
-        sold = omega (arith, sold-then c t e long (m .0) (r .0) (x .0) rep (tells .0) s, g .sold);
-        fair = rw (fair-then c t e long (m .0) (r .0) (x .0) rep (tells .0) s) (omega (arith, g .fair));
-        read = rw (tells-read (readOf rep) _ e _ _ (tells .0)) (omega (arith, g .read));
+        bought = omega (arith, bought-then t e long (m .0) (r .0) c (x .0) rep (tells .0 .event) s, g .bought);
+        sold = omega (arith, sold-then t e long (m .0) (r .0) c (x .0) rep (tells .0 .event) s, g .sold);
+        taken = rw (tells-read rep _ e _ (tells .0 .event)) (omega (arith, g .taken));
       }

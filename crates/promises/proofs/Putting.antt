@@ -8,6 +8,7 @@ use lib.ListN.{length, replicate}
 use Rattle.octets.specs.Octets.{bytesOf, textBytes}
 use Rattle.octets.proofs.Places.{length-bytesOf}
 use Rattle.octets.proofs.Parts.{length-textBytes}
+use Rattle.decimal.specs.declared.Instrument.{Instrument}
 use Rattle.decimal.proofs.Times.{time-short}
 use Rattle.request.specs.declared.NewOrder.{NewOrder}
 use Rattle.request.specs.declared.Replacement.{Replacement}
@@ -33,7 +34,7 @@ use Rattle.calls.specs.declared.Standing.the-variants.{Stands, Fails}
 use Rattle.calls.specs.Checks.{textOf, holder, newStands, cancelStands, replaceStands}
 use Rattle.calls.specs.Submit.{rejecting, faulted, newOrderOf, newRejected, changeRejected, newTaken, replacementTaken, cancelTaken, entering, replacing, canceling, handled, submitted}
 use Rattle.intake.specs.Intake.{Asking}
-use Rattle.intake.proofs.Standing.{new-named, new-account, new-account-short, new-capacity, new-class, new-enters, new-time, cancel-in, replace-in, replace-named, replace-renews, replace-time}
+use Rattle.intake.proofs.Standing.{new-named, new-account, new-account-short, new-marked, new-enters, new-time, cancel-in, replace-in, replace-named, replace-renews, replace-time}
 use Rattle.intake.proofs.Keeping.{Comes, no-room, no-market, in-work, spent, heard, comes}
 use Rattle.promises.proofs.Requested.{long-numbered, book-working, long-accepted, book-accepted, long-replaced, book-replaced}
 
@@ -88,18 +89,17 @@ module _ (t message : List ℕ) where
   new-put o Stands e a =
       let few = new-account-short t message o a in
       let printable = new-account t message o a in
-      let cap = new-capacity t message o a in
-      let cls = new-class t message o a in
+      let marked = new-marked t message o a in
       let g = new-named t message o a e in
       let n = new-enters t message o a e in
       let k : ℕ = recordFor t in
-      let long = long-accepted t k _ _ _ _ _ (a .market) g few printable cap cls n in
-      let b = book-accepted t k _ _ _ _ _ (a .market) g few printable cap cls n in
+      let long = long-accepted t k _ _ _ _ (a .market) g few printable marked n in
+      let b = book-accepted t k _ _ _ _ (a .market) g few printable marked n in
       let x : Order = newOrderOf t message o in
       let low = takes-low (bookOf t) k (n .number) in
       let high = takes-high (bookOf t) k (n .number) in
       let h : at (after (bookOf t) (Accepted k x)) k ≡ x = after-here (bookOf t) (Accepted k x) low high in
-      put-working t _ k (textOf message (o .time)) x (idle-decided t (a .market) (a .idle)) (new-heading t k _ _ _ _ _ (a .market) g few printable cap cls n) long
+      put-working t _ k (textOf message (o .time)) x (idle-decided t (a .market) (a .idle)) (new-heading t k _ _ _ _ (a .market) g few printable marked n) long
       (time-short (textOf message (o .time)) (new-time t message o a)) (rw b h) (omega (arith, n .sound .qty-low))
 
   replace-put : (o : Replacement) (s : Standing) → replaceStands t message o ≡ s → Asking t message (Replaces o) → Put (replacing t message o s .table)
@@ -143,12 +143,12 @@ module _ (t message : List ℕ) where
   handled-put (Replaces o) a = replace-put o (replaceStands t message o) refl a
   handled-put (Cancels o) a = cancel-put o (cancelStands t message o) refl a
 
-  pub submitted-put : (room : ℕ) → workOf t ≡ 0 → Put (submitted t message room .table)
-  submitted-put room z = by (comes t message room)
+  pub submitted-put : (q : Instrument) (room : ℕ) → workOf t ≡ 0 → Put (submitted q t message room .table)
+  submitted-put q room z = by (comes q t message room)
     where
-      by : Comes t message room → Put (submitted t message room .table)
+      by : Comes q t message room → Put (submitted q t message room .table)
       by (no-room a e) = rw e (nothing z)
       by (no-market a n e) = rw e (nothing z)
       by (in-work a n w e) = absurd (omega arith)
       by (spent a n w h e) = rw e (nothing z)
-      by (heard a n q e) = rw e (handled-put _ q)
+      by (heard a n x e) = rw e (handled-put _ x)

@@ -4,20 +4,22 @@ use mathlib.Core.Path.{_≡_, refl, ap, _∙_}
 use mathlib.Core.Bool.{true}
 use mathlib.Core.List.{List}
 use mathlib.Core.Logic.{_≢_}
-use Prim.Native.Nat.{ℕ, _+_, _≤_}
+use Prim.Native.Nat.{ℕ, _+_, _*_, _≤_}
 use native.Mathlib.Omega.{arith}
 use lib.Dec.{lit≤}
 use lib.ListN.{length, replicate}
 use Rattle.octets.proofs.Places.{length-put}
 use Rattle.matching.specs.declared.Order.{Order}
+use Rattle.matching.specs.declared.Event.{Event}
 use Rattle.matching.specs.declared.Event.the-variants.{Accepted, Replaced, Withdrawn}
-use Rattle.matching.specs.Matching.{Book, at, openOf, change, after}
+use Rattle.matching.specs.Matching.{Book, at, openOf, who, change, after}
 use Rattle.matching.specs.Held.{In, Ready, Enters, Renews}
+use Rattle.table.specs.declared.record.Marks.{Marks}
 use Rattle.table.specs.Places.{tableBytes, recordAt}
-use Rattle.table.specs.Heading.{nextOf, isListed, putWork}
+use Rattle.table.specs.Heading.{nextOf, instrumentOf, isListed, putWork}
 use Rattle.table.specs.Orders.{orderIdAt, orderAt, filled, bookOf, putId, putTerms, applied, withdrawn, replaced, accepted}
 use Rattle.table.specs.Best.{bookRow, putBest, clearBest}
-use Rattle.table.specs.Market.{every, isPrintable, isCapacity, isClass}
+use Rattle.table.specs.Market.{every, isPrintable, isMarked}
 use Rattle.table.specs.Facts.{Market, Named}
 use Rattle.table.specs.Changes.{numbered}
 use Rattle.table.proofs.Stores.{Terms, accepted-order-id}
@@ -26,7 +28,8 @@ use Rattle.table.proofs.Frames.{Formed, market-formed, framed-long}
 use Rattle.table.proofs.Applied.{book-applied, framed-applied, book-terms, framed-terms, book-next, book-work, book-best}
 use Rattle.table.proofs.Bests.{length-book-row}
 use Rattle.table.proofs.Naming.{named-formed, named-book, named-order, named-filled}
-use Rattle.table.proofs.Kept.{renewed-terms, new-formed, new-book}
+use Rattle.table.proofs.Instruments.{instrument-below}
+use Rattle.table.proofs.Kept.{renewed-terms, new-formed, new-book, new-instrument}
 use Rattle.table.proofs.OrderIds.{numbered-order-id, worked-order-id, told-order-id, cleared-order-id, accepted-others}
 
 -- ---- the heading changes, the book does not
@@ -63,23 +66,35 @@ pub ids-told : (t : List ℕ) (n : ℕ) (i : ℕ) → orderIdAt (putBest (number
 ids-told t n i = told-order-id (numbered t n) i ∙ numbered-order-id t i n
 
 -- ---- a new order, with the next number as its OrderID
-module _ (t : List ℕ) (k : ℕ) (clOrdId account : List ℕ) (capacity class : ℕ) (o : Order) (m : Market t) (g : Named t clOrdId) (few : length account ≤ 10)
-    (printable : every isPrintable account ≡ true) (cap : isCapacity capacity ≡ true) (cls : isClass class ≡ true)
+module _ (t : List ℕ) (k : ℕ) (clOrdId account : List ℕ) (marks : Marks) (o : Order) (m : Market t) (g : Named t clOrdId) (few : length account ≤ 10)
+    (printable : every isPrintable account ≡ true) (marked : isMarked (instrumentOf t) marks ≡ true)
     (a : Enters (isListed t) (nextOf t) (bookOf t) k o) where
-  pub long-accepted : length (accepted t k (nextOf t) clOrdId account capacity class o) ≡ tableBytes
-  long-accepted = new-formed t k clOrdId account capacity class o m g few printable cap cls a .long
+  pub long-accepted : length (accepted t k (nextOf t) clOrdId account marks o) ≡ tableBytes
+  long-accepted = new-formed t k clOrdId account marks o m g few printable marked a .long
 
-  pub book-accepted : bookOf (accepted t k (nextOf t) clOrdId account capacity class o) ≡ after (bookOf t) (Accepted k o)
-  book-accepted = new-book t k clOrdId account capacity class o m g few printable cap cls a
+  pub kind-accepted : instrumentOf (accepted t k (nextOf t) clOrdId account marks o) ≡ instrumentOf t
+  kind-accepted = new-instrument t k clOrdId account marks o m g few printable marked a
+
+  pub book-accepted : bookOf (accepted t k (nextOf t) clOrdId account marks o) ≡ after (bookOf t) (Accepted k o)
+  book-accepted = new-book t k clOrdId account marks o m g few printable marked a
 
   room : recordAt k + 128 ≤ length t
   room = omega (arith, m .long, a .free)
 
-  pub id-accepted : orderIdAt (accepted t k (nextOf t) clOrdId account capacity class o) k ≡ nextOf t
-  id-accepted = accepted-order-id t k (nextOf t) clOrdId account capacity class o (g .short) few room (omega (arith, a .numbered))
+  pub id-accepted : orderIdAt (accepted t k (nextOf t) clOrdId account marks o) k ≡ nextOf t
+  id-accepted = accepted-order-id t k (nextOf t) clOrdId account marks o (g .short) few room (omega (arith, a .numbered))
 
-  pub ids-others : (i : ℕ) → i ≢ k → orderIdAt (accepted t k (nextOf t) clOrdId account capacity class o) i ≡ orderIdAt t i
-  ids-others = accepted-others t k (nextOf t) clOrdId account capacity class o (g .short) few room
+  pub ids-others : (i : ℕ) → i ≢ k → orderIdAt (accepted t k (nextOf t) clOrdId account marks o) i ≡ orderIdAt t i
+  ids-others = accepted-others t k (nextOf t) clOrdId account marks o (g .short) few room
+
+-- ---- what is traded is what was
+pub kind-withdrawn : (t : List ℕ) (clOrdId : List ℕ) (e : Event) → 1 ≤ who e → instrumentOf (withdrawn t clOrdId e) ≡ instrumentOf t
+unfolding withdrawn
+kind-withdrawn t clOrdId e l = instrument-below (putId t (who e) clOrdId) (128 * who e + 64) _ (omega arith) ∙ instrument-below t (128 * who e) _ (omega arith)
+
+pub kind-replaced : (t : List ℕ) (clOrdId : List ℕ) (e : Event) → 1 ≤ who e → instrumentOf (replaced t clOrdId e) ≡ instrumentOf t
+unfolding replaced
+kind-replaced t clOrdId e l = instrument-below (putId t (who e) clOrdId) (128 * who e + 48) _ (omega arith) ∙ instrument-below t (128 * who e) _ (omega arith)
 
 -- ---- a change of order k
 module _ (t : List ℕ) (k : ℕ) (clOrdId : List ℕ) (m : Market t) (i : In (bookOf t) k) (g : Named t clOrdId) where

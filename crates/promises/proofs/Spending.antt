@@ -8,6 +8,7 @@ use lib.Dec.{eqb, ltb}
 use lib.ListN.{length}
 use borrow.Author.Tests.{ne-eqb}
 use Rattle.octets.proofs.Bools.{split, not-both}
+use Rattle.decimal.specs.declared.Instrument.{Instrument}
 use Rattle.matching.specs.declared.Event.{Event}
 use Rattle.matching.specs.Matching.{Book, metBy, play}
 use Rattle.matching.specs.Held.{In}
@@ -15,9 +16,10 @@ use Rattle.matching.proofs.Steps.{Stepped, rests, kills, expires, matched, step
 use Rattle.matching.proofs.Ends.{left, left-most, match-less}
 use Rattle.table.specs.Heading.{workOf, modeOf}
 use Rattle.table.specs.Orders.{bookOf}
-use Rattle.table.specs.Market.{isMarket}
+use Rattle.table.specs.Market.{isMarketOf}
 use Rattle.table.specs.Facts.{Market}
 use Rattle.table.specs.Changes.{missesNow, stepWork, stepped}
+use Rattle.table.proofs.Instruments.{of-market}
 use Rattle.table.proofs.Facts.{market-facts}
 use Rattle.table.proofs.Kept.{stepped-kept}
 use Rattle.calls.specs.Told.{joined, roomAsked}
@@ -58,28 +60,28 @@ worked-less (suc n) t room m =
     let l = goes-busy t room e in
     rw e (omega (arith, step-less t m l, worked-less n (stepped t) (room - length (joined (stepReports t))) (stepped-kept t m l))))
 
-ran-less : (t : List ℕ) (room budget : ℕ) → isMarket t ≡ true
-    → runSteps (ran t room budget .answer) + still (bookOf (ran t room budget .table)) (workOf (ran t room budget .table)) ≤ still (bookOf t) (workOf t)
+ran-less : (q : Instrument) (t : List ℕ) (room budget : ℕ) → isMarketOf q t ≡ true
+    → runSteps (ran q t room budget .answer) + still (bookOf (ran q t room budget .table)) (workOf (ran q t room budget .table)) ≤ still (bookOf t) (workOf t)
 unfolding ran
-ran-less t room budget m =
+ran-less q t room budget m =
     split (ltb room roomAsked)
     (λ e. rw e (omega arith))
-    (λ e. rw (e, m) (worked-less budget t room (market-facts t m)))
+    (λ e. rw (e, m) (worked-less budget t room (market-facts t (of-market q t m))))
 
 -- calls one after the other
-after-less : (cs : List Call) (t : List ℕ) → isMarket t ≡ true → noSubmit cs ≡ true
-    → stepsAfter t cs + still (bookOf (tableAfter t cs)) (workOf (tableAfter t cs)) ≤ still (bookOf t) (workOf t)
+after-less : (q : Instrument) (cs : List Call) (t : List ℕ) → isMarketOf q t ≡ true → noSubmit cs ≡ true
+    → stepsAfter q t cs + still (bookOf (tableAfter q t cs)) (workOf (tableAfter q t cs)) ≤ still (bookOf t) (workOf t)
 unfolding stepsAfter tableAfter
-after-less [] t m h = omega arith
-after-less (Submit message room ∷ cs) t m h = absurd (not-both h refl)
-after-less (Run room budget ∷ cs) t m h =
-    omega (arith, ran-less t room budget m, after-less cs (ran t room budget .table) (call-keeps t (Run room budget) m) h)
-after-less (Depth side k ∷ cs) t m h = omega (arith, after-less cs t m h)
-after-less (Top side ∷ cs) t m h = omega (arith, after-less cs t m h)
-after-less (Read report ∷ cs) t m h = omega (arith, after-less cs t m h)
+after-less q [] t m h = omega arith
+after-less q (Submit message room ∷ cs) t m h = absurd (not-both h refl)
+after-less q (Run room budget ∷ cs) t m h =
+    omega (arith, ran-less q t room budget m, after-less q cs (ran q t room budget .table) (call-keeps q t (Run room budget) m) h)
+after-less q (Depth side k ∷ cs) t m h = omega (arith, after-less q cs t m h)
+after-less q (Top side ∷ cs) t m h = omega (arith, after-less q cs t m h)
+after-less q (Read report ∷ cs) t m h = omega (arith, after-less q cs t m h)
 
 still-most : (b : Book) (w : ℕ) → still b w ≤ metBy b w + 1
 still-most b w = split (eqb w 0) (λ e. rw e (omega arith)) (λ e. rw e (omega (arith, left-most b w)))
 
-pub steps-most : (cs : List Call) (t : List ℕ) → isMarket t ≡ true → noSubmit cs ≡ true → stepsAfter t cs ≤ metBy (bookOf t) (workOf t) + 1
-steps-most cs t m h = omega (arith, after-less cs t m h, still-most (bookOf t) (workOf t))
+pub steps-most : (q : Instrument) (cs : List Call) (t : List ℕ) → isMarketOf q t ≡ true → noSubmit cs ≡ true → stepsAfter q t cs ≤ metBy (bookOf t) (workOf t) + 1
+steps-most q cs t m h = omega (arith, after-less q cs t m h, still-most (bookOf t) (workOf t))

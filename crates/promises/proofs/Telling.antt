@@ -6,7 +6,8 @@ use Prim.Native.Nat.{ℕ, _+_, _≤_}
 use native.Mathlib.Omega.{arith}
 use lib.Dec.{eqb, ltb}
 use Rattle.octets.proofs.Bools.{split}
-use Rattle.decimal.specs.Reading.{isDigit, isTime}
+use Rattle.decimal.specs.Reading.{isTime}
+use Rattle.decimal.specs.declared.Instrument.{Instrument}
 use Rattle.fix.specs.declared.frame.Part.{Part}
 use Rattle.fix.proofs.Values.{Spelt, Timed}
 use Rattle.request.specs.declared.Refusal.{Refusal}
@@ -17,22 +18,23 @@ use Rattle.request.specs.declared.Asked.{Asked}
 use Rattle.request.specs.declared.Asked.the-variants.{Refused, Enters, Replaces, Cancels}
 use Rattle.request.specs.Session.{oneOf}
 use Rattle.request.proofs.Requests.{enters-right}
-use Rattle.request.proofs.Saying.{enters-spelt, replaces-spelt, cancels-spelt}
+use Rattle.request.proofs.Saying.{codeLow, codeHigh, enters-spelt, replaces-spelt, cancels-spelt}
 use Rattle.request.proofs.Refusals.{refused-spelt}
 use Rattle.matching.specs.declared.Event.{Event}
 use Rattle.matching.specs.declared.Event.the-variants.{Accepted, Replaced, Withdrawn, Canceled, Decremented, Traded, Killed, Expired}
 use Rattle.matching.specs.Matching.{openOf}
 use Rattle.matching.specs.Accounts.{trades}
-use Rattle.table.specs.Heading.{nextOf, workOf, isListed}
+use Rattle.table.specs.Heading.{nextOf, workOf, instrumentOf, isListed}
 use Rattle.table.specs.Orders.{orderAt, recordFor, applied}
-use Rattle.table.specs.Market.{isPrintable}
+use Rattle.table.specs.Market.{every, isPrintable}
 use Rattle.table.specs.Facts.{Market}
 use Rattle.table.specs.Changes.{stepEvents}
 use Rattle.table.proofs.Frames.{market-formed}
 use Rattle.report.specs.declared.Reading.{Reading}
+use Rattle.report.specs.Reports.{readOf}
 use Rattle.ticket.specs.declared.Cause.{Cause}
 use Rattle.ticket.specs.Tickets.{ticketOf, keptCause}
-use Rattle.ticket.specs.Legible.{textBy, isAmong, Placed, Headed, Legible}
+use Rattle.ticket.specs.Legible.{textBy, isSymbolCharacter, isAmong, Placed, Headed, Legible}
 use Rattle.ticket.proofs.Formed.{formed-headed}
 use Rattle.ticket.proofs.Running.{Legibles, step-legibles}
 use Rattle.ticket.proofs.Taking.{sent-text, sent-placed, new-legible, replaced-legible, withdrawn-legible, market-holder, unchanged-legible}
@@ -44,7 +46,9 @@ use Rattle.calls.specs.Checks.{textOf, holder, inTable, isCode, newStands, chan
 use Rattle.calls.specs.Submit.{causeOf, sentAt, noText, rejecting, faulted, newRejected, changeRejected}
 use Rattle.calls.specs.Run.{eventReport}
 use Rattle.intake.specs.Intake.{Asking}
-use Rattle.intake.proofs.Standing.{between-printable, between-digits, holder-few, new-named, new-account, new-account-short, new-capacity, new-class, new-enters, cancel-in, cancel-named, replace-in, replace-named, replace-renews}
+use Rattle.intake.proofs.Standing.{between-printable, between-symbols, side-is, holder-few, new-named, new-account, new-account-short, new-marked, new-quoted, new-enters, cancel-in, cancel-named, replace-in, replace-named, replace-renews, replace-quoted}
+use Rattle.promises.proofs.Requested.{kind-accepted, kind-withdrawn, kind-replaced}
+use Rattle.promises.proofs.Agreeing.{applied-instrument}
 use Rattle.promises.proofs.Leads.{isSilent}
 use Rattle.promises.proofs.Playing.{TellsOn, TellsAll}
 use Rattle.promises.proofs.Running.{StepTells}
@@ -61,9 +65,10 @@ quantity-told (Traded n m q l) = refl
 quantity-told (Killed n q) = refl
 quantity-told (Expired n q) = refl
 
-legible-tells : (t message : List ℕ) (n : ℕ) (c : Cause) (e : Event) → Legible t message n c e → TellsOn t e (ticketOf t message n c e)
-legible-tells t message n c e h =
-    let s = event-says t message n c e h in
+legible-tells : (q : Instrument) (t message : List ℕ) (n : ℕ) (c : Cause) (e : Event) → instrumentOf t ≡ q → Legible t message n c e
+    → TellsOn t e (readOf q (ticketOf t message n c e))
+legible-tells q t message n c e k h =
+    let s = rw k at (event-says t message n c e h) in
     record {
       kind = s .is-kind;
       order = s .says-37;
@@ -73,17 +78,21 @@ legible-tells t message n c e h =
       reason = s .says-378;
       side = s .says-54;
       mpid = s .says-109;
-      other = s .says-375;
     }
 
 -- ---- the events of a step
-all-tell : (es : List Event) (t : List ℕ) (n : ℕ) → Legibles t n es → TellsAll t n es
+all-tell : (q : Instrument) (es : List Event) (t : List ℕ) (n : ℕ) → instrumentOf t ≡ q → Legibles t n es → TellsAll (readOf q) t n es
 unfolding eventReport
-all-tell [] t n h = tt
-all-tell (e ∷ es) t n h = (legible-tells (applied t e) [] n (keptCause (applied t e)) e (h .0), all-tell es (applied t e) (n + 1) (h .1))
+all-tell q [] t n k h = tt
+all-tell q (e ∷ es) t n k h =
+    let u : List ℕ = applied t e in
+    let i : instrumentOf u ≡ q = applied-instrument t e ∙ k in (
+      record { event = legible-tells q u [] n (keptCause u) e i (h .0); pair = (rw i at (event-says u [] n (keptCause u) e (h .0))) .says-880 },
+      all-tell q es u (n + 1) i (h .1),
+    )
 
-pub step-tells : (t : List ℕ) → Market t → 1 ≤ workOf t → StepTells t
-step-tells t m l = all-tell (stepEvents t) t (nextOf t) (step-legibles t m l)
+pub step-tells : (q : Instrument) (t : List ℕ) → Market t → instrumentOf t ≡ q → 1 ≤ workOf t → StepTells (readOf q) t
+step-tells q t m k l = all-tell q (stepEvents t) t (nextOf t) k (step-legibles t m l)
 
 -- ---- texts of the message
 module _ (message t : List ℕ) (p : Part) where
@@ -91,8 +100,10 @@ module _ (message t : List ℕ) (p : Part) where
   placed-text most s =
       sent-placed message t (p .start) (p .len) isPrintable 1 most (s .some) (omega (arith, s .long, s .short)) (between-printable _ (s .bytes))
 
-  placed-code : Spelt message p 1 9 48 57 → Placed isDigit 1 9 message t (sentAt p)
-  placed-code s = sent-placed message t (p .start) (p .len) isDigit 1 9 (s .some) (omega (arith, s .long, s .short)) (between-digits _ (s .bytes))
+  -- a bond's code or a share's symbol
+  placed-code : (q : Instrument) → Spelt message p 1 9 (codeLow q) (codeHigh q) → Placed (isSymbolCharacter q) 1 9 message t (sentAt p)
+  placed-code q s =
+      sent-placed message t (p .start) (p .len) (isSymbolCharacter q) 1 9 (s .some) (omega (arith, s .long, s .short)) (between-symbols q _ (s .bytes))
 
   sent-time : Timed message p → isTime (textBy message t (sentAt p)) ≡ true
   sent-time s = rw (sent-text message t (p .start) (p .len)) (s .right)
@@ -103,33 +114,40 @@ headed t message p a s =
     formed-headed t (market-formed t (a .market)) message (nextOf t) (sentAt p) (a .market .next-low) (omega (arith, a .numbers)) (sent-time message t p s)
 
 -- ---- what is taken
-module _ (t message : List ℕ) where
-  new-tells : (o : NewOrder) → Asking t message (Enters o) → newStands t message o ≡ Stands → NewTells t message o
-  new-tells o a e =
-      legible-tells _ message (nextOf t) (causeOf (o .time) noText) _
-      (new-legible t message (recordFor t) _ _ _ _ _ (causeOf (o .time) noText) (a .market) (a .idle) (new-named t message o a e) (new-account-short t message o a)
-      (new-account t message o a) (new-capacity t message o a) (new-class t message o a) (new-enters t message o a e)
-      (sent-time message _ (o .time) (enters-spelt _ _ message o (a .asks) .time)))
+module _ (q : Instrument) (t message : List ℕ) where
+  new-tells : (o : NewOrder) → Asking t message (Enters o) → instrumentOf t ≡ q → newStands t message o ≡ Stands → NewTells q t message o
+  new-tells o a i e =
+      let few = new-account-short t message o a in
+      let printable = new-account t message o a in
+      let marked = new-marked t message o a in
+      let g = new-named t message o a e in
+      let n = new-enters t message o a e in
+      let k = kind-accepted t (recordFor t) _ _ _ _ (a .market) g few printable marked n in
+      legible-tells q _ message (nextOf t) (causeOf (o .time) noText) _ (k ∙ i)
+      (new-legible t message (recordFor t) _ _ _ _ (causeOf (o .time) noText) (a .market) (a .idle) g few printable marked (new-quoted t message o a) n
+      (sent-time message _ (o .time) (enters-spelt _ _ _ message o (a .asks) .time)))
 
-  replace-tells : (o : Replacement) → Asking t message (Replaces o) → replaceStands t message o ≡ Stands
-      → ReplaceTells t message o (holder t (textOf message (o .original)))
-  replace-tells o a e =
+  replace-tells : (o : Replacement) → Asking t message (Replaces o) → instrumentOf t ≡ q → replaceStands t message o ≡ Stands
+      → ReplaceTells q t message o (holder t (textOf message (o .original)))
+  replace-tells o a z e =
       let k : ℕ = holder t (textOf message (o .original)) in
-      let s = replaces-spelt _ _ message o (a .asks) in
+      let s = replaces-spelt _ _ _ message o (a .asks) in
+      let i = replace-in t message o a k refl e in
       let c : Cause = causeOf (o .time) (sentAt (o .original)) in
-      legible-tells _ message (nextOf t) c _
-      (replaced-legible t message (textOf message (o .id)) k c (a .market) (a .idle) (replace-in t message o a k refl e) (replace-named t message o a k refl e)
-      (o .level) (o .quantity) (nextOf t) (replace-renews t message o a k refl e) (sent-time message _ (o .time) (s .time))
+      legible-tells q _ message (nextOf t) c _ (kind-replaced t _ _ (i .low) ∙ z)
+      (replaced-legible t message (textOf message (o .id)) k c (a .market) (a .idle) i (replace-named t message o a k refl e)
+      (o .level) (o .quantity) (nextOf t) (replace-renews t message o a k refl e) (replace-quoted t message o a) (sent-time message _ (o .time) (s .time))
       (placed-text message _ (o .original) 32 (s .original)))
 
-  cancel-tells : (o : Cancellation) → Asking t message (Cancels o) → cancelStands t message o ≡ Stands
-      → CancelTells t message o (holder t (textOf message (o .original)))
-  cancel-tells o a e =
+  cancel-tells : (o : Cancellation) → Asking t message (Cancels o) → instrumentOf t ≡ q → cancelStands t message o ≡ Stands
+      → CancelTells q t message o (holder t (textOf message (o .original)))
+  cancel-tells o a z e =
       let k : ℕ = holder t (textOf message (o .original)) in
-      let s = cancels-spelt _ _ message o (a .asks) in
+      let s = cancels-spelt _ _ _ message o (a .asks) in
+      let i = cancel-in t message o a k refl e in
       let c : Cause = causeOf (o .time) (sentAt (o .original)) in
-      legible-tells _ message (nextOf t) c _
-      (withdrawn-legible t message (textOf message (o .id)) k c (a .market) (a .idle) (cancel-in t message o a k refl e) (cancel-named t message o a k refl e)
+      legible-tells q _ message (nextOf t) c _ (kind-withdrawn t _ _ (i .low) ∙ z)
+      (withdrawn-legible t message (textOf message (o .id)) k c (a .market) (a .idle) i (cancel-named t message o a k refl e)
       (a .numbers) (sent-time message _ (o .time) (s .time)) (placed-text message _ (o .original) 32 (s .original)))
 
 -- ---- what is rejected
@@ -189,13 +207,13 @@ cancel-reason t message o n e = change-reason t _ _ _ _ n e
 abbrev silent : Reading → Bool
 silent r = isSilent (r .kind)
 
-module _ (t message : List ℕ) where
-  fault-silent : (r : Refusal) → Asking t message (Refused r) → Silent (faulted t message r .reports)
+module _ (q : Instrument) (t message : List ℕ) where
+  fault-silent : (r : Refusal) → Asking t message (Refused r) → instrumentOf t ≡ q → Silent q (faulted t message r .reports)
   unfolding faulted rejecting
-  fault-silent r a =
-      let s = refused-spelt _ _ message r (a .asks) in
-      ap silent
-      (faulty-is-read t message (nextOf t) (sentAt (r .time)) _
+  fault-silent r a z =
+      let s = refused-spelt _ _ _ message r (a .asks) in
+      rw (← z)
+      (ap silent (faulty-is-read t message (nextOf t) (sentAt (r .time)) _
       (record {
         heading = headed t message (r .time) a (s .time);
         sequence-low = s .number-low;
@@ -204,56 +222,56 @@ module _ (t message : List ℕ) where
         tag-high = omega (arith, s .tag-high);
         kind = placed-text message t (r .kind) 2 (s .kind);
         reason = sym (among-of _ (r .reason)) ∙ s .reason-is;
-      }))
+      })))
 
-  new-silent : (o : NewOrder) (n : ℕ) → Asking t message (Enters o) → newStands t message o ≡ Fails n → Silent (newRejected t message o n .reports)
+  new-silent : (o : NewOrder) (n : ℕ) → Asking t message (Enters o) → instrumentOf t ≡ q → newStands t message o ≡ Fails n → Silent q (newRejected t message o n .reports)
   unfolding newRejected rejecting
-  new-silent o n a e =
-      let s = enters-spelt _ _ message o (a .asks) in
-      let g = enters-right _ _ message o (a .asks) in
-      ap silent
-      (refused-is-read t message (nextOf t) (sentAt (o .time)) _
+  new-silent o n a z e =
+      let s = enters-spelt _ _ _ message o (a .asks) in
+      let g = enters-right _ _ _ message o (a .asks) in
+      rw (← z)
+      (ap silent (refused-is-read t message (nextOf t) (sentAt (o .time)) _
       (record {
         heading = headed t message (o .time) a (s .time);
         clOrdId = placed-text message t (o .id) 32 (s .id);
-        code = placed-code message t (o .code) (s .code);
+        code = placed-code message t (o .code) (instrumentOf t) (s .code);
         quantity = g .sized .quantity-high;
-        side = sym (among-of _ (o .terms .side)) ∙ g .sized .side-is;
+        side = side-is (instrumentOf t) (o .terms .side) (g .sized .side-is);
         reason = new-reason t message o n e;
-      }))
+      })))
 
-  change-silent : (time id original : Part) {x : Asked} (n response : ℕ) → Asking t message x → Timed message time → Spelt message id 1 32 32 126
+  change-silent : (time id original : Part) {x : Asked} (n response : ℕ) → Asking t message x → instrumentOf t ≡ q → Timed message time → Spelt message id 1 32 32 126
       → Spelt message original 1 32 32 126 → isAmong (0 ∷ 1 ∷ 2 ∷ []) n ≡ true → isAmong (1 ∷ 2 ∷ []) response ≡ true
-      → Silent (changeRejected t message time id original (holder t (textOf message original)) n response .reports)
+      → Silent q (changeRejected t message time id original (holder t (textOf message original)) n response .reports)
   unfolding changeRejected rejecting
-  change-silent time id original n response a s b c d r =
+  change-silent time id original n response a z s b c d r =
       let k : ℕ = holder t (textOf message original) in
-      ap silent
-      (unchanged-is-read t message (nextOf t) (sentAt time) _
+      rw (← z)
+      (ap silent (unchanged-is-read t message (nextOf t) (sentAt time) _
       (unchanged-legible t message (nextOf t) (sentAt time) k (sentAt id) (sentAt original) n response (headed t message time a s)
-      (market-holder t k (a .market) (holder-few t (textOf message original))) (placed-text message t id 32 b) (placed-text message t original 32 c) d r))
+      (market-holder t k (a .market) (holder-few t (textOf message original))) (placed-text message t id 32 b) (placed-text message t original 32 c) d r)))
 
-  replace-silent : (o : Replacement) (n : ℕ) → Asking t message (Replaces o) → replaceStands t message o ≡ Fails n
-      → Silent (changeRejected t message (o .time) (o .id) (o .original) (holder t (textOf message (o .original))) n 2 .reports)
-  replace-silent o n a e =
-      let s = replaces-spelt _ _ message o (a .asks) in
-      change-silent (o .time) (o .id) (o .original) n 2 a (s .time) (s .id) (s .original) (replace-reason t message o n e) refl
+  replace-silent : (o : Replacement) (n : ℕ) → Asking t message (Replaces o) → instrumentOf t ≡ q → replaceStands t message o ≡ Fails n
+      → Silent q (changeRejected t message (o .time) (o .id) (o .original) (holder t (textOf message (o .original))) n 2 .reports)
+  replace-silent o n a z e =
+      let s = replaces-spelt _ _ _ message o (a .asks) in
+      change-silent (o .time) (o .id) (o .original) n 2 a z (s .time) (s .id) (s .original) (replace-reason t message o n e) refl
 
-  cancel-silent : (o : Cancellation) (n : ℕ) → Asking t message (Cancels o) → cancelStands t message o ≡ Fails n
-      → Silent (changeRejected t message (o .time) (o .id) (o .original) (holder t (textOf message (o .original))) n 1 .reports)
-  cancel-silent o n a e =
-      let s = cancels-spelt _ _ message o (a .asks) in
-      change-silent (o .time) (o .id) (o .original) n 1 a (s .time) (s .id) (s .original) (cancel-reason t message o n e) refl
+  cancel-silent : (o : Cancellation) (n : ℕ) → Asking t message (Cancels o) → instrumentOf t ≡ q → cancelStands t message o ≡ Fails n
+      → Silent q (changeRejected t message (o .time) (o .id) (o .original) (holder t (textOf message (o .original))) n 1 .reports)
+  cancel-silent o n a z e =
+      let s = cancels-spelt _ _ _ message o (a .asks) in
+      change-silent (o .time) (o .id) (o .original) n 1 a z (s .time) (s .id) (s .original) (cancel-reason t message o n e) refl
 
 -- all that is asked of the reports of Submit
-pub all-told : Told
-all-told =
+pub all-told : (q : Instrument) → Told q
+all-told q =
     record {
-      new = new-tells;
-      replace = replace-tells;
-      cancel = cancel-tells;
-      fault = fault-silent;
-      new-fails = new-silent;
-      replace-fails = replace-silent;
-      cancel-fails = cancel-silent;
+      new = new-tells q;
+      replace = replace-tells q;
+      cancel = cancel-tells q;
+      fault = fault-silent q;
+      new-fails = new-silent q;
+      replace-fails = replace-silent q;
+      cancel-fails = cancel-silent q;
     }

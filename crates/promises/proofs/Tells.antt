@@ -11,7 +11,6 @@ use Rattle.matching.specs.declared.Order.{Order}
 use Rattle.matching.specs.declared.Event.{Event}
 use Rattle.matching.specs.declared.Event.the-variants as event
 use Rattle.matching.specs.Matching.{Book, at, openOf, who, change}
-use Rattle.matching.specs.Held.{In}
 use Rattle.matching.specs.Accounts.{trades}
 use Rattle.matching.specs.Happens.{moves, Fresh}
 use Rattle.report.specs.declared.Kind.{Kind}
@@ -22,8 +21,8 @@ use Rattle.promises.specs.Tallies.{Account, blank, afterReport, noted, i
 
 -- ---- what a report says
 
--- the report r of event e, whose order has OrderID i and is o after it, and the other order has the MPID m
-pub record Tells (r : Reading) (i : ℕ) (e : Event) (o : Order) (m : ℕ) : Type 0 where
+-- the report r of event e, whose order has OrderID i and is o after it
+pub record Tells (r : Reading) (i : ℕ) (e : Event) (o : Order) : Type 0 where
   pub kind : r .kind ≡ kindTold e
   pub order : says 37 r ≡ i
   pub quantity : says 38 r ≡ o .qty
@@ -32,7 +31,6 @@ pub record Tells (r : Reading) (i : ℕ) (e : Event) (o : Order) (m : ℕ) : Typ
   pub reason : says 378 r ≡ reasonTold e
   pub side : says 54 r ≡ o .side
   pub mpid : says 109 r ≡ o .mpid
-  pub other : says 375 r ≡ m
 
 -- every event has a report that Read takes
 told-read : (e : Event) → isRefused (kindTold e) ≡ false
@@ -45,24 +43,19 @@ told-read (event.Traded n m q l) = refl
 told-read (event.Killed n q) = refl
 told-read (event.Expired n q) = refl
 
-pub tells-read : (r : Reading) (i : ℕ) (e : Event) (o : Order) (m : ℕ) → Tells r i e o m → isRefused (r .kind) ≡ false
-tells-read r i e o m t = ap isRefused (t .kind) ∙ told-read e
+pub tells-read : (r : Reading) (i : ℕ) (e : Event) (o : Order) → Tells r i e o → isRefused (r .kind) ≡ false
+tells-read r i e o t = ap isRefused (t .kind) ∙ told-read e
 
 -- ---- what an event does to an order
 
--- the other order of a trade is in the book, and of another owner if both have one
-pub record Apart (b : Book) (n m : ℕ) : Type 0 where
-  pub inside : In b m
-  pub owners : at b n .mpid ≡ at b m .mpid → at b n .mpid ≡ 0
-
--- an accepted order is new; what is canceled is all that is open, what is decremented is open, and a trade is between two owners
+-- an accepted order is new; what is canceled is all that is open, and what is decremented is open
 abbrev pub Exact : Book → Event → Type 0
 Exact b (event.Accepted n o) = Fresh b n o
 Exact b (event.Replaced n l q p) = Unit {0}
 Exact b (event.Withdrawn n q) = q ≡ openOf (at b n)
 Exact b (event.Canceled n q) = q ≡ openOf (at b n)
 Exact b (event.Decremented n q) = q ≤ openOf (at b n)
-Exact b (event.Traded n m q l) = Apart b n m
+Exact b (event.Traded n m q l) = Unit {0}
 Exact b (event.Killed n q) = q ≡ openOf (at b n)
 Exact b (event.Expired n q) = q ≡ openOf (at b n)
 
@@ -102,8 +95,8 @@ unfolding openOf change
 fall o n q x h e = omega arith
 
 -- after the report of an exact event
-module _ (b : Book) (r : Reading) (i m : ℕ) where
-  pub account-after : (e : Event) → Exact b e → Tells r i e (change e (at b (who e))) m
+module _ (b : Book) (r : Reading) (i : ℕ) where
+  pub account-after : (e : Event) → Exact b e → Tells r i e (change e (at b (who e)))
       → afterReport (kindTold e) r (accountBefore b e) ≡ accountIn (change e (at b (who e)))
   unfolding change
   account-after (event.Accepted n o) x t =
@@ -125,12 +118,12 @@ module _ (b : Book) (r : Reading) (i m : ℕ) where
       same-account _ _ refl refl refl (ap (λ (y : ℕ). at b n .canceled + y) (sym x)) (t .left)
 
   -- the account of each OrderID after the report of an event
-  pub noted-here : (e : Event) → Exact b e → Tells r i e (change e (at b (who e))) m → noted i (accountBefore b e) r ≡ accountIn (change e (at b (who e)))
+  pub noted-here : (e : Event) → Exact b e → Tells r i e (change e (at b (who e))) → noted i (accountBefore b e) r ≡ accountIn (change e (at b (who e)))
   unfolding noted
   noted-here e x t =
       rw (eq-eqb (says 37 r) i (t .order))
       (ap (λ (k : Kind). afterReport k r (accountBefore b e)) (t .kind) ∙ account-after e x t)
 
-  pub noted-there : (e : Event) (o : Order) → Tells r i e o m → (n : ℕ) → n ≢ i → (a : Account) → noted n a r ≡ a
+  pub noted-there : (e : Event) (o : Order) → Tells r i e o → (n : ℕ) → n ≢ i → (a : Account) → noted n a r ≡ a
   unfolding noted
   noted-there e o t n d a = rw (ne-eqb (says 37 r) n (λ z. d (sym z ∙ t .order)))

@@ -1,20 +1,29 @@
--- What the market promises, of every history: any calls in turn, from an accepted Open with any settings, refused calls among them. A
--- statement about the table and the reports after a history holds after each of its calls, since what went before a call is a history
--- too. Everything is said of the definitions that the contracts of the calls cite, and of the bytes of the reports as Read gives them.
-use mathlib.Core.Path.{_≡_}
-use mathlib.Core.Bool.{true}
-use mathlib.Core.List.{List}
+-- What a market promises, of bonds or of equities and of every history: any calls in turn, from an accepted Open with any settings,
+-- refused calls among them. A statement about the table and the reports after a history holds after each of its calls, since what went
+-- before a call is a history too. Everything is said of the definitions that the contracts of the calls cite, and of the bytes of the
+-- reports as Read gives them.
+use mathlib.Core.Path.{_≡_, ap, _∙_}
+use mathlib.Core.Bool.{true, false}
+use mathlib.Core.List.{List, map}
 use mathlib.Core.Logic.{_≢_, _⊎_}
 use Prim.Native.Nat.{ℕ, _+_, _*_, _≤_, _<_}
 use native.Mathlib.Nat.{le-trans}
-use Rattle.matching.specs.Matching.{openOf, metBy}
+use lib.Dec.{leb}
+use Rattle.decimal.specs.declared.Instrument.{Instrument}
+use Rattle.decimal.specs.declared.Instrument.the-variants.{Equities}
+use Rattle.decimal.specs.Instruments.{highest}
+use Rattle.matching.specs.Matching.{openOf, isBuy, meets, better, metBy}
 use Rattle.matching.specs.Depth.{totalOf, ordersOf}
 use Rattle.table.specs.Places.{mostOrders}
-use Rattle.table.specs.Heading.{nextOf, workOf}
+use Rattle.table.specs.Heading.{nextOf, workOf, instrumentOf}
 use Rattle.table.specs.Orders.{orderIdAt, orderAt, filled, bookOf}
-use Rattle.table.specs.Market.{isMarket}
+use Rattle.table.specs.Market.{isMarketOf}
 use Rattle.table.specs.Opened.{isOpening, opened}
+use Rattle.table.proofs.Instruments.{of-market, market-instrument}
+use Rattle.table.proofs.Facts.{market-facts}
 use Rattle.table.proofs.Same.{filled-few}
+use Rattle.report.specs.declared.Reading.{Reading}
+use Rattle.report.specs.Reports.{readOf}
 use Rattle.calls.specs.declared.SubmitAnswer.the-variants as submit-answer
 use Rattle.calls.specs.declared.RunAnswer.the-variants as run-answer
 use Rattle.calls.specs.Submit.{submitted}
@@ -25,63 +34,69 @@ use Rattle.market.specs.Top.{topAnswer}
 use Rattle.market.proofs.Theorems.{top-tells-depth}
 use Rattle.intake.proofs.Theorems.{submit-keeps}
 use Rattle.promises.specs.History.{Call, tableAfter, reportsAfter, stepsAfter, noSubmit}
-use Rattle.promises.specs.Tallies.{blank, accountOf, bought, sold, selfTrades, unread}
+use Rattle.promises.specs.Tallies.{blank, accountOf, bought, sold, tradesOf, selfTrades, unread}
+use Rattle.promises.specs.Prices.{priceOf}
 use Rattle.promises.specs.Minimums.{CanceledWhole, Reached}
 use Rattle.promises.specs.Whole.{openBy, openIn, ordersIn, overDepth}
 use Rattle.promises.proofs.Kept.{Told, after-market, after-told, account-adds, account-left, account-none, open-record, open-gone, submit-found, run-found, depth-found, buys-above}
+use Rattle.promises.proofs.Prices.{higher-first, lower-first, meets-price, price-below}
 use Rattle.promises.proofs.Depths.{totals-open, orders-open}
 use Rattle.promises.proofs.Agreeing.{ran-ends}
 use Rattle.promises.proofs.Spending.{steps-most}
 use Rattle.promises.proofs.Putting.{submitted-put}
 use Rattle.promises.proofs.Minimums.{minimum-put}
 
-module _ (before venue port code : List ℕ) (first : ℕ) (mpids modes : List ℕ) (taken : isOpening before venue port code first mpids modes ≡ true)
+module _ (q : Instrument) (before venue port code : List ℕ) (first : ℕ) (mpids modes : List ℕ) (taken : isOpening q before venue port code first mpids modes ≡ true)
     (calls : List Call) where
   -- the table after the history, and all its reports in turn
   abbrev table : List ℕ
-  table = tableAfter (opened before venue port code first mpids modes) calls
+  table = tableAfter q (opened q before venue port code first mpids modes) calls
 
   abbrev reports : List (List ℕ)
-  reports = reportsAfter (opened before venue port code first mpids modes) calls
+  reports = reportsAfter q (opened q before venue port code first mpids modes) calls
+
+  -- what Read gives of each
+  abbrev readings : List Reading
+  readings = map (readOf q) reports
 
   -- ---- every table is a market, so no call is refused with 2
-  pub a-market : isMarket table ≡ true
-  a-market = after-market before venue port code first mpids modes taken calls
+  pub a-market : isMarketOf q table ≡ true
+  a-market = after-market q before venue port code first mpids modes taken calls
 
-  pub submit-finds-a-market : (message : List ℕ) (room : ℕ) → submitted table message room .answer ≢ submit-answer.NoMarket
-  submit-finds-a-market = submit-found table a-market
+  pub submit-finds-a-market : (message : List ℕ) (room : ℕ) → submitted q table message room .answer ≢ submit-answer.NoMarket
+  submit-finds-a-market = submit-found q table a-market
 
-  pub run-finds-a-market : (room budget : ℕ) → ran table room budget .answer ≢ run-answer.NoMarket
-  run-finds-a-market = run-found table a-market
+  pub run-finds-a-market : (room budget : ℕ) → ran q table room budget .answer ≢ run-answer.NoMarket
+  run-finds-a-market = run-found q table a-market
 
-  pub depth-finds-a-market : (side k : ℕ) → depthAnswer table side k ≢ depth-answer.NoMarket
-  depth-finds-a-market = depth-found table a-market
+  pub depth-finds-a-market : (side k : ℕ) → depthAnswer q table side k ≢ depth-answer.NoMarket
+  depth-finds-a-market = depth-found q table a-market
 
   -- ---- the best level that the heading keeps: Top answers what Depth answers for k = 0, of any side, refusals and "no such level"
   -- included
-  pub top-is-depth : (side : ℕ) → topAnswer table side ≡ depthAnswer table side 0
-  top-is-depth side = top-tells-depth table side a-market
+  pub top-is-depth : (side : ℕ) → topAnswer q table side ≡ depthAnswer q table side 0
+  top-is-depth side = top-tells-depth q table side a-market
 
   -- ---- each order, by the reports that name its OrderID in 37: any number at all, so those of orders that are gone too
 
-  told : Told table reports
-  told = after-told before venue port code first mpids modes taken calls
+  told : Told table readings
+  told = after-told q before venue port code first mpids modes taken calls
 
   -- the quantity accepted is what was executed, decremented and canceled, and what is open in the table
-  pub adds-up : (n : ℕ) → let a = accountOf n reports in a .accepted ≡ a .executions + a .decrements + a .cancels + openBy table n
-  adds-up = account-adds table reports a-market told
+  pub adds-up : (n : ℕ) → let a = accountOf n readings in a .accepted ≡ a .executions + a .decrements + a .cancels + openBy table n
+  adds-up = account-adds table readings (of-market q table a-market) told
 
   -- the 151 last reported is what is open
-  pub last-reported : (n : ℕ) → accountOf n reports .left ≡ openBy table n
-  last-reported = account-left table reports a-market told
+  pub last-reported : (n : ℕ) → accountOf n readings .left ≡ openBy table n
+  last-reported = account-left table readings (of-market q table a-market) told
 
   -- of a number that is not given yet the reports tell nothing
-  pub no-others : (n : ℕ) → nextOf table ≤ n → accountOf n reports ≡ blank
-  no-others = account-none table reports a-market told
+  pub no-others : (n : ℕ) → nextOf table ≤ n → accountOf n readings ≡ blank
+  no-others = account-none table readings (of-market q table a-market) told
 
   -- what is open by OrderID is what is open in the record that has it, and nothing if none has
   pub open-in-record : (i : ℕ) → 1 ≤ i → i ≤ filled table → openBy table (orderIdAt table i) ≡ openOf (orderAt table i)
-  open-in-record = open-record table a-market
+  open-in-record = open-record table (of-market q table a-market)
 
   pub nothing-if-gone : (n : ℕ) → ((i : ℕ) → 1 ≤ i → i ≤ filled table → orderIdAt table i ≢ n) → openBy table n ≡ 0
   nothing-if-gone = open-gone table
@@ -89,51 +104,81 @@ module _ (before venue port code : List ℕ) (first : ℕ) (mpids modes : List �
   -- ---- all reports
 
   -- Read takes each of them
-  pub all-read : unread reports ≡ 0
+  pub all-read : unread readings ≡ 0
   all-read = told .read
 
   -- what is bought is sold
-  pub balanced : bought reports ≡ sold reports
+  pub balanced : bought readings ≡ sold readings
   balanced = told .balanced
 
-  -- no Trade bears the same MPID as its own and as the other's
-  pub no-self-trade : selfTrades reports ≡ 0
+  -- every Trade is one of two: of an 880 that one bears there are two
+  pub in-pairs : (n : ℕ) → 0 < tradesOf n readings → tradesOf n readings ≡ 2
+  in-pairs = told .twos
+
+  -- no trade pairs two orders of one MPID: the two Trades of one 880 do not both bear the same 109, unless they bear none
+  pub no-self-trade : selfTrades readings ≡ 0
   no-self-trade = told .fair
 
   -- ---- while nothing is in work
   module _ (idle : workOf table ≡ 0) where
     -- the totals of all levels that Depth gives, of both sides, come to all that is open, however many levels are asked for
-    pub depth-adds-up : (n : ℕ) → mostOrders ≤ n → overDepth totalOf table 1 n + overDepth totalOf table 2 n ≡ openIn table
-    depth-adds-up n h = totals-open table a-market idle n (le-trans (filled-few table) h)
+    pub depth-adds-up : (n : ℕ) → mostOrders ≤ n → overDepth q totalOf table 1 n + overDepth q totalOf table 2 n ≡ openIn table
+    depth-adds-up n h = totals-open q table a-market idle n (le-trans (filled-few table) h)
 
     -- and their orders to all orders that have something open
-    pub depth-counts-all : (n : ℕ) → mostOrders ≤ n → overDepth ordersOf table 1 n + overDepth ordersOf table 2 n ≡ ordersIn table
-    depth-counts-all n h = orders-open table a-market idle n (le-trans (filled-few table) h)
+    pub depth-counts-all : (n : ℕ) → mostOrders ≤ n → overDepth q ordersOf table 1 n + overDepth q ordersOf table 2 n ≡ ordersIn table
+    depth-counts-all n h = orders-open q table a-market idle n (le-trans (filled-few table) h)
 
-    -- every open buy yield is above every open sell yield
-    pub uncrossed : (i j : ℕ) → 1 ≤ i → i ≤ filled table → 1 ≤ j → j ≤ filled table → orderAt table i .side ≡ 1 → orderAt table j .side ≡ 2
+    -- the level of every open buy is above that of every open sell: of bonds, its yield
+    pub uncrossed : (i j : ℕ) → 1 ≤ i → i ≤ filled table → 1 ≤ j → j ≤ filled table → isBuy (orderAt table i) ≡ true → isBuy (orderAt table j) ≡ false
         → 0 < openOf (orderAt table i) → 0 < openOf (orderAt table j) → orderAt table j .level < orderAt table i .level
-    uncrossed = buys-above table a-market idle
+    uncrossed = buys-above q table a-market idle
+
+  -- ---- the same in prices, where equities are traded: of a buy the higher price is better, of a sell the lower; a buy meets a sell whose
+  -- price is at most its own; and while nothing is in work every open buy price is below every open sell price
+  module _ (shares : q ≡ Equities) (i j : ℕ) (first-low : 1 ≤ i) (first-high : i ≤ filled table) (second-low : 1 ≤ j) (second-high : j ≤ filled table) where
+    low-level : (k : ℕ) → 1 ≤ k → k ≤ filled table → orderAt table k .level ≤ 1_000_000_000
+    low-level k l h =
+        let e : highest (instrumentOf table) ≡ 1_000_000_000 = ap highest (market-instrument q table a-market ∙ shares) in
+        rw e at (market-facts table (of-market q table a-market) .quoted k l h .level)
+
+    pub higher-buys-first : isBuy (orderAt table i) ≡ true → priceOf (orderAt table j) < priceOf (orderAt table i)
+        → better (orderAt table i) (orderAt table j) ≡ true
+    higher-buys-first = higher-first (orderAt table i) (orderAt table j)
+
+    pub lower-sells-first : isBuy (orderAt table i) ≡ false → priceOf (orderAt table i) < priceOf (orderAt table j)
+        → better (orderAt table i) (orderAt table j) ≡ true
+    lower-sells-first = lower-first (orderAt table i) (orderAt table j)
+
+    pub meet-by-price : isBuy (orderAt table i) ≡ true → meets (orderAt table i) (orderAt table j) ≡ leb (priceOf (orderAt table j)) (priceOf (orderAt table i))
+    meet-by-price =
+        meets-price (orderAt table i) (orderAt table j) (low-level i first-low first-high) (low-level j second-low second-high)
+
+    pub buys-below-sells : workOf table ≡ 0 → isBuy (orderAt table i) ≡ true → isBuy (orderAt table j) ≡ false
+        → 0 < openOf (orderAt table i) → 0 < openOf (orderAt table j) → priceOf (orderAt table i) < priceOf (orderAt table j)
+    buys-below-sells idle b s x y =
+        price-below (orderAt table i) (orderAt table j) (low-level i first-low first-high) (low-level j second-low second-high)
+        (uncrossed idle i j first-low first-high second-low second-high b s x y)
 
   -- ---- a message that comes next: m is the number of open opposite orders that its order meets then
   module _ (message : List ℕ) (room : ℕ) where
     abbrev after : List ℕ
-    after = submitted table message room .table
+    after = submitted q table message room .table
 
     abbrev met : ℕ
     met = metBy (bookOf after) (workOf after)
 
     -- it is done with a budget of m + 1 steps, and within m + 1 steps, given room for their reports
     pub done-in-time : (area budget : ℕ) → 1024 * (met + 1) ≤ area → met + 1 ≤ budget
-        → (workOf (ran after area budget .table) ≡ 0) × (runSteps (ran after area budget .answer) ≤ met + 1)
-    done-in-time area budget = ran-ends after area budget (submit-keeps table message room a-market)
+        → (workOf (ran q after area budget .table) ≡ 0) × (runSteps (ran q after area budget .answer) ≤ met + 1)
+    done-in-time area budget = ran-ends q after area budget (submit-keeps q table message room a-market)
 
     -- an order that it has put in work, where nothing was in work before: however its Runs divide the steps, when its work has ended it has
     -- executed its minimum or more, or it was canceled whole by one report and no other order has changed since it was accepted
-    pub minimum-kept : workOf table ≡ 0 → 1 ≤ workOf after → (later : List Call) → noSubmit later ≡ true → workOf (tableAfter after later) ≡ 0
-        → CanceledWhole after (tableAfter after later) (reportsAfter after later) (workOf after) ⊎ Reached after (tableAfter after later) (workOf after)
-    minimum-kept idle some later = minimum-put after (submit-keeps table message room a-market) (submitted-put table message room idle) some later
+    pub minimum-kept : workOf table ≡ 0 → 1 ≤ workOf after → (later : List Call) → noSubmit later ≡ true → workOf (tableAfter q after later) ≡ 0
+        → CanceledWhole after (tableAfter q after later) (map (readOf q) (reportsAfter q after later)) (workOf after) ⊎ Reached after (tableAfter q after later) (workOf after)
+    minimum-kept idle some later = minimum-put q after (submit-keeps q table message room a-market) (submitted-put table message q room idle) some later
 
     -- and takes no more than m + 1 steps in all, however its Runs divide them and whatever room each has
-    pub steps-in-all : (later : List Call) → noSubmit later ≡ true → stepsAfter after later ≤ met + 1
-    steps-in-all later = steps-most later after (submit-keeps table message room a-market)
+    pub steps-in-all : (later : List Call) → noSubmit later ≡ true → stepsAfter q after later ≤ met + 1
+    steps-in-all later = steps-most q later after (submit-keeps q table message room a-market)

@@ -1,8 +1,10 @@
--- A history of a market: any calls, one after the other, from an accepted Open on; refused ones are among them. What each leaves of
--- the table and which reports it writes is what its contract says (document 01, "The table and its calls"). Assumes nothing.
+-- A history of a market of bonds or of equities: any calls of that market, one after the other, from an accepted Open on; refused ones
+-- are among them. What each leaves of the table and which reports it writes is what its contract says (document 01, "The table and its
+-- calls"; document 02, T-08). Assumes nothing.
 use mathlib.Core.Bool.{Bool, true, false}
 use mathlib.Core.List.{List, [], _∷_, _++_}
 use Prim.Native.Nat.{ℕ, _+_}
+use Rattle.decimal.specs.declared.Instrument.{Instrument}
 use Rattle.calls.specs.Submit.{submitted}
 use Rattle.calls.specs.Run.{ran, runSteps}
 
@@ -16,43 +18,43 @@ pub data Call : Type 0 where
   Read : (report : List ℕ) → Call
 
 -- the table after a call
-abbrev pub tableOf : List ℕ → Call → List ℕ
-tableOf t (Submit message room) = submitted t message room .table
-tableOf t (Run room budget) = ran t room budget .table
-tableOf t (Depth side k) = t
-tableOf t (Top side) = t
-tableOf t (Read report) = t
+abbrev pub tableOf : Instrument → List ℕ → Call → List ℕ
+tableOf q t (Submit message room) = submitted q t message room .table
+tableOf q t (Run room budget) = ran q t room budget .table
+tableOf q t (Depth side k) = t
+tableOf q t (Top side) = t
+tableOf q t (Read report) = t
 
 -- the reports that it writes, in turn
-abbrev pub reportsOf : List ℕ → Call → List (List ℕ)
-reportsOf t (Submit message room) = submitted t message room .reports
-reportsOf t (Run room budget) = ran t room budget .reports
-reportsOf t (Depth side k) = []
-reportsOf t (Top side) = []
-reportsOf t (Read report) = []
+abbrev pub reportsOf : Instrument → List ℕ → Call → List (List ℕ)
+reportsOf q t (Submit message room) = submitted q t message room .reports
+reportsOf q t (Run room budget) = ran q t room budget .reports
+reportsOf q t (Depth side k) = []
+reportsOf q t (Top side) = []
+reportsOf q t (Read report) = []
 
 -- the table after a history, and all reports in turn
-unfoldable pub tableAfter : List ℕ → List Call → List ℕ
-tableAfter t [] = t
-tableAfter t (c ∷ cs) = tableAfter (tableOf t c) cs
+unfoldable pub tableAfter : Instrument → List ℕ → List Call → List ℕ
+tableAfter q t [] = t
+tableAfter q t (c ∷ cs) = tableAfter q (tableOf q t c) cs
 
-unfoldable pub reportsAfter : List ℕ → List Call → List (List ℕ)
-reportsAfter t [] = []
-reportsAfter t (c ∷ cs) = reportsOf t c ++ reportsAfter (tableOf t c) cs
+unfoldable pub reportsAfter : Instrument → List ℕ → List Call → List (List ℕ)
+reportsAfter q t [] = []
+reportsAfter q t (c ∷ cs) = reportsOf q t c ++ reportsAfter q (tableOf q t c) cs
 
 -- ---- steps
 
 -- the steps that a call takes, and those of a history in all
-abbrev pub stepsOf : List ℕ → Call → ℕ
-stepsOf t (Submit message room) = 0
-stepsOf t (Run room budget) = runSteps (ran t room budget .answer)
-stepsOf t (Depth side k) = 0
-stepsOf t (Top side) = 0
-stepsOf t (Read report) = 0
+abbrev pub stepsOf : Instrument → List ℕ → Call → ℕ
+stepsOf q t (Submit message room) = 0
+stepsOf q t (Run room budget) = runSteps (ran q t room budget .answer)
+stepsOf q t (Depth side k) = 0
+stepsOf q t (Top side) = 0
+stepsOf q t (Read report) = 0
 
-unfoldable pub stepsAfter : List ℕ → List Call → ℕ
-stepsAfter t [] = 0
-stepsAfter t (c ∷ cs) = stepsOf t c + stepsAfter (tableOf t c) cs
+unfoldable pub stepsAfter : Instrument → List ℕ → List Call → ℕ
+stepsAfter q t [] = 0
+stepsAfter q t (c ∷ cs) = stepsOf q t c + stepsAfter q (tableOf q t c) cs
 
 -- a history of which Submit is no part, so that nothing new comes into work
 abbrev pub noSubmit : List Call → Bool

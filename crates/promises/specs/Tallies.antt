@@ -1,14 +1,15 @@
--- What a member tells from reports alone (document 01, "The reports", what demand 3 takes from them): of the order that 37 names by its
--- OrderID, the quantity accepted, the executions, the decrements, the cancels and what was last reported open; of the whole market,
--- what was bought and sold. All of it is taken from the bytes of reports as Read gives them, if it takes them. Assumes nothing.
+-- What a member tells from reports alone (document 01, "The reports", what demand 3 takes from them; document 02, T-08): of the order that
+-- 37 names by its OrderID, the quantity accepted, the executions, the decrements, the cancels and what was last reported open; of the
+-- whole market, what was bought and sold, and which Trades belong together by 880. All of it is taken from what was read of each report,
+-- whoever read it. Assumes nothing.
 use mathlib.Core.Bool.{Bool, true, false, cond, not, _&&_}
 use mathlib.Core.List.{List, [], _∷_}
 use Prim.Native.Nat.{ℕ, _+_, _-_}
 use lib.Dec.{eqb}
+use Rattle.matching.specs.Matching.{buys}
 use Rattle.report.specs.declared.Kind.{Kind}
 use Rattle.report.specs.declared.Kind.the-variants.{Accepted, Replaced, Canceled, Trade, Rejected, CancelReject, SessionReject, Refused}
 use Rattle.report.specs.declared.Reading.{Reading}
-use Rattle.report.specs.Reports.{readOf}
 use Rattle.readback.specs.Says.{says}
 
 -- ---- one order
@@ -73,12 +74,12 @@ unfoldable pub noted : ℕ → Account → Reading → Account
 noted n a r = cond (eqb (says 37 r) n) (afterReport (r .kind) r a) a
 
 -- and after reports, one by one
-unfoldable pub accountFrom : ℕ → Account → List (List ℕ) → Account
+unfoldable pub accountFrom : ℕ → Account → List Reading → Account
 accountFrom n a [] = a
-accountFrom n a (r ∷ rs) = accountFrom n (noted n a (readOf r)) rs
+accountFrom n a (r ∷ rs) = accountFrom n (noted n a r) rs
 
 -- the account of the order with OrderID n by all reports
-abbrev pub accountOf : ℕ → List (List ℕ) → Account
+abbrev pub accountOf : ℕ → List Reading → Account
 accountOf n rs = accountFrom n blank rs
 
 -- ---- the whole market
@@ -94,33 +95,54 @@ isTrade CancelReject = false
 isTrade SessionReject = false
 isTrade Refused = false
 
--- what a report trades for side s, 1 the buys and 2 the sells
-unfoldable pub tradedFor : ℕ → Reading → ℕ
-tradedFor s r = cond (isTrade (r .kind) && eqb (says 54 r) s) (says 32 r) 0
+-- side 1 buys, any other sells
+abbrev pub sells : ℕ → Bool
+sells side = not (buys side)
 
--- bought (side 1) and sold (side 2) in all
-unfoldable pub traded : ℕ → List (List ℕ) → ℕ
-traded s [] = 0
-traded s (r ∷ rs) = tradedFor s (readOf r) + traded s rs
+-- what a report trades for the sides that a test takes
+unfoldable pub tradedFor : (ℕ → Bool) → Reading → ℕ
+tradedFor takes r = cond (isTrade (r .kind) && takes (says 54 r)) (says 32 r) 0
 
-abbrev pub bought : List (List ℕ) → ℕ
-bought rs = traded 1 rs
+-- in all
+unfoldable pub traded : (ℕ → Bool) → List Reading → ℕ
+traded takes [] = 0
+traded takes (r ∷ rs) = tradedFor takes r + traded takes rs
 
-abbrev pub sold : List (List ℕ) → ℕ
-sold rs = traded 2 rs
+-- bought and sold in all
+abbrev pub bought : List Reading → ℕ
+bought rs = traded buys rs
 
--- a Trade that bears as its own MPID (109) the other's (375), and not none
-unfoldable pub isSelfTrade : Reading → Bool
-isSelfTrade r = isTrade (r .kind) && eqb (says 109 r) (says 375 r) && not (eqb (says 109 r) 0)
+abbrev pub sold : List Reading → ℕ
+sold rs = traded sells rs
 
--- the number of such reports
-unfoldable pub selfTrades : List (List ℕ) → ℕ
+-- ---- the two Trades of one 880
+
+-- a Trade with this 880
+unfoldable pub isTradeOf : ℕ → Reading → Bool
+isTradeOf n r = isTrade (r .kind) && eqb (says 880 r) n
+
+-- the number of them
+unfoldable pub tradesOf : ℕ → List Reading → ℕ
+tradesOf n [] = 0
+tradesOf n (r ∷ rs) = cond (isTradeOf n r) 1 0 + tradesOf n rs
+
+-- two Trades of one 880 that bear the same MPID (109), and not none
+unfoldable pub areSelfTrade : Reading → Reading → Bool
+areSelfTrade r s = isTrade (r .kind) && isTradeOf (says 880 r) s && (eqb (says 109 r) (says 109 s) && not (eqb (says 109 r) 0))
+
+-- the number of reports that are such a pair with r
+unfoldable pub selfTradesWith : Reading → List Reading → ℕ
+selfTradesWith r [] = 0
+selfTradesWith r (s ∷ ss) = cond (areSelfTrade r s) 1 0 + selfTradesWith r ss
+
+-- the number of such pairs among reports, each report taken with every one behind it
+unfoldable pub selfTrades : List Reading → ℕ
 selfTrades [] = 0
-selfTrades (r ∷ rs) = cond (isSelfTrade (readOf r)) 1 0 + selfTrades rs
+selfTrades (r ∷ rs) = selfTradesWith r rs + selfTrades rs
 
 -- ---- reports as such
 
--- Read refuses the bytes
+-- the bytes were refused, as none of a report
 abbrev pub isRefused : Kind → Bool
 isRefused Accepted = false
 isRefused Replaced = false
@@ -131,7 +153,7 @@ isRefused CancelReject = false
 isRefused SessionReject = false
 isRefused Refused = true
 
--- the number of reports that it refuses
-unfoldable pub unread : List (List ℕ) → ℕ
+-- the number of those
+unfoldable pub unread : List Reading → ℕ
 unread [] = 0
-unread (r ∷ rs) = cond (isRefused (readOf r .kind)) 1 0 + unread rs
+unread (r ∷ rs) = cond (isRefused (r .kind)) 1 0 + unread rs

@@ -3,6 +3,7 @@
 use mathlib.Core.List.{List}
 use Prim.Native.Nat.{ℕ, zero, suc, _+_}
 use lib.Dec.{eqb}
+use Rattle.decimal.specs.declared.Instrument.{Instrument}
 use Rattle.matching.specs.declared.Depth.{Depth}
 use Rattle.matching.specs.Matching.{at, openOf, isOpen, sumOver, countOf}
 use Rattle.table.specs.Orders.{orderIdAt, filled, bookOf, firstRecord}
@@ -33,6 +34,6 @@ foundBy f BadSide = 0
 foundBy f (Found d) = f d
 
 -- f of Depth's answers for side s and every k below n, added up
-unfoldable pub overDepth : (Depth → ℕ) → List ℕ → ℕ → ℕ → ℕ
-overDepth f t s zero = 0
-overDepth f t s (suc n) = overDepth f t s n + foundBy f (depthAnswer t s n)
+unfoldable pub overDepth : Instrument → (Depth → ℕ) → List ℕ → ℕ → ℕ → ℕ
+overDepth q f t s zero = 0
+overDepth q f t s (suc n) = overDepth q f t s n + foundBy f (depthAnswer q t s n)

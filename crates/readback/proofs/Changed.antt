@@ -7,6 +7,7 @@ use mathlib.Core.Path.{_≡_, refl, sym, ap, _∙_}
 use mathlib.Core.List.{List, [], _∷_, _++_}
 use lib.ListN.{length, take, drop, getD, set, length-set, length-append, take-append-drop}
 use lib.Seq.{take-at, drop-at, take-set-le, take-set-lt, drop-set-lt, getD-set-same, getD-take, length-take-le}
+use Rattle.decimal.specs.declared.Instrument.{Instrument}
 use Rattle.decimal.specs.Writing.{decimal, places}
 use Rattle.report.specs.declared.Kind.{Kind}
 use Rattle.report.specs.declared.Kind.the-variants.{Accepted, Replaced, Canceled, Trade, Rejected, CancelReject, SessionReject, Refused}
@@ -67,8 +68,8 @@ report-ends body =
       last = drop-at f e (length (f ++ e) - 7) m ∙ ap (λ (s : List ℕ). trailer (checkSum s)) (sym (take-at f e (length (f ++ e) - 7) m));
     }
 
-read-ends : (s : List ℕ) → (readOf s .kind ≡ Refused → ⊥) → Ends s
-read-ends s h = rw (read-only s [] (readOf s .kind) (readOf s .fields) refl h) (report-ends (rowBytes s [] (readOf s .fields)))
+read-ends : (q : Instrument) (s : List ℕ) → (readOf q s .kind ≡ Refused → ⊥) → Ends s
+read-ends q s h = rw (read-only q s [] (readOf q s .kind) (readOf q s .fields) refl h) (report-ends (rowBytes s [] (readOf q s .fields)))
 
 -- ---- one byte changed
 module _ (s : List ℕ) (i b : ℕ) (h : i < length s) (l : getD s i 0 < 256) (m : b < 256) (n : b ≡ getD s i 0 → ⊥) where
@@ -105,7 +106,7 @@ refused-or SessionReject f = absurd (f (λ e. let z : _≡_ {A = ℕ} 0 1 = cc i
 refused-or Refused f = refl
 
 -- a report that is read, with one byte changed, is refused: a message damaged in one byte never passes for another report
-pub one-change-is-refused : (s : List ℕ) (i b : ℕ) → (readOf s .kind ≡ Refused → ⊥) → i < length s → getD s i 0 < 256 → b < 256 → (b ≡ getD s i 0 → ⊥)
-    → readOf (set s i b) .kind ≡ Refused
-one-change-is-refused s i b r h l m n =
-    refused-or (readOf (set s i b) .kind) (λ x. both-end s i b h l m n (read-ends s r) (read-ends (set s i b) x))
+pub one-change-is-refused : (q : Instrument) (s : List ℕ) (i b : ℕ) → (readOf q s .kind ≡ Refused → ⊥) → i < length s → getD s i 0 < 256 → b < 256 → (b ≡ getD s i 0 → ⊥)
+    → readOf q (set s i b) .kind ≡ Refused
+one-change-is-refused q s i b r h l m n =
+    refused-or (readOf q (set s i b) .kind) (λ x. both-end s i b h l m n (read-ends q s r) (read-ends q (set s i b) x))

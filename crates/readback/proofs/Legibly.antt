@@ -1,19 +1,23 @@
 -- What is legible is right: the parts of every report that a table and a message give in range are what can be read.
 use Prim.Native.Nat.{ℕ, suc, _+_, _≤_, _<_}
 use native.Mathlib.Omega.{arith}
-use mathlib.Core.Bool.{true}
+use mathlib.Core.Bool.{true, false≢true}
 use mathlib.Core.Path.{_≡_, refl, ap}
 use mathlib.Core.List.{List, [], _∷_}
 use mathlib.Core.Logic.{_⊎_, inl, inr}
-use lib.Dec.{eqb, leb}
+use lib.Dec.{eqb, leb, ltb}
 use lib.ListN.{length, getD, drop, length-take, length-drop}
-use borrow.Author.Tests.{eqb-true, eqb-false, eq-eqb, lt-ltb, le-leb, le-ltb, leb-true}
+use borrow.Author.Tests.{eqb-true, eqb-false, eq-eqb, lt-ltb, le-leb, le-ltb, leb-true, ltb-false}
 use Rattle.octets.specs.Octets.{partAt, textAt}
 use Rattle.octets.proofs.Bools.{split, both-l, both-r}
+use Rattle.decimal.specs.declared.Instrument.{Instrument}
+use Rattle.decimal.specs.declared.Instrument.the-variants.{Bonds, Equities}
 use Rattle.decimal.specs.Reading.{isDigit, runOf, digitRun, isNumber}
 use Rattle.table.specs.Places.{tableBytes, recordAt, accountByte}
-use Rattle.table.specs.Heading.{workOf}
-use Rattle.table.specs.Market.{every, isBetween, isPrintable}
+use Rattle.table.specs.declared.record.Marks.{Marks}
+use Rattle.table.specs.Heading.{workOf, instrumentOf}
+use Rattle.table.specs.Orders.{marksAt}
+use Rattle.table.specs.Market.{every, isBetween, isPrintable, isCodeCharacter, isCapacity, isClass, isCash, isMarked}
 use Rattle.report.specs.declared.Place.{Place}
 use Rattle.report.specs.declared.Value.the-variants.{Absent}
 use Rattle.report.specs.Shapes.{allFrom}
@@ -23,7 +27,7 @@ use Rattle.rows.specs.declared.Faulty.{Faulty}
 use Rattle.rows.specs.Rows.{text}
 use Rattle.rows.proofs.Widths.{text-short}
 use Rattle.ticket.specs.Tickets.{storedAt, orStoredAt, stampOn, shownOn, fillOn}
-use Rattle.ticket.specs.Legible.{Spelt, Placed, textBy, Headed, Recorded, Dealt, LegibleRefused, LegibleUnchanged, LegibleFaulty}
+use Rattle.ticket.specs.Legible.{Spelt, Placed, textBy, isSymbolCharacter, Headed, Recorded, Dealt, LegibleRefused, LegibleUnchanged, LegibleFaulty}
 use Rattle.readback.specs.Right.{isPart, TextRight, CodeRight, IdRight, StampRight, ShownRight, FillRight, RefusedRight, UnchangedRight, FaultyRight}
 
 -- ---- characters
@@ -36,6 +40,14 @@ every-from low (x ∷ xs) e =
     let b = leb-true x 126 (both-r (leb low x) (leb x 126) h) in
     rw (le-ltb x low a, le-ltb 126 x b) (every-from low xs (both-r (isBetween low 126 x) (every (isBetween low 126) xs) e))
 
+-- characters from 21 hex on are from 20 hex on
+from-lower : (xs : List ℕ) → allFrom 33 xs ≡ true → allFrom 32 xs ≡ true
+from-lower [] e = refl
+from-lower (x ∷ xs) e =
+    split (ltb x 33) (λ a. absurd (false≢true (rw a at e)))
+    (λ a. split (ltb 126 x) (λ b. absurd (false≢true (rw (a, b) at e)))
+    (λ b. rw (le-ltb x 32 (omega (arith, ltb-false x 33 a)), b) (from-lower xs (rw (a, b) at e))))
+
 every-digit : (xs : List ℕ) → every isDigit xs ≡ true → digitRun xs ≡ length xs
 unfolding every runOf
 every-digit [] e = refl
@@ -44,6 +56,20 @@ every-digit (x ∷ xs) e = rw (both-l (isDigit x) (every isDigit xs) e) (ap suc 
 spelt-number : (xs : List ℕ) → Spelt isDigit 1 9 xs → isNumber 9 xs ≡ true
 unfolding isNumber
 spelt-number xs h = simp (lt-ltb 0 (length xs) (h .least), le-leb (length xs) 9 (h .most), eq-eqb (digitRun xs) (length xs) (every-digit xs (h .good)))
+
+-- ---- the marks of an order
+module _ (q : Instrument) (m : Marks) (h : isMarked q m ≡ true) where
+  marks-capacity : isCapacity (m .capacity) ≡ true
+  unfolding isMarked
+  marks-capacity = search (both-l, both-r)
+
+  marks-class : isClass (m .class) ≡ true
+  unfolding isMarked
+  marks-class = search (both-l, both-r)
+
+  marks-cash : isCash q (m .cash) (m .margin) ≡ true
+  unfolding isMarked
+  marks-cash = search (both-l, both-r)
 
 text-part : (p : Place) → isPart (text p) ≡ true
 unfolding text
@@ -56,16 +82,21 @@ module _ (t message : List ℕ) where
   stored-right low most p h =
       record { a-text = refl; some = h .least; few = h .most; all = every-from low (partAt t (p + 1) (getD t p 0)) (h .good) }
 
-  stored-code : (p : ℕ) → Spelt isDigit 1 9 (textAt t p) → CodeRight message t (storedAt t p)
-  unfolding textAt
-  stored-code p h = record { a-text = refl; digits = spelt-number (partAt t (p + 1) (getD t p 0)) h }
+  stored-code : (q : Instrument) (p : ℕ) → Spelt (isCodeCharacter q) 1 9 (textAt t p) → CodeRight message t q (storedAt t p)
+  unfolding textAt isCodeCharacter
+  stored-code Bonds p h = record { a-text = refl; digits = spelt-number (partAt t (p + 1) (getD t p 0)) h }
+  stored-code Equities p h =
+      record { a-text = refl; some = h .least; few = h .most; all = from-lower (partAt t (p + 1) (getD t p 0)) (every-from 33 (partAt t (p + 1) (getD t p 0)) (h .good)) }
 
   placed-right : (low most : ℕ) (p : Place) → Placed (isBetween low 126) 1 most message t p → TextRight message t most low (text p)
   placed-right low most p h =
       record { a-text = text-part p; some = h .least; few = text-short message t p most (h .most); all = every-from low (textBy message t p) (h .good) }
 
-  placed-code : (p : Place) → Placed isDigit 1 9 message t p → CodeRight message t (text p)
-  placed-code p h =
+  placed-code : (q : Instrument) (p : Place) → Placed (isSymbolCharacter q) 1 9 message t p → CodeRight message t q (text p)
+  unfolding isSymbolCharacter
+  placed-code Equities p h =
+      record { a-text = text-part p; some = h .least; few = text-short message t p 9 (h .most); all = every-from 32 (textBy message t p) (h .good) }
+  placed-code Bonds p h =
       record {
         a-text = text-part p;
         digits = spelt-number (textBy message t p) (record { least = h .least; most = text-short message t p 9 (h .most); good = h .good });
@@ -100,22 +131,24 @@ module _ (t message : List ℕ) where
         port-right = stored-right 33 8 9 (h .port);
       }
 
-  pub shown-right : (i : ℕ) → length t ≡ tableBytes → Recorded t i → ShownRight message t (shownOn t i)
-  unfolding shownOn
+  pub shown-right : (i : ℕ) → length t ≡ tableBytes → Recorded t i → ShownRight message t (instrumentOf t) (shownOn t i)
+  unfolding shownOn marksAt
   shown-right i long h =
       record {
         orderid-low = h .orderid-low;
         orderid-high = omega (arith, h .orderid-high);
         order-right = h .sound;
+        quoted-right = h .quoted;
         mpid-right = omega (arith, h .owner);
-        capacity-right = h .capacity;
-        class-right = h .class;
-        code-right = stored-code 18 (h .code);
+        capacity-right = marks-capacity (instrumentOf t) (marksAt t i) (h .marked);
+        class-right = marks-class (instrumentOf t) (marksAt t i) (h .marked);
+        cash-right = marks-cash (instrumentOf t) (marksAt t i) (h .marked);
+        code-right = stored-code (instrumentOf t) 18 (h .code);
         id-right = stored-right 32 32 (recordAt i) (h .clOrdId);
         account-right = account-right (recordAt i + accountByte) (omega (arith, long, h .high)) (h .account);
       }
 
-  pub fill-right : (n i other quantity level : ℕ) → 1 ≤ n → n < 1000000000 → Dealt t n i other quantity level → FillRight (fillOn t n i other quantity level)
+  pub fill-right : (n i other quantity level : ℕ) → 1 ≤ n → n < 1000000000 → Dealt t n i other quantity level → FillRight (instrumentOf t) (fillOn t n i other quantity level)
   fill-right n i other quantity level l m h =
       record {
         quantity-right = omega (arith, h .quantity-high);
@@ -128,13 +161,13 @@ module _ (t message : List ℕ) where
       }
 
   -- ---- what is refused
-  pub refused-right : (n : ℕ) (time : Place) (q : Refused) → LegibleRefused t message n time q → RefusedRight message t q
-  refused-right n time q h =
+  pub refused-right : (n : ℕ) (time : Place) (r : Refused) → LegibleRefused t message n time r → RefusedRight message t (instrumentOf t) r
+  refused-right n time r h =
       record {
-        id-right = placed-right 32 32 (q .id) (h .clOrdId);
+        id-right = placed-right 32 32 (r .id) (h .clOrdId);
         quantity-right = omega (arith, h .quantity);
         side-right = h .side;
-        code-right = placed-code (q .code) (h .code);
+        code-right = placed-code (instrumentOf t) (r .code) (h .code);
         reason-right = h .reason;
       }
 

@@ -27,10 +27,14 @@ use Rattle.readback.proofs.Takes.{Takes}
 
 -- ---- labels
 
--- a tag is none of a row's
+-- a tag is none of a row's, but for fields of no value
 abbrev pub allOther : ℕ → List Field → Bool
 allOther g [] = true
-allOther g (f ∷ fs) = differ (label g) (label (f .tag)) && allOther g fs
+allOther g (f ∷ fs) = (differ (label g) (label (f .tag)) || isAbsent (f .value)) && allOther g fs
+
+or-left : (a b : Bool) → (a || b) ≡ true → b ≡ false → a ≡ true
+or-left true b e t = refl
+or-left false b e t = absurd (false≢true (sym t ∙ e))
 
 module _ (sent stored : List ℕ) where
   -- so no field of the row begins with its label
@@ -38,10 +42,12 @@ module _ (sent stored : List ℕ) where
   unfolding fieldBytes
   other-starts g [] rest e s = s
   other-starts g (f ∷ fs) rest e s =
-      split (isAbsent (f .value))
-      (λ t. rw t (other-starts g fs rest (both-r (differ (label g) (label (f .tag))) (allOther g fs) e) s))
+      let d = differ (label g) (label (f .tag)) in
+      let n = isAbsent (f .value) in
+      split n
+      (λ t. rw t (other-starts g fs rest (both-r (d || n) (allOther g fs) e) s))
       (λ t. rw (t, append-assoc (written (f .tag) (valueBytes sent stored (f .value))) (rowBytes sent stored fs) rest)
-      (written-starts g (f .tag) (valueBytes sent stored (f .value)) (rowBytes sent stored fs ++ rest) (both-l (differ (label g) (label (f .tag))) (allOther g fs) e)))
+      (written-starts g (f .tag) (valueBytes sent stored (f .value)) (rowBytes sent stored fs ++ rest) (or-left d n (both-l (d || n) (allOther g fs) e) t)))
 
   -- ---- what is behind the last field
   rest-starts : (n sum g : ℕ) → differ (label g) (label 10) ≡ true → starts (label g) (rowBytes sent stored (replicate n (field 0 Absent)) ++ trailer sum) ≡ false
@@ -56,7 +62,7 @@ module _ (sent stored : List ℕ) where
 
   -- ---- entries: a slot takes its value, or may be missing and is
 
-  abbrev Entry : Bool → Shape → Value → Type 0
+  abbrev pub Entry : Bool → Shape → Value → Type 0
   Entry true f v = (v ≡ Absent) ⊎ Takes sent stored f v
   Entry false f v = Takes sent stored f v
 

@@ -83,8 +83,8 @@ moved sent stored place (Char c) = Char c
 moved sent stored place (Word w x y z) = Word w x y z
 moved sent stored place (Sent from len) = Sent place (length (partAt sent from len))
 moved sent stored place (Stored from len) = Sent place (length (partAt stored from len))
-moved sent stored place (Level level) = Level level
-moved sent stored place (Mean mean) = Mean mean
+moved sent stored place (Level q level) = Level q level
+moved sent stored place (Mean q mean) = Mean q mean
 
 -- a field is one of the slot's
 pub record Fit (sent stored : List ℕ) (slot : Slot) (f : Field) : Type 0 where
@@ -257,8 +257,8 @@ moved-absent sent stored place (Char c) = refl
 moved-absent sent stored place (Word w x y z) = refl
 moved-absent sent stored place (Sent from len) = refl
 moved-absent sent stored place (Stored from len) = refl
-moved-absent sent stored place (Level level) = refl
-moved-absent sent stored place (Mean mean) = refl
+moved-absent sent stored place (Level q level) = refl
+moved-absent sent stored place (Mean q mean) = refl
 
 module _ (sent stored : List ℕ) where
   backs-absent : (at i : ℕ) (fs : List Field) → isAbsent (getD (backs sent stored at fs) i (field 0 Absent) .value) ≡ isAbsent (getD fs i (field 0 Absent) .value)

@@ -1,7 +1,7 @@
 -- The frame of a report: what each answer of its readers rests on.
 use Prim.Native.Nat.{ℕ, zero, suc, _+_, _-_, _^_, _≤_, _<_}
 use mathlib.Core.Path.{_≡_, refl, sym, ap, _∙_}
-use mathlib.Core.Bool.{Bool, true, false, cond, _&&_, and-false}
+use mathlib.Core.Bool.{Bool, true, false, cond, not, _&&_, and-false}
 use mathlib.Core.List.{List, [], _∷_, _++_}
 use native.Mathlib.Omega.{arith}
 use lib.Dec.{ltb, leb, eqb}
@@ -9,7 +9,7 @@ use lib.ListN.{length, take, drop, getD, replicate, length-drop, length-take}
 use lib.Seq.{take-all}
 use mir.Syntax.{w64}
 use mir.Val.{Fits}
-use borrow.Author.Tests.{eq-eqb, ne-eqb, le-leb, lt-leb, leb-true}
+use borrow.Author.Tests.{le-leb, lt-leb, leb-true, not-true, not-false}
 use Rattle.octets.specs.Octets.{partAt, sameBytes}
 use Rattle.octets.specs.Written.{Room, Wrote}
 use Rattle.octets.proofs.Runs.{wrote-front}
@@ -22,11 +22,13 @@ use Rattle.report.specs.declared.Got.{Got}
 use Rattle.report.specs.declared.Got.the-variants.{Value as Found, Wrong}
 use Rattle.report.specs.declared.Frame.{Frame}
 use Rattle.report.specs.declared.Frame.the-variants.{Body, Not}
+use Rattle.report.specs.declared.Kind.{Kind}
+use Rattle.report.specs.declared.Reading.{Reading}
 use Rattle.report.specs.Fields.{label, written}
 use Rattle.report.specs.Frame.{version, trailer, checkSum}
 use Rattle.report.specs.Shapes.{numberIn}
 use Rattle.report.specs.Parse.{starts, lenTo, fieldAt, Rows, row, bad, readRow, rowOf}
-use Rattle.report.specs.Reports.{lengthIn, lengthSlot, bodyAt, trailerAt, checked, readFramed}
+use Rattle.report.specs.Reports.{lengthIn, lengthSlot, bodyAt, trailerAt, checked, readFramed, agreed, refused, readingOf}
 use Rattle.report.proofs.Bytes.{version-bytes, trailer-length}
 use Rattle.report.proofs.Labels.{starts-length}
 use Rattle.report.proofs.Parses.{label-within, field-yes, field-wrong, value-none, value-yes, value-no}
@@ -61,8 +63,8 @@ length-within (Found (Char c) next) n from len e = let z : _≡_ {A = ℕ} 0 1 =
 length-within (Found (Word w x y k) next) n from len e = let z : _≡_ {A = ℕ} 0 1 = cc in absurd (omega arith)
 length-within (Found (Sent f l) next) n from len e = let z : _≡_ {A = ℕ} 0 1 = cc in absurd (omega arith)
 length-within (Found (Stored f l) next) n from len e = let z : _≡_ {A = ℕ} 0 1 = cc in absurd (omega arith)
-length-within (Found (Level l) next) n from len e = let z : _≡_ {A = ℕ} 0 1 = cc in absurd (omega arith)
-length-within (Found (Mean l) next) n from len e = let z : _≡_ {A = ℕ} 0 1 = cc in absurd (omega arith)
+length-within (Found (Level q l) next) n from len e = let z : _≡_ {A = ℕ} 0 1 = cc in absurd (omega arith)
+length-within (Found (Mean q l) next) n from len e = let z : _≡_ {A = ℕ} 0 1 = cc in absurd (omega arith)
 length-within Wrong n from len e = let z : _≡_ {A = ℕ} 0 1 = cc in absurd (omega arith)
 
 -- 9 as it stands behind 8
@@ -137,11 +139,14 @@ module _ (s : List ℕ) (end : ℕ) (h : end ≤ length s) (sum : ℕ) (e : sum 
       te ∙ ap (λ (l : List ℕ). sameBytes l x) (take-all (length s - end) (drop end s) (omega (arith, length-drop end s)))
       ∙ ap (sameBytes (drop end s)) (xe ∙ ap trailer e)
 
--- ---- the whole frame
-module _ (s : List ℕ) (slots : List Slot) (f : Frame) (fe : f ≡ bodyAt s) where
-  pub framed-not : f ≡ Not → (r : Row) → r ≡ rowOf bad → r ≡ rowOf (readFramed s slots)
+-- ---- the whole: a report of a kind, or none
+module _ (s : List ℕ) (slots : List Slot) (k : Kind) (f : Frame) (fe : f ≡ bodyAt s) where
+  abbrev Read : Reading
+  Read = readingOf k (readFramed s slots)
+
+  pub frame-not : f ≡ Not → (x : Reading) → x ≡ refused → x ≡ Read
   unfolding readFramed
-  framed-not e r re = rw (sym fe ∙ e) re
+  frame-not e x xe = rw (sym fe ∙ e) xe
 
   module _ (from len : ℕ) (e : f ≡ Body from len) where
     pub from-within : from ≤ length s
@@ -157,26 +162,29 @@ module _ (s : List ℕ) (slots : List Slot) (f : Frame) (fe : f ≡ bodyAt s) wh
     unfolding readFramed
     framed = rw (sym fe ∙ e)
 
-    no-sum : (q : Rows) → trailerAt s (from + len) ≡ false → checked s (from + len) q ≡ bad
-    no-sum (row fs n) t = rw (t, and-false (eqb n (from + len)))
-    no-sum bad t = refl
+    module _ (t : Bool) (te : t ≡ trailerAt s (from + len)) where
+      no-sum : (q : Rows) → trailerAt s (from + len) ≡ false → checked s (from + len) q ≡ bad
+      no-sum (row fs n) u = rw (u, and-false (eqb n (from + len)))
+      no-sum bad u = refl
 
-    pub framed-sum : (t : Bool) → t ≡ trailerAt s (from + len) → t ≡ false → (b : Row) → b ≡ rowOf bad → b ≡ rowOf (readFramed s slots)
-    framed-sum t te n b be = be ∙ sym (ap rowOf (framed ∙ no-sum (readRow s from slots) (sym te ∙ n)))
+      -- 10 is not true
+      pub sum-not : not t ≡ true → (x : Reading) → x ≡ refused → x ≡ Read
+      sum-not n x xe = xe ∙ sym (ap (readingOf k) (framed ∙ no-sum (readRow s from slots) (sym te ∙ not-true t n)))
 
-    module _ (r : Row) (re : r ≡ rowOf (readRow s from slots)) where
-      good : (q : Rows) → r ≡ rowOf q → r .next ≡ from + len → trailerAt s (from + len) ≡ true → rowOf (checked s (from + len) q) ≡ r
-      good (row fs n) e m t =
-          let i : n ≡ from + len = ap (λ (w : Row). w .next) (sym e) ∙ m in
-          rw (eq-eqb n (from + len) i, t) (sym e)
-      good bad e m t = sym e
+      -- it is: the fields fill the body, and are those of the kind
+      module _ (y : not t ≡ false) (r : Row) (re : r ≡ rowOf (readRow s from slots)) (a : Bool) (ae : a ≡ agreed k (r .fields)) where
+        abbrev Told : Reading
+        Told = cond (r .ok && eqb (r .next) (from + len) && a) (record { kind = k; fields = r .fields }) refused
 
-      pub framed-good : (t : Bool) → t ≡ trailerAt s (from + len) → t ≡ true → r .next ≡ from + len → r ≡ rowOf (readFramed s slots)
-      framed-good t te y m = sym (ap rowOf framed ∙ good (readRow s from slots) re m (sym te ∙ y))
+        by-row : (q : Rows) → r ≡ rowOf q → trailerAt s (from + len) ≡ true → Told ≡ readingOf k (checked s (from + len) q)
+        by-row (row fs n) z u = rw (ae, z, u) (split (eqb n (from + len)) (λ v. rw v) (λ v. rw v))
+        by-row bad z u = rw z
 
-      no-end : (q : Rows) → r ≡ rowOf q → (r .next ≡ from + len → ⊥) → checked s (from + len) q ≡ bad
-      no-end (row fs n) e m = rw (ne-eqb n (from + len) (λ i. m (ap (λ (w : Row). w .next) e ∙ i)))
-      no-end bad e m = refl
+        told : Told ≡ Read
+        told = by-row (readRow s from slots) re (sym te ∙ not-false t y) ∙ sym (ap (readingOf k) framed)
 
-      pub framed-end : (r .next ≡ from + len → ⊥) → (b : Row) → b ≡ rowOf bad → b ≡ rowOf (readFramed s slots)
-      framed-end m b be = be ∙ sym (ap rowOf (framed ∙ no-end (readRow s from slots) re m))
+        pub row-read : (r .ok && eqb (r .next) (from + len) && a) ≡ true → record { kind = k; fields = r .fields } ≡ Read
+        row-read v = sym (ap (λ (b : Bool). cond b (record { kind = k; fields = r .fields }) refused) v) ∙ told
+
+        pub row-not : (r .ok && eqb (r .next) (from + len) && a) ≡ false → (x : Reading) → x ≡ refused → x ≡ Read
+        row-not v x xe = xe ∙ sym (ap (λ (b : Bool). cond b (record { kind = k; fields = r .fields }) refused) v) ∙ told

@@ -210,8 +210,8 @@ length-found (Found (Char c) next) n from len e = let z : _≡_ {A = ℕ} 0 1 = 
 length-found (Found (Word w x y k) next) n from len e = let z : _≡_ {A = ℕ} 0 1 = cc in absurd (omega arith)
 length-found (Found (Sent f l) next) n from len e = let z : _≡_ {A = ℕ} 0 1 = cc in absurd (omega arith)
 length-found (Found (Stored f l) next) n from len e = let z : _≡_ {A = ℕ} 0 1 = cc in absurd (omega arith)
-length-found (Found (Level l) next) n from len e = let z : _≡_ {A = ℕ} 0 1 = cc in absurd (omega arith)
-length-found (Found (Mean l) next) n from len e = let z : _≡_ {A = ℕ} 0 1 = cc in absurd (omega arith)
+length-found (Found (Level q l) next) n from len e = let z : _≡_ {A = ℕ} 0 1 = cc in absurd (omega arith)
+length-found (Found (Mean q l) next) n from len e = let z : _≡_ {A = ℕ} 0 1 = cc in absurd (omega arith)
 length-found Wrong n from len e = let z : _≡_ {A = ℕ} 0 1 = cc in absurd (omega arith)
 
 body-found : (s : List ℕ) (from len : ℕ) → bodyAt s ≡ Body from len → (starts (written 8 version) s ≡ true) × (fieldAt s 10 lengthSlot ≡ Found (Number len) from)

@@ -7,6 +7,8 @@ use native.Mathlib.Omega.{arith}
 use lib.Dec.{ltb, eqb}
 use borrow.Author.Tests.{eqb-false, ltb-true, not-true}
 use Rattle.octets.proofs.Bools.{split, both-l, both-r}
+use Rattle.decimal.specs.declared.Instrument.{Instrument}
+use Rattle.decimal.specs.declared.Instrument.the-variants.{Bonds, Equities}
 use Rattle.report.specs.declared.Shape.{Shape}
 use Rattle.report.specs.declared.Shape.the-variants as shape
 use Rattle.report.specs.declared.Slot.{Slot}
@@ -33,8 +35,8 @@ properShape shape.OrderId = true
 properShape (shape.Text most low) = ltb 1 low
 properShape shape.Digits = true
 properShape shape.Time = true
-properShape shape.Yield = true
-properShape shape.Average = true
+properShape (shape.Level q) = true
+properShape (shape.Average q) = true
 
 other : (x : ℕ) → not (eqb x 1) ≡ true → x ≡ 1 → ⊥
 other x e = eqb-false x 1 (not-true (eqb x 1) e)
@@ -61,8 +63,8 @@ proper-is shape.OrderId e = tt
 proper-is (shape.Text most low) e = ltb-true 1 low e
 proper-is shape.Digits e = tt
 proper-is shape.Time e = tt
-proper-is shape.Yield e = tt
-proper-is shape.Average e = tt
+proper-is (shape.Level q) e = tt
+proper-is (shape.Average q) e = tt
 
 abbrev pub properAll : List Slot → Bool
 properAll [] = true
@@ -73,16 +75,27 @@ all-proper [] e = tt
 all-proper (slot ∷ slots) e =
     (proper-is (slot .shape) (both-l (properShape (slot .shape)) (properAll slots) e), all-proper slots (both-r (properShape (slot .shape)) (properAll slots) e))
 
-pub kinds-proper : (k : Kind) → AllProper (slotsOf k)
+tables-proper : (q : Instrument) (k : Kind) → properAll (slotsOf q k) ≡ true
 unfolding acceptedSlots replacedSlots canceledSlots tradeSlots rejectedSlots cancelRejectSlots sessionRejectSlots
-kinds-proper Accepted = all-proper acceptedSlots refl
-kinds-proper Replaced = all-proper replacedSlots refl
-kinds-proper Canceled = all-proper canceledSlots refl
-kinds-proper Trade = all-proper tradeSlots refl
-kinds-proper Rejected = all-proper rejectedSlots refl
-kinds-proper CancelReject = all-proper cancelRejectSlots refl
-kinds-proper SessionReject = all-proper sessionRejectSlots refl
-kinds-proper Refused = all-proper (slotsOf Refused) refl
+tables-proper Bonds Accepted = refl
+tables-proper Bonds Replaced = refl
+tables-proper Bonds Canceled = refl
+tables-proper Bonds Trade = refl
+tables-proper Bonds Rejected = refl
+tables-proper Bonds CancelReject = refl
+tables-proper Bonds SessionReject = refl
+tables-proper Bonds Refused = refl
+tables-proper Equities Accepted = refl
+tables-proper Equities Replaced = refl
+tables-proper Equities Canceled = refl
+tables-proper Equities Trade = refl
+tables-proper Equities Rejected = refl
+tables-proper Equities CancelReject = refl
+tables-proper Equities SessionReject = refl
+tables-proper Equities Refused = refl
+
+pub kinds-proper : (q : Instrument) (k : Kind) → AllProper (slotsOf q k)
+kinds-proper q k = all-proper (slotsOf q k) (tables-proper q k)
 
 -- ---- the whole reading
 reading-found : (k : Kind) (q : Rows) (j : Kind) (fs : List Field) → readingOf k q ≡ record { kind = j; fields = fs } → (j ≡ Refused → ⊥) → (n : ℕ) × (q ≡ row fs n)
@@ -94,8 +107,8 @@ reading-found k (row gs n) j fs e h =
 reading-found k bad j fs e h = absurd (h (sym (ap (λ (r : Reading). r .kind) e)))
 
 -- what is read, written again, is the same bytes
-pub read-only : (s stored : List ℕ) (k : Kind) (fs : List Field) → readOf s ≡ record { kind = k; fields = fs } → (k ≡ Refused → ⊥) → s ≡ reportBytes (rowBytes s stored fs)
+pub read-only : (q : Instrument) (s stored : List ℕ) (k : Kind) (fs : List Field) → readOf q s ≡ record { kind = k; fields = fs } → (k ≡ Refused → ⊥) → s ≡ reportBytes (rowBytes s stored fs)
 unfolding readOf
-read-only s stored k fs e h =
-    let f = reading-found (kindOf s) (readFramed s (slotsOf (kindOf s))) k fs e h in
-    framed-only s stored (slotsOf (kindOf s)) fs (f .0) (kinds-proper (kindOf s)) (f .1)
+read-only q s stored k fs e h =
+    let f = reading-found (kindOf s) (readFramed s (slotsOf q (kindOf s))) k fs e h in
+    framed-only s stored (slotsOf q (kindOf s)) fs (f .0) (kinds-proper q (kindOf s)) (f .1)

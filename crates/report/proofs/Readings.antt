@@ -10,8 +10,8 @@ use mir.Syntax.{w64}
 use mir.Val.{Fits}
 use borrow.Author.Tests.{eq-eqb, ne-eqb, lt-ltb, le-ltb}
 use Rattle.decimal.specs.Writing.{decimal}
+use Rattle.decimal.specs.declared.Instrument.{Instrument}
 use Rattle.report.specs.declared.Slot.{Slot}
-use Rattle.report.specs.declared.Row.{Row}
 use Rattle.report.specs.declared.Field.{Field}
 use Rattle.report.specs.declared.Kind.{Kind}
 use Rattle.report.specs.declared.Kind.the-variants.{Accepted, Replaced, Canceled, Trade, Rejected, CancelReject, SessionReject, Refused}
@@ -19,9 +19,9 @@ use Rattle.report.specs.declared.Part.{Part}
 use Rattle.report.specs.declared.Part.the-variants.{At, Nowhere}
 use Rattle.report.specs.declared.Reading.{Reading}
 use Rattle.report.specs.Fields.{label}
-use Rattle.report.specs.Parse.{lenTo, placeOf, Rows, row, bad, rowOf}
+use Rattle.report.specs.Parse.{lenTo, placeOf}
 use Rattle.report.specs.Slots.{slotsOf}
-use Rattle.report.specs.Reports.{executionFor, kindFor, firstOf, kindOf, agreed, refused, readingOf, readingFrom, readFramed, readOf, partOf}
+use Rattle.report.specs.Reports.{executionFor, kindFor, firstOf, kindOf, readingOf, readFramed, readOf, partOf}
 use Rattle.report.proofs.Labels.{label-length}
 use Rattle.report.proofs.Walks.{place-within}
 
@@ -78,14 +78,7 @@ module _ (s : List ℕ) (a : ℕ) (e : a ≡ firstOf s 35) where
   kind-none n m h = rw (← e) (simp (ne-eqb a 51 n, ne-eqb a 57 m, ne-eqb a 56 h))
 
 -- ---- the whole
-reading-row : (k : Kind) (q : Rows) → readingFrom k (rowOf q) ≡ readingOf k q
-reading-row k (row fs n) = refl
-reading-row k bad = refl
-
-pub read-as-is : (s : List ℕ) (k : Kind) (slots : List Slot) (r : Row) (x : Reading) → r ≡ rowOf (readFramed s slots) → x ≡ readingFrom k r → x ≡ readingOf k (readFramed s slots)
-read-as-is s k slots r x re xe = xe ∙ ap (readingFrom k) re ∙ reading-row k (readFramed s slots)
-
-pub read-is : (s : List ℕ) (k : Kind) (slots : List Slot) (x : Reading) → k ≡ kindOf s → slots ≡ slotsOf k → x ≡ readingOf k (readFramed s slots) → x ≡ readOf s
+pub read-is : (q : Instrument) (s : List ℕ) (k : Kind) (slots : List Slot) (x : Reading) → k ≡ kindOf s → slots ≡ slotsOf q k → x ≡ readingOf k (readFramed s slots) → x ≡ readOf q s
 unfolding readOf
-read-is s k slots x ke se xe =
-    xe ∙ ap (λ (l : List Slot). readingOf k (readFramed s l)) se ∙ ap (λ (j : Kind). readingOf j (readFramed s (slotsOf j))) ke
+read-is q s k slots x ke se xe =
+    xe ∙ ap (λ (l : List Slot). readingOf k (readFramed s l)) se ∙ ap (λ (j : Kind). readingOf j (readFramed s (slotsOf q j))) ke

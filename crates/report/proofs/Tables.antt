@@ -7,6 +7,8 @@ use native.Mathlib.Nat.{le-trans}
 use lib.Dec.{lit≤, lit<}
 use lib.ListN.{length}
 use Rattle.decimal.specs.Writing.{decimal}
+use Rattle.decimal.specs.declared.Instrument.{Instrument}
+use Rattle.decimal.specs.declared.Instrument.the-variants.{Bonds, Equities}
 use Rattle.report.specs.declared.Slot.{Slot}
 use Rattle.report.specs.declared.Field.{Field}
 use Rattle.report.specs.declared.Kind.{Kind}
@@ -18,21 +20,31 @@ use Rattle.report.proofs.Bytes.{report-length}
 use Rattle.report.proofs.Back.{Fits, widths, fits-short}
 
 -- what the fields of a kind take at most
-pub widths-most : (k : Kind) → widths (slotsOf k) ≤ 489
+pub widths-most : (q : Instrument) (k : Kind) → widths (slotsOf q k) ≤ 489
 unfolding acceptedSlots replacedSlots canceledSlots tradeSlots rejectedSlots cancelRejectSlots sessionRejectSlots label decimal
-widths-most Accepted = lit≤ tt
-widths-most Replaced = lit≤ tt
-widths-most Canceled = lit≤ tt
-widths-most Trade = lit≤ tt
-widths-most Rejected = lit≤ tt
-widths-most CancelReject = lit≤ tt
-widths-most SessionReject = lit≤ tt
-widths-most Refused = lit≤ tt
+widths-most Bonds Accepted = lit≤ tt
+widths-most Bonds Replaced = lit≤ tt
+widths-most Bonds Canceled = lit≤ tt
+widths-most Bonds Trade = lit≤ tt
+widths-most Bonds Rejected = lit≤ tt
+widths-most Bonds CancelReject = lit≤ tt
+widths-most Bonds SessionReject = lit≤ tt
+widths-most Bonds Refused = lit≤ tt
+widths-most Equities Accepted = lit≤ tt
+widths-most Equities Replaced = lit≤ tt
+widths-most Equities Canceled = lit≤ tt
+widths-most Equities Trade = lit≤ tt
+widths-most Equities Rejected = lit≤ tt
+widths-most Equities CancelReject = lit≤ tt
+widths-most Equities SessionReject = lit≤ tt
+widths-most Equities Refused = lit≤ tt
 
 -- a row that fits a kind's slots leaves room in 512 bytes
-pub row-short : (k : Kind) (sent stored post : List ℕ) (fs : List Field) → Fits sent stored post (slotsOf k) fs → length (rowBytes sent stored fs) ≤ 489
-row-short k sent stored post fs f = le-trans (fits-short sent stored post (slotsOf k) fs f) (widths-most k)
+pub row-short : (q : Instrument) (k : Kind) (sent stored post : List ℕ) (fs : List Field) → Fits sent stored post (slotsOf q k) fs
+    → length (rowBytes sent stored fs) ≤ 489
+row-short q k sent stored post fs f = le-trans (fits-short sent stored post (slotsOf q k) fs f) (widths-most q k)
 
 -- no report is longer than 512 bytes
-pub report-short : (k : Kind) (sent stored post : List ℕ) (fs : List Field) → Fits sent stored post (slotsOf k) fs → length (reportBytes (rowBytes sent stored fs)) ≤ 512
-report-short k sent stored post fs f = report-length (rowBytes sent stored fs) (row-short k sent stored post fs f)
+pub report-short : (q : Instrument) (k : Kind) (sent stored post : List ℕ) (fs : List Field) → Fits sent stored post (slotsOf q k) fs
+    → length (reportBytes (rowBytes sent stored fs)) ≤ 512
+report-short q k sent stored post fs f = report-length (rowBytes sent stored fs) (row-short q k sent stored post fs f)

@@ -5,29 +5,32 @@ use mathlib.Core.Bool.{Bool, true, false, cond, _&&_, _||_, false≢true}
 use mathlib.Core.List.{List, [], _∷_, _++_}
 use native.Mathlib.Omega.{arith}
 use native.Mathlib.Nat.{pow-le-pow-right, div-le-self}
-use lib.Dec.{ltb, leb, eqb, lit<}
+use lib.Dec.{ltb, leb, eqb, lit<, lit≤}
 use lib.ListN.{length, take, drop, getD, length-append}
 use borrow.Author.Tests.{eqb-true, ltb-false, eqb-false, leb-true}
 use Rattle.octets.specs.Octets.{partAt, sameBytes}
 use Rattle.octets.proofs.Bools.{split, both-l, both-r}
+use Rattle.decimal.specs.declared.Instrument.{Instrument}
+use Rattle.decimal.specs.declared.Instrument.the-variants.{Bonds, Equities}
 use Rattle.decimal.specs.declared.Said.{Said}
 use Rattle.decimal.specs.declared.Said.the-variants.{Value as Says, Wrong as Says-not}
 use Rattle.decimal.specs.Reading.{digitRun, runOf, number, isNumber, numOf, isTime}
-use Rattle.decimal.specs.Writing.{decimal, places, plain, fixed, zeroOf}
-use Rattle.decimal.specs.Canonical.{bareOf, within, fixedOf}
+use Rattle.decimal.specs.Instruments.{amountFrom, signed, decimals, meanDecimals, highest, highestMean}
+use Rattle.decimal.specs.Writing.{decimal, places, plain, fixed, zeroOf, levelText, meanText}
+use Rattle.decimal.specs.Canonical.{bareOf, within, levelIn, meanIn}
 use Rattle.decimal.proofs.Numbers.{digit-low, let-through}
 use Rattle.decimal.proofs.Times.{time-short, time-low}
 use Rattle.decimal.proofs.Afters.{digits-head, digits-tail, digits-decimal, digits-places}
 use Rattle.decimal.proofs.Digits.{decimal-few}
-use Rattle.decimal.proofs.RoundTrip.{bare-only, bare-small, fixed-only, fixed-range, fixed-length}
+use Rattle.decimal.proofs.RoundTrip.{bare-only, bare-small, level-only, level-within, level-length, mean-only, mean-within, mean-length}
 use Rattle.report.specs.declared.Value.{Value}
 use Rattle.report.specs.declared.Value.the-variants.{Absent, Number, Char, Word, Sent, Stored, Level, Mean}
 use Rattle.report.specs.declared.Shape.{Shape}
 use Rattle.report.specs.declared.Shape.the-variants as shape
 use Rattle.report.specs.declared.Pick.{Pick}
 use Rattle.report.specs.declared.Pick.the-variants.{Is, No}
-use Rattle.report.specs.Fields.{isAbsent, valueBytes}
-use Rattle.report.specs.Shapes.{oneIn, numberIn, listedIn, wordIn, orderIdIn, allFrom, textIn, placeIn, timeIn, yieldIn, averageIn, valueIn}
+use Rattle.report.specs.Fields.{isAbsent, wordBytes, valueBytes}
+use Rattle.report.specs.Shapes.{oneIn, numberIn, listedIn, wordIn, orderIdIn, allFrom, textIn, placeIn, timeIn, quoteIn, averageIn, valueIn}
 
 -- ---- no byte is SOH
 abbrev pub NoSoh : List ℕ → Type 0
@@ -49,12 +52,32 @@ clean-plain k m f =
     (clean-append (decimal (m / 10 ^ k)) (46 ∷ []) (clean-digits (decimal (m / 10 ^ k)) (digits-decimal (m / 10 ^ k) (omega (arith, div-le-self m (10 ^ k))))) ((λ q. omega (arith, q)), tt))
     (clean-digits (places k m) (digits-places k m))
 
-pub clean-fixed : (k v : ℕ) → zeroOf k ≤ 2 ^ 62 → v < zeroOf k + zeroOf k → NoSoh (fixed k v)
+amount-small : (q : Instrument) (origin v : ℕ) → origin < 2 ^ 64 → v < 2 ^ 64 → amountFrom q origin v < 2 ^ 64
+amount-small Bonds origin v z h = omega arith
+amount-small Equities origin v z h = omega arith
+
+clean-fixed : (q : Instrument) (k v : ℕ) → zeroOf q k < 2 ^ 64 → v < 2 ^ 64 → NoSoh (fixed q k v)
 unfolding fixed
-clean-fixed k v z h =
-    split (ltb v (zeroOf k))
-    (λ e. rw e ((λ q. omega (arith, q)), clean-plain k (zeroOf k - v) (omega arith)))
-    (λ e. rw e (clean-plain k (v - zeroOf k) (omega arith)))
+clean-fixed q k v z h =
+    split (signed q && ltb v (zeroOf q k))
+    (λ e. rw e ((λ q. omega (arith, q)), clean-plain k (zeroOf q k - v) (omega arith)))
+    (λ e. rw e (clean-plain k (amountFrom q (zeroOf q k) v) (amount-small q (zeroOf q k) v z h)))
+
+highest-small : (q : Instrument) → (highest q < 2 ^ 64) × (highestMean q < 2 ^ 64)
+highest-small Bonds = (lit< tt, lit< tt)
+highest-small Equities = (lit< tt, lit< tt)
+
+zero-small : (q : Instrument) → (zeroOf q (decimals q) < 2 ^ 64) × (zeroOf q (meanDecimals q) < 2 ^ 64)
+zero-small Bonds = (lit< tt, lit< tt)
+zero-small Equities = (lit< tt, lit< tt)
+
+pub clean-level : (q : Instrument) (v : ℕ) → v ≤ highest q → NoSoh (levelText q v)
+unfolding levelText
+clean-level q v h = clean-fixed q (decimals q) v (zero-small q .0) (omega (arith, h, highest-small q .0))
+
+pub clean-mean : (q : Instrument) (v : ℕ) → v ≤ highestMean q → NoSoh (meanText q v)
+unfolding meanText
+clean-mean q v h = clean-fixed q (meanDecimals q) v (zero-small q .1) (omega (arith, h, highest-small q .1))
 
 from-turn : (t u r : Bool) → cond t false (cond u false r) ≡ true → (t ≡ false) × (r ≡ true)
 from-turn true u r e = absurd (false≢true e)
@@ -95,8 +118,8 @@ widthOf shape.OrderId = 9
 widthOf (shape.Text most low) = most
 widthOf shape.Digits = 9
 widthOf shape.Time = 21
-widthOf shape.Yield = 11
-widthOf shape.Average = 14
+widthOf (shape.Level q) = 11
+widthOf (shape.Average q) = 14
 
 is-injective : (x y : Value) → Is x ≡ Is y → x ≡ y
 is-injective x y e = cc
@@ -178,8 +201,8 @@ Proper shape.OrderId = Unit {0}
 Proper (shape.Text most low) = 1 < low
 Proper shape.Digits = Unit {0}
 Proper shape.Time = Unit {0}
-Proper shape.Yield = Unit {0}
-Proper shape.Average = Unit {0}
+Proper (shape.Level q) = Unit {0}
+Proper (shape.Average q) = Unit {0}
 
 taken-one : (v : List ℕ) (from : ℕ) (x : Value) (a b c d e : ℕ) → (a ≡ 1 → ⊥) × (b ≡ 1 → ⊥) × (c ≡ 1 → ⊥) × (d ≡ 1 → ⊥) × (e ≡ 1 → ⊥) → oneIn a b c d e v ≡ Is x → Taken v 1 from x
 unfolding oneIn
@@ -193,14 +216,28 @@ taken-one v from x a b c d e n q =
     subst (λ (u : Value). Taken v 1 from u) (p .1) whole)
     (λ l. let z : No ≡ Is x = rw l at q in absurd (no-never x z))
 
--- four characters
+-- a word
+clean-word : (w x y z : ℕ) → NoSoh (w ∷ x ∷ y ∷ z ∷ []) → NoSoh (wordBytes w x y z)
+clean-word w x y z n = (n .0, (n .1 .0, (n .1 .1 .0, by)))
+  where
+    by : NoSoh (cond (eqb z 0) [] (z ∷ []))
+    by = split (eqb z 0) (λ e. rw e tt) (λ e. rw e (n .1 .1 .1))
+
+word-few : (w x y z : ℕ) → length (wordBytes w x y z) ≤ 4
+word-few w x y z = split (eqb z 0) (λ e. rw e (lit≤ tt)) (λ e. rw e (lit≤ tt))
+
 taken-word : (v : List ℕ) (from : ℕ) (x : Value) (a b c d : ℕ) → NoSoh (a ∷ b ∷ c ∷ d ∷ []) → wordIn a b c d v ≡ Is x → Taken v 4 from x
 unfolding wordIn
 taken-word v from x a b c d n q =
-    let p = cond-is (sameBytes v (a ∷ b ∷ c ∷ d ∷ [])) (Word a b c d) x q in
-    let w = same-is v (a ∷ b ∷ c ∷ d ∷ []) (p .0) in
+    let p = cond-is (sameBytes v (wordBytes a b c d)) (Word a b c d) x q in
+    let w = same-is v (wordBytes a b c d) (p .0) in
     subst (λ (u : Value). Taken v 4 from u) (p .1)
-    (record { clean = subst (λ (u : List ℕ). NoSoh u) (sym w) n; few = omega (arith, ap length w); here = refl; bytes = λ s stored z. sym w })
+    (record {
+      clean = subst (λ (u : List ℕ). NoSoh u) (sym w) (clean-word a b c d n);
+      few = omega (arith, ap length w, word-few a b c d);
+      here = refl;
+      bytes = λ s stored z. sym w;
+    })
 
 wider : (v : List ℕ) (m n from : ℕ) (x : Value) → m ≤ n → Taken v m from x → Taken v n from x
 wider v m n from x h t = record { clean = t .clean; few = omega (arith, t .few); here = t .here; bytes = t .bytes }
@@ -247,37 +284,37 @@ taken-digits v from x q =
       bytes = λ s stored z. z;
     })
 
--- yields and AvgPx
-yield-says : (q : Said) (x : Value) → yieldIn q ≡ Is x → Said-so q x Level
-yield-says (Says n) x e = record { said = n; says = refl; is = is-injective (Level n) x e }
-yield-says Says-not x e = absurd (no-never x e)
+-- yields and prices, and AvgPx
+quote-says : (i : Instrument) (q : Said) (x : Value) → quoteIn i q ≡ Is x → Said-so q x (Level i)
+quote-says i (Says n) x e = record { said = n; says = refl; is = is-injective (Level i n) x e }
+quote-says i Says-not x e = absurd (no-never x e)
 
-average-says : (q : Said) (x : Value) → averageIn q ≡ Is x → Said-so q x Mean
-average-says (Says n) x e = record { said = n; says = refl; is = is-injective (Mean n) x e }
-average-says Says-not x e = absurd (no-never x e)
+average-says : (i : Instrument) (q : Said) (x : Value) → averageIn i q ≡ Is x → Said-so q x (Mean i)
+average-says i (Says n) x e = record { said = n; says = refl; is = is-injective (Mean i n) x e }
+average-says i Says-not x e = absurd (no-never x e)
 
-taken-yield : (v : List ℕ) (from : ℕ) (x : Value) → yieldIn (fixedOf 3 v) ≡ Is x → Taken v 11 from x
-taken-yield v from x q =
-    let n = yield-says (fixedOf 3 v) x q in
-    let w = fixed-only 3 v (n .said) (n .says) in
-    let r = fixed-range 3 v (n .said) (n .says) in
+taken-quote : (i : Instrument) (v : List ℕ) (from : ℕ) (x : Value) → quoteIn i (levelIn i v) ≡ Is x → Taken v 11 from x
+taken-quote i v from x q =
+    let n = quote-says i (levelIn i v) x q in
+    let w = level-only i v (n .said) (n .says) in
+    let r = level-within i v (n .said) (n .says) in
     subst (λ (y : Value). Taken v 11 from y) (n .is)
     (record {
-      clean = subst (λ (u : List ℕ). NoSoh u) (sym w) (clean-fixed 3 (n .said) (omega arith) (r .1));
-      few = omega (arith, ap length w, fixed-length 3 (n .said) (r .0) (r .1));
+      clean = subst (λ (u : List ℕ). NoSoh u) (sym w) (clean-level i (n .said) (r .1));
+      few = omega (arith, ap length w, level-length i (n .said) (r .0) (r .1));
       here = refl;
       bytes = λ s stored z. sym w;
     })
 
-taken-average : (v : List ℕ) (from : ℕ) (x : Value) → averageIn (fixedOf 6 v) ≡ Is x → Taken v 14 from x
-taken-average v from x q =
-    let n = average-says (fixedOf 6 v) x q in
-    let w = fixed-only 6 v (n .said) (n .says) in
-    let r = fixed-range 6 v (n .said) (n .says) in
+taken-average : (i : Instrument) (v : List ℕ) (from : ℕ) (x : Value) → averageIn i (meanIn i v) ≡ Is x → Taken v 14 from x
+taken-average i v from x q =
+    let n = average-says i (meanIn i v) x q in
+    let w = mean-only i v (n .said) (n .says) in
+    let r = mean-within i v (n .said) (n .says) in
     subst (λ (y : Value). Taken v 14 from y) (n .is)
     (record {
-      clean = subst (λ (u : List ℕ). NoSoh u) (sym w) (clean-fixed 6 (n .said) (omega arith) (r .1));
-      few = omega (arith, ap length w, fixed-length 6 (n .said) (r .0) (r .1));
+      clean = subst (λ (u : List ℕ). NoSoh u) (sym w) (clean-mean i (n .said) (r .1));
+      few = omega (arith, ap length w, mean-length i (n .said) (r .0) (r .1));
       here = refl;
       bytes = λ s stored z. sym w;
     })
@@ -307,5 +344,5 @@ taken shape.OrderId from v x n q = taken-order-id v from x q
 taken (shape.Text most low) from v x n q = taken-text v from x most low n q
 taken shape.Digits from v x n q = taken-digits v from x q
 taken shape.Time from v x n q = taken-time v from x q
-taken shape.Yield from v x n q = taken-yield v from x q
-taken shape.Average from v x n q = taken-average v from x q
+taken (shape.Level i) from v x n q = taken-quote i v from x q
+taken (shape.Average i) from v x n q = taken-average i v from x q

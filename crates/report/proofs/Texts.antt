@@ -37,8 +37,8 @@ value-there sent stored pre post other tag (Stored from len) =
     ap (λ (s : List ℕ). partAt s (length pre + length (label tag)) (length v)) z
     ∙ ap (λ (k : ℕ). partAt ((pre ++ label tag) ++ (v ++ (1 ∷ post))) k (length v)) (sym (length-append pre (label tag)))
     ∙ part-there (pre ++ label tag) v (1 ∷ post)
-value-there sent stored pre post other tag (Level level) = refl
-value-there sent stored pre post other tag (Mean mean) = refl
+value-there sent stored pre post other tag (Level q level) = refl
+value-there sent stored pre post other tag (Mean q mean) = refl
 
 module _ (sent stored post other : List ℕ) where
   -- the same of each field of a row

@@ -1,12 +1,17 @@
 -- A field of a report and a row of them as bytes: the tag's digits, `=`, the value, SOH; document 01, "The reports". The texts
--- of a row stand in the message that was sent or in the table where they are stored. Assumes nothing.
+-- of a row stand in the message that was sent or in the table where they are stored; a yield or a price is given as its level, and
+-- AvgPx as its mean, each with what is traded. Assumes nothing.
 use mathlib.Core.Bool.{Bool, true, false, cond}
 use mathlib.Core.List.{List, [], _∷_, _++_}
+use lib.Dec.{eqb}
+use lib.ListN.{getD}
 use Prim.Native.Nat.{ℕ}
 use Prim.Native.String.{String}
-use Rattle.octets.specs.Characters.{bytes, byteAt, soh}
+use Rattle.octets.specs.Characters.{bytes, soh}
 use Rattle.octets.specs.Octets.{partAt}
-use Rattle.decimal.specs.Writing.{decimal, fixed}
+use Rattle.decimal.specs.declared.Instrument.{Instrument}
+use Rattle.decimal.specs.declared.Instrument.the-variants.{Bonds, Equities}
+use Rattle.decimal.specs.Writing.{decimal, levelText, meanText}
 use Rattle.report.specs.declared.Value.{Value}
 use Rattle.report.specs.declared.Value.the-variants.{Absent, Number, Char, Word, Sent, Stored, Level, Mean}
 use Rattle.report.specs.declared.Field.{Field}
@@ -15,9 +20,18 @@ use Rattle.report.specs.declared.Field.{Field}
 abbrev pub field : ℕ → Value → Field
 field t v = record { tag = t; value = v }
 
--- a word of four characters
+-- a word of three or four characters: 0 is in the place of a fourth that is not there
 abbrev pub word : String → Value
-word s = Word (byteAt s 0) (byteAt s 1) (byteAt s 2) (byteAt s 3)
+word s = Word (getD (bytes s) 0 0) (getD (bytes s) 1 0) (getD (bytes s) 2 0) (getD (bytes s) 3 0)
+
+-- its bytes
+abbrev pub wordBytes : ℕ → ℕ → ℕ → ℕ → List ℕ
+wordBytes w x y z = w ∷ x ∷ y ∷ cond (eqb z 0) [] (z ∷ [])
+
+-- 50, the group of what is traded
+abbrev pub groupOf : Instrument → String
+groupOf Bonds = "DJGB"
+groupOf Equities = "DAY"
 
 -- the value is not there
 abbrev pub isAbsent : Value → Bool
@@ -27,19 +41,19 @@ isAbsent (Char c) = false
 isAbsent (Word w x y z) = false
 isAbsent (Sent from len) = false
 isAbsent (Stored from len) = false
-isAbsent (Level level) = false
-isAbsent (Mean mean) = false
+isAbsent (Level q level) = false
+isAbsent (Mean q mean) = false
 
 -- the bytes of a value
 abbrev pub valueBytes : List ℕ → List ℕ → Value → List ℕ
 valueBytes sent stored Absent = []
 valueBytes sent stored (Number n) = decimal n
 valueBytes sent stored (Char c) = c ∷ []
-valueBytes sent stored (Word w x y z) = w ∷ x ∷ y ∷ z ∷ []
+valueBytes sent stored (Word w x y z) = wordBytes w x y z
 valueBytes sent stored (Sent from len) = partAt sent from len
 valueBytes sent stored (Stored from len) = partAt stored from len
-valueBytes sent stored (Level level) = fixed 3 level
-valueBytes sent stored (Mean mean) = fixed 6 mean
+valueBytes sent stored (Level q level) = levelText q level
+valueBytes sent stored (Mean q mean) = meanText q mean
 
 -- a tag and `=`
 unfoldable pub label : ℕ → List ℕ

@@ -1,6 +1,7 @@
 -- What a report is: document 01, Read and refusal 11. 8 and 9 stand first and 10 last; 9 is the length of the body and 10 the
 -- CheckSum of all before it; the body is the fields of one kind, slot by slot, and nothing else. 35, and 150 where 35 is 8, say
--- which kind it can be. A Canceled has exactly one of 41 and 378. No other field is compared with another. Assumes nothing.
+-- which kind it can be. A Canceled has exactly one of 41 and 378. No other field is compared with another. Each market reads its own
+-- reports: q is what it trades. Assumes nothing.
 use Prim.Native.Nat.{ℕ, _+_, _-_}
 use mathlib.Core.Bool.{Bool, true, false, cond, not, _&&_}
 use mathlib.Core.List.{List, [], _∷_, _++_}
@@ -8,6 +9,7 @@ use lib.Dec.{ltb, leb, eqb}
 use lib.ListN.{length, take, drop, getD}
 use Rattle.octets.specs.Octets.{sameBytes}
 use Rattle.octets.specs.Characters.{byte}
+use Rattle.decimal.specs.declared.Instrument.{Instrument}
 use Rattle.report.specs.declared.Value.{Value}
 use Rattle.report.specs.declared.Value.the-variants.{Absent, Number, Char, Word, Sent, Stored, Level, Mean}
 use Rattle.report.specs.declared.Field.{Field}
@@ -20,7 +22,6 @@ use Rattle.report.specs.declared.Frame.the-variants.{Body, Not}
 use Rattle.report.specs.declared.Kind.{Kind}
 use Rattle.report.specs.declared.Kind.the-variants.{Accepted, Replaced, Canceled, Trade, Rejected, CancelReject, SessionReject, Refused}
 use Rattle.report.specs.declared.Reading.{Reading}
-use Rattle.report.specs.declared.Row.{Row}
 use Rattle.report.specs.declared.Part.{Part}
 use Rattle.report.specs.declared.Part.the-variants.{At, Nowhere}
 use Rattle.report.specs.Fields.{field, isAbsent, label, written}
@@ -38,8 +39,8 @@ lengthIn (Found (Char c) next) n = Not
 lengthIn (Found (Word w x y z) next) n = Not
 lengthIn (Found (Sent from len) next) n = Not
 lengthIn (Found (Stored from len) next) n = Not
-lengthIn (Found (Level level) next) n = Not
-lengthIn (Found (Mean mean) next) n = Not
+lengthIn (Found (Level q level) next) n = Not
+lengthIn (Found (Mean q mean) next) n = Not
 lengthIn Wrong n = Not
 
 -- 9: up to three digits, since no report is longer than 512 bytes
@@ -116,13 +117,9 @@ abbrev pub readingOf : Kind → Rows → Reading
 readingOf k (row fs next) = cond (agreed k fs) (record { kind = k; fields = fs }) refused
 readingOf k bad = refused
 
--- the same, of a row as the code has it
-abbrev pub readingFrom : Kind → Row → Reading
-readingFrom k r = cond (r .ok && agreed k (r .fields)) (record { kind = k; fields = r .fields }) refused
-
 -- what the bytes are: a report of a kind with its fields, or none
-unfoldable pub readOf : List ℕ → Reading
-readOf s = readingOf (kindOf s) (readFramed s (slotsOf (kindOf s)))
+unfoldable pub readOf : Instrument → List ℕ → Reading
+readOf q s = readingOf (kindOf s) (readFramed s (slotsOf q (kindOf s)))
 
 -- where the value of the first field with a tag stands, and how long it is
 unfoldable pub partOf : List ℕ → ℕ → Part

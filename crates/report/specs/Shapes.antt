@@ -1,5 +1,5 @@
 -- What the value of a field may be where a report is read, and what it then is: document 01, "The reports", Read, and document
--- 02, T-09 (37). A text is given as its place in the report. Assumes nothing.
+-- 02, T-08 (prices) and T-09 (37). A text is given as its place in the report. Assumes nothing.
 use Prim.Native.Nat.{ℕ}
 use mathlib.Core.Bool.{Bool, true, false, cond, _&&_, _||_}
 use mathlib.Core.List.{List, [], _∷_}
@@ -7,17 +7,18 @@ use lib.Dec.{ltb, leb, eqb}
 use lib.ListN.{length, getD}
 use Rattle.octets.specs.Octets.{sameBytes}
 use Rattle.octets.specs.Characters.{bytes}
+use Rattle.decimal.specs.declared.Instrument.{Instrument}
 use Rattle.decimal.specs.declared.Said.{Said}
 use Rattle.decimal.specs.declared.Said.the-variants.{Value as Says, Wrong as Says-not}
 use Rattle.decimal.specs.Reading.{numOf, isTime}
-use Rattle.decimal.specs.Canonical.{bareOf, within, fixedOf}
+use Rattle.decimal.specs.Canonical.{bareOf, within, levelIn, meanIn}
 use Rattle.report.specs.declared.Value.{Value}
 use Rattle.report.specs.declared.Value.the-variants.{Absent, Number, Char, Word, Sent, Stored, Level, Mean}
 use Rattle.report.specs.declared.Shape.{Shape}
 use Rattle.report.specs.declared.Shape.the-variants as shape
 use Rattle.report.specs.declared.Pick.{Pick}
 use Rattle.report.specs.declared.Pick.the-variants.{Is, No}
-use Rattle.report.specs.Fields.{word}
+use Rattle.report.specs.Fields.{word, wordBytes}
 
 -- one of five characters
 unfoldable pub oneIn : ℕ → ℕ → ℕ → ℕ → ℕ → List ℕ → Pick
@@ -37,9 +38,9 @@ listedIn a b c d e f g h (Says n) =
     cond (eqb n a || eqb n b || eqb n c || eqb n d || eqb n e || eqb n f || eqb n g || eqb n h) (Is (Number n)) No
 listedIn a b c d e f g h Says-not = No
 
--- four characters
+-- a word
 unfoldable pub wordIn : ℕ → ℕ → ℕ → ℕ → List ℕ → Pick
-wordIn w x y z v = cond (sameBytes v (w ∷ x ∷ y ∷ z ∷ [])) (Is (Word w x y z)) No
+wordIn w x y z v = cond (sameBytes v (wordBytes w x y z)) (Is (Word w x y z)) No
 
 -- an OrderID, 1 to 999,999,999, or NONE
 unfoldable pub orderIdIn : List ℕ → Pick
@@ -64,15 +65,15 @@ placeIn from len Says-not = No
 unfoldable pub timeIn : ℕ → List ℕ → Pick
 timeIn from v = cond (isTime v) (Is (Sent from (length v))) No
 
--- a yield, as its level
-abbrev pub yieldIn : Said → Pick
-yieldIn (Says n) = Is (Level n)
-yieldIn Says-not = No
+-- a yield or a price, as its level
+abbrev pub quoteIn : Instrument → Said → Pick
+quoteIn q (Says n) = Is (Level q n)
+quoteIn q Says-not = No
 
 -- AvgPx, as its mean
-abbrev pub averageIn : Said → Pick
-averageIn (Says n) = Is (Mean n)
-averageIn Says-not = No
+abbrev pub averageIn : Instrument → Said → Pick
+averageIn q (Says n) = Is (Mean q n)
+averageIn q Says-not = No
 
 -- the value v at a place, as a shape says
 abbrev pub valueIn : Shape → ℕ → List ℕ → Pick
@@ -85,5 +86,5 @@ valueIn shape.OrderId from v = orderIdIn v
 valueIn (shape.Text most low) from v = textIn most low from v
 valueIn shape.Digits from v = placeIn from (length v) (numOf 9 v)
 valueIn shape.Time from v = timeIn from v
-valueIn shape.Yield from v = yieldIn (fixedOf 3 v)
-valueIn shape.Average from v = averageIn (fixedOf 6 v)
+valueIn (shape.Level q) from v = quoteIn q (levelIn q v)
+valueIn (shape.Average q) from v = averageIn q (meanIn q v)

@@ -5,8 +5,11 @@ pub mod slots;
 pub mod values;
 pub mod write;
 
-// The value of a field. A text is a part of one of two slices that are lent with a row: the message that was sent (or the
-// report that was read), or the table where texts are stored.
+use decimal::Instrument;
+
+// The value of a field. A word has three or four characters: the fourth is 0 where there are three. A text is a part of one of two
+// slices that are lent with a row: the message that was sent (or the report that was read), or the table where texts are stored. A
+// level and a mean say what is traded, since that decides how they are written.
 pub enum Value {
     Absent,
     Number(u64),
@@ -14,8 +17,8 @@ pub enum Value {
     Word { w: u8, x: u8, y: u8, z: u8 },
     Sent { from: usize, len: usize },
     Stored { from: usize, len: usize },
-    Level(u64),
-    Mean(u64),
+    Level { of: Instrument, level: u64 },
+    Mean { of: Instrument, mean: u64 },
 }
 
 // A field: its tag and its value. One whose value is absent is not written.
@@ -32,8 +35,8 @@ pub struct Place {
     pub length: usize,
 }
 
-// What the value of a field may be: one of five characters; a number in a range; one of eight numbers; four characters; an
-// OrderID, or NONE; a text of at most so many characters from one on to 7E hex; 1 to 9 digits; a time; a yield; AvgPx.
+// What the value of a field may be: one of five characters; a number in a range; one of eight numbers; a word; an OrderID, or
+// NONE; a text of at most so many characters from one on to 7E hex; 1 to 9 digits; a time; a yield or a price; AvgPx.
 pub enum Shape {
     Nothing,
     OneOf {
@@ -70,8 +73,12 @@ pub enum Shape {
     },
     Digits,
     Time,
-    Yield,
-    Average,
+    Level {
+        of: Instrument,
+    },
+    Average {
+        of: Instrument,
+    },
 }
 
 // A place for a field in a kind of report.

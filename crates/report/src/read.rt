@@ -15,6 +15,7 @@ use crate::parse::value_end;
 use crate::slots::slots_of;
 use crate::write::is_absent;
 use crate::write::put_trailer;
+use decimal::Instrument;
 use decimal::Said;
 use decimal::canonical::read_within;
 use decimal::read::byte_at;
@@ -25,8 +26,8 @@ use octets::same;
 ghost use mathlib.Core.Path.{_≡_};
 ghost use Prim.Native.Nat.{_≤_};
 ghost use lib.ListN.{length};
-ghost use Rattle.report.specs.Parse.{fieldAt, rowOf, bad};
-ghost use Rattle.report.specs.Reports.{lengthIn, lengthSlot, bodyAt, trailerAt, readFramed, executionFor, firstOf, kindOf, oneReason, agreed, readingOf, readingFrom, readOf, partOf};
+ghost use Rattle.report.specs.Parse.{fieldAt};
+ghost use Rattle.report.specs.Reports.{lengthIn, lengthSlot, bodyAt, trailerAt, readFramed, executionFor, firstOf, kindOf, oneReason, agreed, refused, readingOf, readOf, partOf};
 
 // 9, where the body ends within the n bytes.
 fn length_in(got: Got, n: usize) -> Frame
@@ -56,8 +57,8 @@ fn length_in(got: Got, n: usize) -> Frame
             } => Frame::Not,
             Value::Sent { from: _, len: _ } => Frame::Not,
             Value::Stored { from: _, len: _ } => Frame::Not,
-            Value::Level(_) => Frame::Not,
-            Value::Mean(_) => Frame::Not,
+            Value::Level { of: _, level: _ } => Frame::Not,
+            Value::Mean { of: _, mean: _ } => Frame::Not,
         },
         Got::Wrong => Frame::Not,
     }
@@ -104,40 +105,6 @@ fn trailer_at(s: &[u8], end: usize) -> bool
     let mut t = [0u8; 8];
     let n = put_trailer(&mut t, 0, checksum(&s[..end]));
     same(&s[end..], &t[..n])
-}
-
-// No report.
-fn no_row() -> Row
-    ensures { λ r. ⌜ r ≡ rowOf bad ⌝ }
-{
-    Row {
-        ok: false,
-        next: 0,
-        fields: [Field {
-            tag: 0,
-            value: Value::Absent,
-        }; 36],
-    }
-}
-
-// A report whose body has the slots.
-fn read_framed(s: &[u8], slots: [Slot; 36]) -> Row
-    ensures { λ r. ⌜ r ≡ rowOf (readFramed (now (s .entry)) slots) ⌝ }
-{
-    let frame = body_at(s);
-    let Frame::Body { from, len } = frame else {
-        return no_row();
-    };
-    let end = from + len;
-    if trailer_at(s, end) {
-        let mut row = read_row(s, from, slots);
-        let next = row.next;
-        if next != end {
-            row = no_row();
-        }
-        return row;
-    }
-    no_row()
 }
 
 // The first character of a tag's value, and 0 where there is none.
@@ -225,17 +192,10 @@ fn agrees(kind: Kind, fields: [Field; 36]) -> bool
     }
 }
 
-// What a row comes to.
-fn reading(kind: Kind, row: Row) -> Reading
-    ensures { λ r. ⌜ r ≡ readingFrom kind row ⌝ }
+// What is no report.
+fn nothing() -> Reading
+    ensures { λ r. ⌜ r ≡ refused ⌝ }
 {
-    let fields = row.fields;
-    let ok = row.ok;
-    if ok {
-        if agrees(kind, fields) {
-            return Reading { kind, fields };
-        }
-    }
     Reading {
         kind: Kind::Refused,
         fields: [Field {
@@ -249,16 +209,30 @@ fn reading(kind: Kind, row: Row) -> Reading
 pub fn read_as(s: &[u8], kind: Kind, slots: [Slot; 36]) -> Reading
     ensures { λ r. ⌜ r ≡ readingOf kind (readFramed (now (s .entry)) slots) ⌝ }
 {
-    let row = read_framed(s, slots);
-    reading(kind, row)
+    let frame = body_at(s);
+    let Frame::Body { from, len } = frame else {
+        return nothing();
+    };
+    let end = from + len;
+    if !trailer_at(s, end) {
+        return nothing();
+    }
+    let row = read_row(s, from, slots);
+    let next = row.next;
+    let ok = row.ok;
+    let fields = row.fields;
+    if ok & (next == end) & agrees(kind, fields) {
+        return Reading { kind, fields };
+    }
+    nothing()
 }
 
-// A report's kind and fields; what is none is refused, which is the paper's refusal 11.
-pub fn read(s: &[u8]) -> Reading
-    ensures { λ r. ⌜ r ≡ readOf (now (s .entry)) ⌝ }
+// The kind and fields of a report of a market; what is none is refused, which is the paper's refusal 11.
+pub fn read(q: Instrument, s: &[u8]) -> Reading
+    ensures { λ r. ⌜ r ≡ readOf q (now (s .entry)) ⌝ }
 {
     let kind = kind_of(s);
-    read_as(s, kind, slots_of(kind))
+    read_as(s, kind, slots_of(q, kind))
 }
 
 // Where the value of the first field with a tag stands.

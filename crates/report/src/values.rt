@@ -2,6 +2,7 @@
 use crate::Pick;
 use crate::Shape;
 use crate::Value;
+use decimal::Instrument;
 use decimal::Said;
 use decimal::canonical::read_bare;
 use decimal::canonical::read_level;
@@ -11,10 +12,11 @@ use decimal::read::is_time;
 use decimal::read::read_number;
 use octets::same;
 ghost use mathlib.Core.Path.{_≡_};
-ghost use mathlib.Core.List.{_∷_, []};
+ghost use mathlib.Core.Bool.{cond};
+ghost use lib.Dec.{eqb};
 ghost use Prim.Native.Nat.{_≤_};
 ghost use lib.ListN.{length};
-ghost use Rattle.report.specs.Shapes.{oneIn, numberIn, listedIn, wordIn, orderIdIn, allFrom, textIn, placeIn, timeIn, yieldIn, averageIn, valueIn};
+ghost use Rattle.report.specs.Shapes.{oneIn, numberIn, listedIn, wordIn, orderIdIn, allFrom, textIn, placeIn, timeIn, quoteIn, averageIn, valueIn};
 
 // One of five characters.
 fn pick_one(v: &[u8], a: u8, b: u8, c: u8, d: u8, e: u8) -> Pick
@@ -63,12 +65,23 @@ fn pick_listed(said: Said, a: u8, b: u8, c: u8, d: u8, e: u8, f: u8, g: u8, h: u
     }
 }
 
-// Four characters.
+// How many characters a word with this fourth one has.
+pub fn word_length(z: u8) -> usize
+    ensures { λ r. ⌜ (r ≡ cond (eqb z 0) 3 4) × (r ≤ 4) ⌝ }
+{
+    if z == 0 {
+        return 3;
+    }
+    4
+}
+
+// A word.
 fn pick_word(v: &[u8], w: u8, x: u8, y: u8, z: u8) -> Pick
     ensures { λ r. ⌜ r ≡ wordIn w x y z (now (v .entry)) ⌝ }
 {
     let word = [w, x, y, z];
-    if same(v, &word) {
+    let n = word_length(z);
+    if same(v, &word[..n]) {
         return Pick::Is(Value::Word { w, x, y, z });
     }
     Pick::No
@@ -143,22 +156,22 @@ fn pick_time(v: &[u8], from: usize) -> Pick
     Pick::No
 }
 
-// A yield.
-fn pick_yield(said: Said) -> Pick
-    ensures { λ r. ⌜ r ≡ yieldIn said ⌝ }
+// A yield or a price.
+fn pick_quote(q: Instrument, said: Said) -> Pick
+    ensures { λ r. ⌜ r ≡ quoteIn q said ⌝ }
 {
     match said {
-        Said::Value(n) => Pick::Is(Value::Level(n)),
+        Said::Value(n) => Pick::Is(Value::Level { of: q, level: n }),
         Said::Wrong => Pick::No,
     }
 }
 
 // AvgPx.
-fn pick_average(said: Said) -> Pick
-    ensures { λ r. ⌜ r ≡ averageIn said ⌝ }
+fn pick_average(q: Instrument, said: Said) -> Pick
+    ensures { λ r. ⌜ r ≡ averageIn q said ⌝ }
 {
     match said {
-        Said::Value(n) => Pick::Is(Value::Mean(n)),
+        Said::Value(n) => Pick::Is(Value::Mean { of: q, mean: n }),
         Said::Wrong => Pick::No,
     }
 }
@@ -186,7 +199,7 @@ pub fn pick_value(v: &[u8], shape: Shape, from: usize) -> Pick
         Shape::Text { most, low } => pick_text(v, from, most, low),
         Shape::Digits => pick_place(read_number(v, 9), from, v.len()),
         Shape::Time => pick_time(v, from),
-        Shape::Yield => pick_yield(read_level(v)),
-        Shape::Average => pick_average(read_mean(v)),
+        Shape::Level { of } => pick_quote(of, read_level(of, v)),
+        Shape::Average { of } => pick_average(of, read_mean(of, v)),
     }
 }

@@ -1,6 +1,7 @@
 // The bytes of a row of fields, and of a whole report. Each function answers the place behind what it wrote.
 use crate::Field;
 use crate::Value;
+use crate::values::word_length;
 use decimal::write::put_byte;
 use decimal::write::put_decimal;
 use decimal::write::put_level;
@@ -10,24 +11,21 @@ use fix::frame::checksum;
 use octets::part::copy_into;
 use octets::part::part_at;
 ghost use mathlib.Core.Path.{_≡_};
-ghost use mathlib.Core.List.{_∷_, []};
 ghost use Prim.Native.Nat.{_≤_};
 ghost use lib.ListN.{length};
 ghost use Rattle.octets.specs.Written.{Room, Wrote};
 ghost use Rattle.decimal.specs.Writing.{decimal};
-ghost use Rattle.report.specs.Fields.{isAbsent, valueBytes, label, written, fieldBytes, rowBytes};
+ghost use Rattle.report.specs.Fields.{isAbsent, wordBytes, valueBytes, label, written, fieldBytes, rowBytes};
 ghost use Rattle.report.specs.Frame.{front, trailer, reportBytes};
 
-// Four characters.
-fn put_four(out: &mut [u8], at: usize, w: u8, x: u8, y: u8, z: u8) -> usize
-    requires { ⌜ Room (now out) at (w ∷ x ∷ y ∷ z ∷ []) ⌝ }
-    ensures { λ r. ⌜ Wrote (now (out .entry)) at (w ∷ x ∷ y ∷ z ∷ []) r (now (out .exit)) ⌝ }
+// A word.
+fn put_word(out: &mut [u8], at: usize, w: u8, x: u8, y: u8, z: u8) -> usize
+    requires { ⌜ Room (now out) at (wordBytes w x y z) ⌝ }
+    ensures { λ r. ⌜ Wrote (now (out .entry)) at (wordBytes w x y z) r (now (out .exit)) ⌝ }
 {
-    out[at] = w;
-    out[at + 1] = x;
-    out[at + 2] = y;
-    out[at + 3] = z;
-    at + 4
+    let word = [w, x, y, z];
+    let n = word_length(z);
+    copy_into(out, at, &word[..n])
 }
 
 // The bytes of a value.
@@ -39,11 +37,11 @@ fn put_value(out: &mut [u8], at: usize, value: Value, sent: &[u8], stored: &[u8]
         Value::Absent => at,
         Value::Number(n) => put_decimal(out, at, n),
         Value::Char(c) => put_byte(out, at, c),
-        Value::Word { w, x, y, z } => put_four(out, at, w, x, y, z),
+        Value::Word { w, x, y, z } => put_word(out, at, w, x, y, z),
         Value::Sent { from, len } => copy_into(out, at, part_at(sent, from, len)),
         Value::Stored { from, len } => copy_into(out, at, part_at(stored, from, len)),
-        Value::Level(level) => put_level(out, at, level),
-        Value::Mean(mean) => put_mean(out, at, mean),
+        Value::Level { of, level } => put_level(out, at, of, level),
+        Value::Mean { of, mean } => put_mean(out, at, of, mean),
     }
 }
 
@@ -72,8 +70,8 @@ pub fn is_absent(value: Value) -> bool
         } => false,
         Value::Sent { from: _, len: _ } => false,
         Value::Stored { from: _, len: _ } => false,
-        Value::Level(_) => false,
-        Value::Mean(_) => false,
+        Value::Level { of: _, level: _ } => false,
+        Value::Mean { of: _, mean: _ } => false,
     }
 }
 

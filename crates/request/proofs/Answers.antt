@@ -13,6 +13,8 @@ use lib.Seq.{drop-cons}
 use borrow.Author.Tests.{eq-eqb, ne-eqb, eqb-true, eqb-false, not-true, not-false}
 use Rattle.octets.specs.Octets.{partAt, sameBytes}
 use Rattle.octets.proofs.Bools.{split, both-l, both-r}
+use Rattle.decimal.specs.declared.Instrument.{Instrument}
+use Rattle.decimal.specs.declared.Instrument.the-variants.{Bonds, Equities}
 use Rattle.fix.specs.declared.fields.Found.{Found}
 use Rattle.fix.specs.declared.frame.Part.{Part}
 use Rattle.fix.specs.declared.frame.Head.{Head}
@@ -29,9 +31,9 @@ use Rattle.request.specs.declared.Verdict.{Verdict}
 use Rattle.request.specs.declared.Terms.{Terms}
 use Rattle.request.specs.declared.Asked.{Asked}
 use Rattle.request.specs.declared.Asked.the-variants.{Garbled, Refused, Enters, Replaces, Cancels}
-use Rattle.request.specs.Session.{kindOf, needed, optional, oneOf, belongs, listed, judge, orElse, firstFailing, minimumClashes, firstClashing, firstMissing}
+use Rattle.request.specs.Session.{kindOf, needed, optional, oneOf, belongs, listed, judge, orElse, firstFailing, minimumClashes, marginClashes, firstClashing, firstMissing}
 use Rattle.request.specs.Asks.{lengthFound, saidIn, lengthIn, hasIn, textIn, termsIn, requestIn, refusalOf, completed, agreed, afterBody, bodyAsked, isKnown, bodyOf, headAsked, askedOf}
-use Rattle.request.specs.Gathers.{slots, slot, Starts, Admitted, keptSays, keptLens, Gathered, Walked, firstUnset, rowAt, hasRow, textRow, termsRow, requestRow, completedRow, agreedRow}
+use Rattle.request.specs.Gathers.{slots, slot, Starts, Admitted, keptSays, keptLens, known, Gathered, Walked, firstUnset, rowAt, hasRow, textRow, termsRow, requestRow, completedRow, agreedRow}
 use Rattle.request.proofs.Keys.{eachIs}
 use Rattle.request.proofs.Gathering.{says-means}
 
@@ -71,12 +73,19 @@ module _ (ts lens : List ℕ) (i : ℕ) (inv : Unset ts lens i) where
   unfolding firstUnset
   unset-none h = rw (inv .1, drop-of-length-le ts {i = i} h)
 
-pub unset-kind : (k l : Kind) (lens : List ℕ) (r : ℕ) → k ≡ l → r ≡ firstUnset (needed l) lens → r ≡ firstUnset (needed k) lens
-unset-kind k l lens r e h = rw e h
+pub unset-kind : (q : Instrument) (k l : Kind) (lens : List ℕ) (r : ℕ) → k ≡ l → r ≡ firstUnset (needed q l) lens → r ≡ firstUnset (needed q k) lens
+unset-kind q k l lens r e h = rw e h
 
-pub unset-unknown : (k : Kind) (lens : List ℕ) → k ≡ Unknown → 0 ≡ firstUnset (needed k) lens
+pub unset-unknown : (q : Instrument) (k : Kind) (lens : List ℕ) → k ≡ Unknown → 0 ≡ firstUnset (needed q k) lens
 unfolding firstUnset
-unset-unknown k lens e = rw e
+unset-unknown q k lens e = rw e
+
+-- the tags of a new order, by what is traded
+pub unset-bonds : (q : Instrument) (lens : List ℕ) (r : ℕ) → q ≡ Bonds → r ≡ firstUnset (needed Bonds NewOrder) lens → r ≡ firstUnset (needed q NewOrder) lens
+unset-bonds q lens r e h = rw e h
+
+pub unset-equities : (q : Instrument) (lens : List ℕ) (r : ℕ) → q ≡ Equities → r ≡ firstUnset (needed Equities NewOrder) lens → r ≡ firstUnset (needed q NewOrder) lens
+unset-equities q lens r e h = rw e h
 
 -- ---- the first tag that clashes
 pub has-is : (lens : List ℕ) (t x : ℕ) → x ≡ rowAt lens t → not (eqb x 0) ≡ hasRow lens t
@@ -89,86 +98,107 @@ pub minimum-is : (says lens : List ℕ) (a b c : Bool) (x y z : ℕ) → a ≡ h
 unfolding minimumClashes
 minimum-is says lens a b c x y z ea eb ec ex ey ez = rw (ea, eb, ec, ex, ey, ez)
 
-module _ (says lens : List ℕ) (a : Bool) (e : a ≡ minimumClashes (hasRow lens) (rowAt says)) where
-  pub clash-minimum : a ≡ true → 110 ≡ firstClashing (hasRow lens) (rowAt says)
-  unfolding firstClashing
-  clash-minimum h = rw (← e, h)
+module _ (q : Instrument) (says lens : List ℕ) where
+  pub margin-bonds : q ≡ Bonds → false ≡ marginClashes q (hasRow lens) (rowAt says)
+  unfolding marginClashes
+  margin-bonds e = rw e
 
-  pub clash-none : a ≡ false → 0 ≡ firstClashing (hasRow lens) (rowAt says)
-  unfolding firstClashing
-  clash-none h = rw (← e, h)
+  pub margin-is : (a b : Bool) (x : ℕ) → q ≡ Equities → a ≡ hasRow lens 8214 → b ≡ hasRow lens 544 → x ≡ rowAt says 544
+      → (a && b && eqb x 1) ≡ marginClashes q (hasRow lens) (rowAt says)
+  unfolding marginClashes
+  margin-is a b x e ea eb ex = rw (e, ea, eb, ex)
+
+  module _ (a : Bool) (e : a ≡ minimumClashes (hasRow lens) (rowAt says)) where
+    pub clash-minimum : a ≡ true → 110 ≡ firstClashing q (hasRow lens) (rowAt says)
+    unfolding firstClashing
+    clash-minimum h = rw (← e, h)
+
+    module _ (n : a ≡ false) (c : Bool) (g : c ≡ marginClashes q (hasRow lens) (rowAt says)) where
+      pub clash-margin : c ≡ true → 8214 ≡ firstClashing q (hasRow lens) (rowAt says)
+      unfolding firstClashing
+      clash-margin h = rw (← e, n, ← g, h)
+
+      pub clash-none : c ≡ false → 0 ≡ firstClashing q (hasRow lens) (rowAt says)
+      unfolding firstClashing
+      clash-none h = rw (← e, n, ← g, h)
 
 -- ---- where the body passes, a tag has no length exactly if no field has it
 passes-first : (x : Judged) (t : ℕ) (rest : Verdict) → orElse x t rest ≡ Verdict.Passes → rest ≡ Verdict.Passes
 passes-first (Judged.Says n) t rest e = e
 passes-first (Judged.Fails r) t rest e = let z : _≡_ {A = ℕ} 0 1 = cc in absurd (suc-ne-zero 0 (sym z))
 
-passes-says : (k : Kind) (b : List ℕ) (from : ℕ) (f : Fld) (x : Judged) (t : ℕ) (rest : Verdict) → judge k b from f ≡ x → orElse x t rest ≡ Verdict.Passes → f .len ≡ 0 → ⊥
-passes-says k b from f (Judged.Says n) t rest g e = says-means k b from f n g .some
-passes-says k b from f (Judged.Fails r) t rest g e = let z : _≡_ {A = ℕ} 0 1 = cc in absurd (suc-ne-zero 0 (sym z))
+passes-says : (q : Instrument) (k : Kind) (b : List ℕ) (from : ℕ) (f : Fld) (x : Judged) (t : ℕ) (rest : Verdict) → judge q k b from f ≡ x → orElse x t rest ≡ Verdict.Passes → f .len ≡ 0 → ⊥
+passes-says q k b from f (Judged.Says n) t rest g e = says-means q k b from f n g .some
+passes-says q k b from f (Judged.Fails r) t rest g e = let z : _≡_ {A = ℕ} 0 1 = cc in absurd (suc-ne-zero 0 (sym z))
 
-length-has : (k : Kind) (b : List ℕ) (from t : ℕ) (fs : List Fld) → firstFailing k b from fs ≡ Verdict.Passes → eqb (lengthFound (findTag t fs)) 0 ≡ not (hasTag t fs)
+length-has : (q : Instrument) (k : Kind) (b : List ℕ) (from t : ℕ) (fs : List Fld) → firstFailing q k b from fs ≡ Verdict.Passes → eqb (lengthFound (findTag t fs)) 0 ≡ not (hasTag t fs)
 unfolding firstFailing findTag hasTag
-length-has k b from t [] e = refl
-length-has k b from t (f ∷ fs) e =
+length-has q k b from t [] e = refl
+length-has q k b from t (f ∷ fs) e =
     split (eqb (f .tag) t)
-    (λ y. rw y (ne-eqb (f .len) 0 (passes-says k b from f (judge k b from f) (f .tag) (firstFailing k b from fs) refl e)))
-    (λ n. rw n (length-has k b from t fs (passes-first (judge k b from f) (f .tag) (firstFailing k b from fs) e)))
+    (λ y. rw y (ne-eqb (f .len) 0 (passes-says q k b from f (judge q k b from f) (f .tag) (firstFailing q k b from fs) refl e)))
+    (λ n. rw n (length-has q k b from t fs (passes-first (judge q k b from f) (f .tag) (firstFailing q k b from fs) e)))
 
-module _ (k : Kind) (b : List ℕ) (from : ℕ) (says lens : List ℕ) (rows : Gathered b from says lens) (passes : firstFailing k b from (fieldsOf b) ≡ Verdict.Passes) where
-  unset-missing : (ts : List ℕ) → eachIs listed ts ≡ true → firstUnset ts lens ≡ firstMissing ts (fieldsOf b)
+module _ (q : Instrument) (k : Kind) (b : List ℕ) (from : ℕ) (says lens : List ℕ) (rows : Gathered q b from says lens) (passes : firstFailing q k b from (fieldsOf b) ≡ Verdict.Passes) where
+  unset-missing : (ts : List ℕ) → eachIs known ts ≡ true → firstUnset ts lens ≡ firstMissing ts (fieldsOf b)
   unfolding firstUnset firstMissing eachIs lengthIn
   unset-missing [] e = refl
   unset-missing (t ∷ ts) e =
-      let ih = unset-missing ts (both-r (listed t) (eachIs listed ts) e) in
-      let l = rows t (both-l (listed t) (eachIs listed ts) e) .1 in
-      rw (l, length-has k b from t (fieldsOf b) passes, ih) (swap (hasTag t (fieldsOf b)) (firstMissing ts (fieldsOf b)) t)
+      let ih = unset-missing ts (both-r (known t) (eachIs known ts) e) in
+      let l = rows t (both-l (known t) (eachIs known ts) e) .1 in
+      rw (l, length-has q k b from t (fieldsOf b) passes, ih) (swap (hasTag t (fieldsOf b)) (firstMissing ts (fieldsOf b)) t)
     where
       swap : (a : Bool) (x y : ℕ) → cond (not a) y x ≡ cond a x y
       swap true x y = refl
       swap false x y = refl
 
-  all-needed : (k : Kind) → eachIs listed (needed k) ≡ true
-  unfolding eachIs listed belongs oneOf
-  all-needed NewOrder = refl
-  all-needed Replacement = refl
-  all-needed Cancel = refl
-  all-needed Unknown = refl
+  all-needed : (i : Instrument) (k : Kind) → eachIs known (needed i k) ≡ true
+  unfolding eachIs known listed belongs oneOf
+  all-needed Bonds NewOrder = refl
+  all-needed Equities NewOrder = refl
+  all-needed i Replacement = refl
+  all-needed i Cancel = refl
+  all-needed i Unknown = refl
 
-  at : (t : ℕ) → listed t ≡ true → getD says (slot t) 0 ≡ saidIn b from t
+  at : (t : ℕ) → known t ≡ true → getD says (slot t) 0 ≡ saidIn q b from t
   at t h = rows t h .0
 
-  text : (t : ℕ) → listed t ≡ true → textRow says lens t ≡ textIn b from t
+  text : (t : ℕ) → known t ≡ true → textRow says lens t ≡ textIn q b from t
   text t h = rw (rows t h .0, rows t h .1)
 
-  terms : termsRow says ≡ termsIn b from
-  unfolding termsRow termsIn listed belongs oneOf
-  terms = rw (at 38 refl, at 44 refl, at 54 refl, at 59 refl, at 47 refl, at 8060 refl, at 109 refl, at 110 refl)
+  terms : termsRow says ≡ termsIn q b from
+  unfolding termsRow termsIn known listed belongs oneOf
+  terms = rw (at 38 refl, at 44 refl, at 54 refl, at 59 refl, at 47 refl, at 8060 refl, at 109 refl, at 110 refl, at 544 refl, at 8214 refl)
 
-  requests : (l : Kind) (h : Head) → requestRow l h says lens ≡ requestIn l h b from
-  unfolding requestRow requestIn listed belongs oneOf
+  requests : (l : Kind) (h : Head) → requestRow l h says lens ≡ requestIn q l h b from
+  unfolding requestRow requestIn known listed belongs oneOf
   requests NewOrder h = rw (text 11 refl, text 1 refl, text 55 refl, terms)
   requests Replacement h = rw (text 11 refl, text 41 refl, text 55 refl, at 38 refl, at 44 refl, at 54 refl)
   requests Cancel h = rw (text 11 refl, text 41 refl, text 55 refl, at 54 refl)
   requests Unknown h = refl
 
-  has : (t : ℕ) → listed t ≡ true → hasRow lens t ≡ hasIn b t
+  has : (t : ℕ) → known t ≡ true → hasRow lens t ≡ hasIn b t
   unfolding hasRow hasIn lengthIn
-  has t h = rw (rows t h .1, length-has k b from t (fieldsOf b) passes) (twice (hasTag t (fieldsOf b)))
+  has t h = rw (rows t h .1, length-has q k b from t (fieldsOf b) passes) (twice (hasTag t (fieldsOf b)))
     where
       twice : (a : Bool) → not (not a) ≡ a
       twice true = refl
       twice false = refl
 
-  clashes : firstClashing (hasRow lens) (rowAt says) ≡ firstClashing (hasIn b) (saidIn b from)
-  unfolding firstClashing minimumClashes listed belongs oneOf
-  clashes = rw (has 110 refl, has 59 refl, has 38 refl, at 59 refl, at 38 refl, at 110 refl)
+  margins : (i : Instrument) → marginClashes i (hasRow lens) (rowAt says) ≡ marginClashes i (hasIn b) (saidIn q b from)
+  unfolding marginClashes known listed belongs oneOf
+  margins Bonds = refl
+  margins Equities = rw (has 8214 refl, has 544 refl, at 544 refl)
 
-  complete : (h : Head) → completedRow k h says lens ≡ completed k h b from
+  clashes : firstClashing q (hasRow lens) (rowAt says) ≡ firstClashing q (hasIn b) (saidIn q b from)
+  unfolding firstClashing minimumClashes known listed belongs oneOf
+  clashes = rw (has 110 refl, has 59 refl, has 38 refl, at 59 refl, at 38 refl, at 110 refl, margins q)
+
+  complete : (h : Head) → completedRow q k h says lens ≡ completed q k h b from
   unfolding completedRow completed
-  complete h = rw (unset-missing (needed k) (all-needed k), requests k h)
+  complete h = rw (unset-missing (needed q k) (all-needed q k), requests k h)
 
-  agree : (h : Head) → agreedRow k h says lens ≡ agreed k h b from
+  agree : (h : Head) → agreedRow q k h says lens ≡ agreed q k h b from
   unfolding agreedRow agreed
   agree h = rw (clashes, complete h)
 
@@ -194,32 +224,32 @@ unfolding requestRow
 request-unknown k h says lens r ek er = er ∙ rw ek
 
 -- ---- the answer, from the last step back
-module _ (k : Kind) (h : Head) (says lens : List ℕ) (t : ℕ) (e : t ≡ firstUnset (needed k) lens) (r : Asked) where
-  pub completes-missing : (t ≡ 0 → ⊥) → r ≡ refusalOf h 1 t → r ≡ completedRow k h says lens
+module _ (q : Instrument) (k : Kind) (h : Head) (says lens : List ℕ) (t : ℕ) (e : t ≡ firstUnset (needed q k) lens) (r : Asked) where
+  pub completes-missing : (t ≡ 0 → ⊥) → r ≡ refusalOf h 1 t → r ≡ completedRow q k h says lens
   unfolding completedRow
   completes-missing d g = g ∙ rw (← e, ne-eqb t 0 d)
 
-  pub completes-is : t ≡ 0 → r ≡ requestRow k h says lens → r ≡ completedRow k h says lens
+  pub completes-is : t ≡ 0 → r ≡ requestRow k h says lens → r ≡ completedRow q k h says lens
   unfolding completedRow
   completes-is z g = g ∙ rw (← e, eq-eqb t 0 z)
 
-module _ (k : Kind) (h : Head) (says lens : List ℕ) (t : ℕ) (e : t ≡ firstClashing (hasRow lens) (rowAt says)) (r : Asked) where
-  pub agrees-clash : (t ≡ 0 → ⊥) → r ≡ refusalOf h 5 t → r ≡ agreedRow k h says lens
+module _ (q : Instrument) (k : Kind) (h : Head) (says lens : List ℕ) (t : ℕ) (e : t ≡ firstClashing q (hasRow lens) (rowAt says)) (r : Asked) where
+  pub agrees-clash : (t ≡ 0 → ⊥) → r ≡ refusalOf h 5 t → r ≡ agreedRow q k h says lens
   unfolding agreedRow
   agrees-clash d g = g ∙ rw (← e, ne-eqb t 0 d)
 
-  pub agrees-is : t ≡ 0 → r ≡ completedRow k h says lens → r ≡ agreedRow k h says lens
+  pub agrees-is : t ≡ 0 → r ≡ completedRow q k h says lens → r ≡ agreedRow q k h says lens
   unfolding agreedRow
   agrees-is z g = g ∙ rw (← e, eq-eqb t 0 z)
 
-module _ (k : Kind) (h : Head) (b x : List ℕ) (from : ℕ) (v : Verdict) (says lens : List ℕ) (eb : b ≡ x) (w : Walked k b from v says lens) (r : Asked) where
-  pub decides-fails : (reason tag : ℕ) → v ≡ Verdict.Fails reason tag → r ≡ refusalOf h reason tag → r ≡ bodyAsked k h x from
+module _ (q : Instrument) (k : Kind) (h : Head) (b x : List ℕ) (from : ℕ) (v : Verdict) (says lens : List ℕ) (eb : b ≡ x) (w : Walked q k b from v says lens) (r : Asked) where
+  pub decides-fails : (reason tag : ℕ) → v ≡ Verdict.Fails reason tag → r ≡ refusalOf h reason tag → r ≡ bodyAsked q k h x from
   unfolding bodyAsked
   decides-fails reason tag g er = er ∙ rw (← eb) (rw (← w .verdict, g))
 
-  pub decides-passes : v ≡ Verdict.Passes → r ≡ agreedRow k h says lens → r ≡ bodyAsked k h x from
+  pub decides-passes : v ≡ Verdict.Passes → r ≡ agreedRow q k h says lens → r ≡ bodyAsked q k h x from
   unfolding bodyAsked
-  decides-passes g er = er ∙ agree k b from says lens (w .rows g) (sym (w .verdict) ∙ g) h ∙ rw (← eb) (rw (← w .verdict, g))
+  decides-passes g er = er ∙ agree q k b from says lens (w .rows g) (sym (w .verdict) ∙ g) h ∙ rw (← eb) (rw (← w .verdict, g))
 
 pub starts : (s v row : List ℕ) (start len : ℕ) → v ≡ partAt s start len → Held row start 7 (fieldsOf (partAt s start len)) → Starts v row start (replicate slots 0) (replicate slots 0)
 starts s v row start len e h = record { no-says = refl; no-lens = refl; held = rw e h }
@@ -245,7 +275,7 @@ module _ (v : List ℕ) (a : Bool) (ea : a ≡ sameBytes v (68 ∷ [])) where
       kind-unknown h = rw (sym ea ∙ ha, sym ec ∙ hc, sym ed ∙ h)
 
 -- ---- the head
-module _ (venue port s : List ℕ) (h : Head) (eh : h ≡ headOf s) (r : Asked) where
+module _ (q : Instrument) (venue port s : List ℕ) (h : Head) (eh : h ≡ headOf s) (r : Asked) where
   value-35 : partAt s (h .kind .start) (h .kind .len) ≡ valueOf s 35
   unfolding headOf
   value-35 = rw eh (value-part s 35)
@@ -258,15 +288,15 @@ module _ (venue port s : List ℕ) (h : Head) (eh : h ≡ headOf s) (r : Asked) 
   unfolding headOf
   value-56 = rw eh (value-part s 56)
 
-  body-is : (k : Kind) → bodyAsked k h (partAt s (h .body .start) (h .body .len)) (h .body .start) ≡ bodyAsked k (headOf s) (bodyOf s) (bodyPart s .start)
+  body-is : (k : Kind) → bodyAsked q k h (partAt s (h .body .start) (h .body .len)) (h .body .start) ≡ bodyAsked q k (headOf s) (bodyOf s) (bodyPart s .start)
   unfolding headOf bodyOf
-  body-is k = ap (λ x. bodyAsked k x (partAt s (x .body .start) (x .body .len)) (x .body .start)) eh
+  body-is k = ap (λ x. bodyAsked q k x (partAt s (x .body .start) (x .body .len)) (x .body .start)) eh
 
   module _ (v₁ : List ℕ) (e₁ : v₁ ≡ partAt s (h .kind .start) (h .kind .len)) (k : Kind) (ek : k ≡ kindOf v₁) (a : Bool) (ea : a ≡ isKnown k) where
     kind-is : kindOf (valueOf s 35) ≡ k
     kind-is = sym (ek ∙ ap kindOf (e₁ ∙ value-35))
 
-    pub admits-kind : not a ≡ true → r ≡ refusalOf h 11 35 → r ≡ headAsked venue port s
+    pub admits-kind : not a ≡ true → r ≡ refusalOf h 11 35 → r ≡ headAsked q venue port s
     unfolding headAsked
     admits-kind g er = er ∙ rw (kind-is, sym ea ∙ not-true a g, eh)
 
@@ -274,7 +304,7 @@ module _ (venue port s : List ℕ) (h : Head) (eh : h ≡ headOf s) (r : Asked) 
       sender-is : sameBytes (valueOf s 49) port ≡ c
       sender-is = sym (ec ∙ ap (λ x. sameBytes x port) (e₂ ∙ value-49))
 
-      pub admits-sender : not c ≡ true → r ≡ refusalOf h 9 49 → r ≡ headAsked venue port s
+      pub admits-sender : not c ≡ true → r ≡ refusalOf h 9 49 → r ≡ headAsked q venue port s
       unfolding headAsked
       admits-sender g er = er ∙ rw (kind-is, sym ea ∙ not-false a ga, sender-is, not-true c g, eh)
 
@@ -282,21 +312,21 @@ module _ (venue port s : List ℕ) (h : Head) (eh : h ≡ headOf s) (r : Asked) 
         target-is : sameBytes (valueOf s 56) venue ≡ d
         target-is = sym (ed ∙ ap (λ x. sameBytes x venue) (e₃ ∙ value-56))
 
-        pub admits-target : not d ≡ true → r ≡ refusalOf h 9 56 → r ≡ headAsked venue port s
+        pub admits-target : not d ≡ true → r ≡ refusalOf h 9 56 → r ≡ headAsked q venue port s
         unfolding headAsked
         admits-target g er = er ∙ rw (kind-is, sym ea ∙ not-false a ga, sender-is, not-false c gc, target-is, not-true d g, eh)
 
-        pub admits-body : not d ≡ false → r ≡ bodyAsked k h (partAt s (h .body .start) (h .body .len)) (h .body .start) → r ≡ headAsked venue port s
+        pub admits-body : not d ≡ false → r ≡ bodyAsked q k h (partAt s (h .body .start) (h .body .len)) (h .body .start) → r ≡ headAsked q venue port s
         unfolding headAsked
         admits-body g er = er ∙ body-is k ∙ rw (kind-is, sym ea ∙ not-false a ga, sender-is, not-false c gc, target-is, not-false d g)
 
 -- ---- the message
-module _ (venue port s row : List ℕ) (f : Frame) (w : Framed s row f) where
-  pub asked-garbled : f ≡ Frame.Garbled → Garbled ≡ askedOf venue port s
+module _ (q : Instrument) (venue port s row : List ℕ) (f : Frame) (w : Framed s row f) where
+  pub asked-garbled : f ≡ Frame.Garbled → Garbled ≡ askedOf q venue port s
   unfolding askedOf
   asked-garbled g = rw (← is-garbled s f (w .frame) g)
 
-  pub asked-good : (h : Head) (r : Asked) → f ≡ Frame.Good h → r ≡ headAsked venue port s → r ≡ askedOf venue port s
+  pub asked-good : (h : Head) (r : Asked) → f ≡ Frame.Good h → r ≡ headAsked q venue port s → r ≡ askedOf q venue port s
   unfolding askedOf
   asked-good h r g er = er ∙ rw (← is-good s f (w .frame) h g)
 

@@ -9,12 +9,15 @@ use lib.Dec.{ltb, leb, eqb}
 use lib.ListN.{length, getD, drop, drop-of-length-le}
 use lib.Seq.{drop-cons}
 use borrow.Author.Tests.{eq-eqb, ne-eqb, not-true, not-false}
+use Rattle.octets.specs.Characters.{bytes}
+use Rattle.decimal.specs.declared.Instrument.{Instrument}
+use Rattle.decimal.specs.declared.Instrument.the-variants.{Bonds, Equities}
 use Rattle.decimal.specs.declared.Said.{Said}
 use Rattle.decimal.specs.declared.Said.the-variants.{Value, Wrong}
 use Rattle.decimal.specs.Reading.{isDigit, numOf, levelOf, timeShaped, timeRanged}
 use Rattle.request.specs.declared.Judged.{Judged}
 use Rattle.request.specs.declared.Judged.the-variants.{Says, Fails}
-use Rattle.request.specs.Session.{oneOf, Text, Digits, Amount, Yield, Time, Among, charSays, lookAs}
+use Rattle.request.specs.Session.{oneOf, Text, Digits, Amount, Quote, Time, Among, Unlisted, codeShape, sideShape, cashShape, marginShape, charSays, lookAs}
 
 module _ (at n : ℕ) (v : List ℕ) where
   pub text-is : (leb 1 (length v) && leb (length v) n) ≡ true → Says at ≡ lookAs at (Text n) v
@@ -47,12 +50,12 @@ module _ (at n : ℕ) (v : List ℕ) where
     amount-not g = rw (← e, g)
 
 module _ (at : ℕ) (v : List ℕ) where
-  module _ (x : Said) (e : x ≡ levelOf v) where
-    pub level-is : (m : ℕ) → x ≡ Value m → Says m ≡ lookAs at Yield v
+  module _ (q : Instrument) (x : Said) (e : x ≡ levelOf q v) where
+    pub level-is : (m : ℕ) → x ≡ Value m → Says m ≡ lookAs at (Quote q) v
     unfolding lookAs
     level-is m g = rw (← e, g)
 
-    pub level-not : x ≡ Wrong → Fails 6 ≡ lookAs at Yield v
+    pub level-not : x ≡ Wrong → Fails 6 ≡ lookAs at (Quote q) v
     unfolding lookAs
     level-not g = rw (← e, g)
 
@@ -110,3 +113,33 @@ module _ (c : ℕ) (cs : List ℕ) (i : ℕ) (inv : Sought c cs i) where
   pub sought-none : length cs ≤ i → false ≡ oneOf c cs
   unfolding oneOf
   sought-none h = rw (inv .1, drop-of-length-le cs {i = i} h)
+
+-- ---- shapes by what is traded
+module _ (q : Instrument) (at : ℕ) (v : List ℕ) (r : Judged) where
+  module _ (e : q ≡ Bonds) where
+    pub code-bonds : r ≡ lookAs at (Digits 9) v → r ≡ lookAs at (codeShape q) v
+    code-bonds h = rw e h
+
+    pub side-bonds : r ≡ lookAs at (Among (bytes "12")) v → r ≡ lookAs at (sideShape q) v
+    side-bonds h = rw e h
+
+  module _ (e : q ≡ Equities) where
+    pub code-equities : r ≡ lookAs at (Text 9) v → r ≡ lookAs at (codeShape q) v
+    code-equities h = rw e h
+
+    pub side-equities : r ≡ lookAs at (Among (bytes "1256")) v → r ≡ lookAs at (sideShape q) v
+    side-equities h = rw e h
+
+    pub cash-equities : r ≡ lookAs at (Among (bytes "123")) v → r ≡ lookAs at (cashShape q) v
+    cash-equities h = rw e h
+
+    pub margin-equities : r ≡ lookAs at (Among (bytes "12")) v → r ≡ lookAs at (marginShape q) v
+    margin-equities h = rw e h
+
+pub cash-none : (q : Instrument) (at : ℕ) (v : List ℕ) → q ≡ Bonds → Fails 3 ≡ lookAs at (cashShape q) v
+unfolding lookAs
+cash-none q at v e = rw e
+
+pub margin-none : (q : Instrument) (at : ℕ) (v : List ℕ) → q ≡ Bonds → Fails 3 ≡ lookAs at (marginShape q) v
+unfolding lookAs
+margin-none q at v e = rw e

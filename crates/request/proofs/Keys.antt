@@ -27,24 +27,21 @@ not-key [] x h = refl
 not-key (k ∷ []) x h = rw (ne-eqb x k h)
 not-key (k ∷ (l ∷ ks)) x h = rw (ne-eqb x k (λ e. h (inl e))) (not-key (l ∷ ks) x (λ o. h (inr o)))
 
--- each of a list is one of two lists of keys: a test that computes
-unfoldable pub covered : List ℕ → List ℕ → List ℕ → Bool
-covered [] ks ls = true
-covered (k ∷ list) ks ls = (oneOf k ks || oneOf k ls) && covered list ks ls
+-- each of a list is one of three lists of keys: a test that computes
+unfoldable pub covered : List ℕ → List ℕ → List ℕ → List ℕ → Bool
+covered [] ks ls ms = true
+covered (k ∷ list) ks ls ms = (oneOf k ks || oneOf k ls || oneOf k ms) && covered list ks ls ms
 
 -- a number that is none of the keys is none of a list that they cover
-pub none-of : (list ks ls : List ℕ) (x : ℕ) → (OneOf ks x → ⊥) → (OneOf ls x → ⊥) → covered list ks ls ≡ true → oneOf x list ≡ false
-unfolding oneOf covered
-none-of [] ks ls x h g e = refl
-none-of (k ∷ list) ks ls x h g e =
-    rw (ne-eqb x k (λ q. differ q)) (none-of list ks ls x h g (both-r (oneOf k ks || oneOf k ls) (covered list ks ls) e))
-  where
-    differ : x ≡ k → ⊥
-    differ q =
-        let a : oneOf k ks ≡ false = rw q at (not-key ks x h) in
-        let b : oneOf k ls ≡ false = rw q at (not-key ls x g) in
-        let c = both-l (oneOf k ks || oneOf k ls) (covered list ks ls) e in
-        not-both c (rw (a, b))
+module _ (ks ls ms : List ℕ) (x : ℕ) (f : OneOf ks x → ⊥) (g : OneOf ls x → ⊥) (h : OneOf ms x → ⊥) where
+  pub none-of : (list : List ℕ) → covered list ks ls ms ≡ true → oneOf x list ≡ false
+  unfolding oneOf covered
+  none-of [] e = refl
+  none-of (k ∷ list) e =
+      let c = both-l (oneOf k ks || oneOf k ls || oneOf k ms) (covered list ks ls ms) e in
+      let differ : x ≡ k → ⊥ = λ same.
+      not-both c (rw (rw same at (not-key ks x f), rw same at (not-key ls x g), rw same at (not-key ms x h))) in
+      rw (ne-eqb x k differ) (none-of list (both-r (oneOf k ks || oneOf k ls || oneOf k ms) (covered list ks ls ms) e))
 
 -- a test that holds of each of a list
 unfoldable pub eachIs : (ℕ → Bool) → List ℕ → Bool

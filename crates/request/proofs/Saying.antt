@@ -12,6 +12,8 @@ use borrow.Author.Tests.{eqb-true, leb-true}
 use Rattle.octets.specs.Octets.{partAt}
 use Rattle.octets.proofs.Bools.{split, both-l, both-r}
 use Rattle.octets.proofs.Parts.{length-part, getD-part}
+use Rattle.decimal.specs.declared.Instrument.{Instrument}
+use Rattle.decimal.specs.declared.Instrument.the-variants.{Bonds, Equities}
 use Rattle.decimal.specs.declared.Said.{Said}
 use Rattle.decimal.specs.declared.Said.the-variants.{Value, Wrong}
 use Rattle.decimal.specs.Reading.{digitRun, number, isNumber, numOf}
@@ -51,13 +53,13 @@ module _ (at n : ℕ) (v : List ℕ) (m : ℕ) where
   text-place : lookAs at (Text n) v ≡ Judged.Says m → m ≡ at
   unfolding lookAs
   text-place e =
-      split (leb 1 (length v) && leb (length v) n) (λ y. let q : Judged.Says at ≡ Judged.Says m = rw y at e in cc)
-      (λ d. let q : Judged.Fails 6 ≡ Judged.Says m = rw d at e in let z : _≡_ {A = ℕ} 0 1 = cc in absurd (no z))
+      split (leb 1 (length v) && leb (length v) n) (λ y. let same : Judged.Says at ≡ Judged.Says m = rw y at e in cc)
+      (λ d. let same : Judged.Fails 6 ≡ Judged.Says m = rw d at e in let z : _≡_ {A = ℕ} 0 1 = cc in absurd (no z))
 
   run-by : (x : Said) → numOf n v ≡ x → lookAs at (Digits n) v ≡ Judged.Says m → Run at n v m
   unfolding lookAs numOf isNumber
   run-by (Value i) ex e =
-      let q : Judged.Says at ≡ Judged.Says m = rw ex at e in
+      let same : Judged.Says at ≡ Judged.Says m = rw ex at e in
       let t = let-through (isNumber n v) (number v) i ex .0 in
       let a = ltb 0 (length v) in
       record {
@@ -65,10 +67,10 @@ module _ (at n : ℕ) (v : List ℕ) (m : ℕ) where
         short = leb-true (length v) n (both-r a (leb (length v) n) (both-l (a && leb (length v) n) (eqb (digitRun v) (length v)) t));
         digits = eqb-true (digitRun v) (length v) (both-r (a && leb (length v) n) (eqb (digitRun v) (length v)) t);
       }
-  run-by Wrong ex e = let q : Judged.Fails 6 ≡ Judged.Says m = rw ex at e in let z : _≡_ {A = ℕ} 0 1 = cc in absurd (no z)
+  run-by Wrong ex e = let same : Judged.Fails 6 ≡ Judged.Says m = rw ex at e in let z : _≡_ {A = ℕ} 0 1 = cc in absurd (no z)
 
 -- ---- a value of the body, by its place in the message
-module _ (s : List ℕ) where
+module _ (q : Instrument) (s : List ℕ) where
   abbrev from : ℕ
   from = bodyPart s .start
 
@@ -84,143 +86,153 @@ module _ (s : List ℕ) where
   unfolding bodyOf
   body-byte i h = getD-part s from (bodyPart s .len) i (omega (arith, body-short))
 
-  module _ (t : ℕ) (w : Told (bodyOf s) from t) (pos : 0 < t) (at : saidIn (bodyOf s) from t ≡ from + w .start) where
+  module _ (t : ℕ) (w : Told q (bodyOf s) from t) (pos : 0 < t) (at : saidIn q (bodyOf s) from t ≡ from + w .start) where
     within : w .start + w .len < length (bodyOf s)
     within = found-inside (bodyOf s) t (w .start) (w .len) pos (w .at)
 
-    told-byte : (k : ℕ) → k < w .len → getD s (saidIn (bodyOf s) from t + k) 0 ≡ getD (bodyOf s) (w .start + k) 0
+    told-byte : (k : ℕ) → k < w .len → getD s (saidIn q (bodyOf s) from t + k) 0 ≡ getD (bodyOf s) (w .start + k) 0
     told-byte k h =
-        let z : saidIn (bodyOf s) from t + k ≡ from + (w .start + k) = omega arith in
+        let z : saidIn q (bodyOf s) from t + k ≡ from + (w .start + k) = omega arith in
         rw z (sym (body-byte (w .start + k) (omega (arith, within))))
 
     told-spelt : (most low high : ℕ) → w .len ≤ most → ((k : ℕ) → k < w .len → (low ≤ getD (bodyOf s) (w .start + k) 0) × (getD (bodyOf s) (w .start + k) 0 ≤ high))
-        → Spelt s (textIn (bodyOf s) from t) 1 most low high
+        → Spelt s (textIn q (bodyOf s) from t) 1 most low high
     told-spelt most low high h all =
         let l = w .length-is in
-        spelt-by s (textIn (bodyOf s) from t) 1 most low high
+        spelt-by s (textIn q (bodyOf s) from t) 1 most low high
         (omega (arith, within, body-inside (omega (arith, within)))) (omega (arith, w .some)) (omega arith)
         (λ k i. rw (told-byte k (omega arith)) (all k (omega arith)))
 
-  pub text-spelt : (t n : ℕ) → 0 < t → shapeOf t ≡ Text n → Told (bodyOf s) from t → Spelt s (textIn (bodyOf s) from t) 1 n 32 126
+  pub text-spelt : (t n : ℕ) → 0 < t → shapeOf q t ≡ Text n → Told q (bodyOf s) from t → Spelt s (textIn q (bodyOf s) from t) 1 n 32 126
   text-spelt t n pos e w =
-      told-spelt t w pos (text-place (from + w .start) n (partAt (bodyOf s) (w .start) (w .len)) (saidIn (bodyOf s) from t) (rw (← e) (w .looks)))
-      n 32 126 (omega (arith, text-in (bodyOf s) from t n pos e w, w .length-is))
+      told-spelt t w pos (text-place (from + w .start) n (partAt (bodyOf s) (w .start) (w .len)) (saidIn q (bodyOf s) from t) (rw (← e) (w .looks)))
+      n 32 126 (omega (arith, text-in q (bodyOf s) from t n pos e w, w .length-is))
       (λ k i. text-low _ (found-text (bodyOf s) t (w .start) (w .len) (w .at) k i))
 
-  pub digits-spelt : (t n : ℕ) → 0 < t → shapeOf t ≡ Digits n → Told (bodyOf s) from t → Spelt s (textIn (bodyOf s) from t) 1 n 48 57
+  pub digits-spelt : (t n : ℕ) → 0 < t → shapeOf q t ≡ Digits n → Told q (bodyOf s) from t → Spelt s (textIn q (bodyOf s) from t) 1 n 48 57
   digits-spelt t n pos e w =
       let v = partAt (bodyOf s) (w .start) (w .len) in
-      let r = run-by (from + w .start) n v (saidIn (bodyOf s) from t) (numOf n v) refl (rw (← e) (w .looks)) in
+      let r = run-by (from + w .start) n v (saidIn q (bodyOf s) from t) (numOf n v) refl (rw (← e) (w .looks)) in
       let h = found-inside (bodyOf s) t (w .start) (w .len) pos (w .at) in
       let l : length v ≡ w .len = length-part (bodyOf s) (w .start) (w .len) (omega arith) in
       told-spelt t w pos (r .place) n 48 57 (omega (arith, r .short))
       (λ k i. rw (← getD-part (bodyOf s) (w .start) (w .len) k i) (digit-at v k (r .digits) (omega arith)))
 
-  -- ---- 11, 41 and 55, and 1, which a message may leave out
-  id-spelt : Told (bodyOf s) from 11 → Spelt s (textIn (bodyOf s) from 11) 1 32 32 126
+  -- ---- 11 and 41, and 1, which a message may leave out
+  id-spelt : Told q (bodyOf s) from 11 → Spelt s (textIn q (bodyOf s) from 11) 1 32 32 126
   unfolding shapeOf oneOf
   id-spelt = text-spelt 11 32 (omega arith) refl
 
-  original-spelt : Told (bodyOf s) from 41 → Spelt s (textIn (bodyOf s) from 41) 1 32 32 126
+  original-spelt : Told q (bodyOf s) from 41 → Spelt s (textIn q (bodyOf s) from 41) 1 32 32 126
   unfolding shapeOf oneOf
   original-spelt = text-spelt 41 32 (omega arith) refl
 
-  code-spelt : Told (bodyOf s) from 55 → Spelt s (textIn (bodyOf s) from 55) 1 9 48 57
-  unfolding shapeOf oneOf
-  code-spelt = digits-spelt 55 9 (omega arith) refl
-
-  account-by : firstFailing NewOrder (bodyOf s) from (fieldsOf (bodyOf s)) ≡ Verdict.Passes → (f : Found) → findTag 1 (fieldsOf (bodyOf s)) ≡ f
-      → Spelt s (textIn (bodyOf s) from 1) 0 10 32 126
+  account-by : firstFailing q NewOrder (bodyOf s) from (fieldsOf (bodyOf s)) ≡ Verdict.Passes → (f : Found) → findTag 1 (fieldsOf (bodyOf s)) ≡ f
+      → Spelt s (textIn q (bodyOf s) from 1) 0 10 32 126
   unfolding shapeOf oneOf saidIn lengthIn
   account-by p (At start len) e =
-      let w = text-spelt 1 10 (omega arith) refl (stands-told NewOrder (bodyOf s) from 1 p (record { start = start; len = len; at = e })) in
+      let w = text-spelt 1 10 (omega arith) refl (stands-told q NewOrder (bodyOf s) from 1 p (record { start = start; len = len; at = e })) in
       record { inside = w .inside; long = w .long; some = omega arith; short = w .short; bytes = w .bytes }
   account-by p Nothing e = rw e (spelt-by s (record { start = 0; len = 0 }) 0 10 32 126 (omega arith) (omega arith) (omega arith) (λ k i. absurd (not-suc-le-zero i)))
 
   -- 52 is a time
-  time-spelt : (k : Kind) (x : Asked) → Passed s k x → Timed s (headOf s .time)
+  time-spelt : (k : Kind) (x : Asked) → Passed q s k x → Timed s (headOf s .time)
   time-spelt k x w = clear-head s (w .clear) .time
 
+-- ---- the code: digits of a bond, any characters of a share
+abbrev pub codeLow : Instrument → ℕ
+codeLow Bonds = 48
+codeLow Equities = 32
+
+abbrev pub codeHigh : Instrument → ℕ
+codeHigh Bonds = 57
+codeHigh Equities = 126
+
+code-spelt : (q : Instrument) (s : List ℕ) → Told q (bodyOf s) (bodyPart s .start) 55 → Spelt s (textIn q (bodyOf s) (bodyPart s .start) 55) 1 9 (codeLow q) (codeHigh q)
+unfolding shapeOf oneOf
+code-spelt Bonds s = digits-spelt Bonds s 55 9 (omega arith) refl
+code-spelt Equities s = text-spelt Equities s 55 9 (omega arith) refl
+
 -- ---- a new order
-pub record NewSpelt (s : List ℕ) (o : NewOrderAsked) : Type 0 where
+pub record NewSpelt (q : Instrument) (s : List ℕ) (o : NewOrderAsked) : Type 0 where
   pub time : Timed s (o .time)
   pub id : Spelt s (o .id) 1 32 32 126
   pub account : Spelt s (o .account) 0 10 32 126
-  pub code : Spelt s (o .code) 1 9 48 57
+  pub code : Spelt s (o .code) 1 9 (codeLow q) (codeHigh q)
 
-new-spelt : (s : List ℕ) (o : NewOrderAsked) → Passed s NewOrder (Enters o) → NewSpelt s o
+new-spelt : (q : Instrument) (s : List ℕ) (o : NewOrderAsked) → Passed q s NewOrder (Enters o) → NewSpelt q s o
 unfolding requestIn oneOf
-new-spelt s o w =
+new-spelt q s o w =
     let b = bodyOf s in
     let from = bodyPart s .start in
-    let told : (t : ℕ) → oneOf t (needed NewOrder) ≡ true → Told b from t = λ t m. needed-told NewOrder b from t (w .passes) (w .complete) m in
-    let q : record { time = headOf s .time; id = textIn b from 11; account = textIn b from 1; code = textIn b from 55; terms = termsIn b from } ≡ o = cc in
-    rw (← q)
+    let told : (t : ℕ) → oneOf t (needed q NewOrder) ≡ true → Told q b from t = λ t m. needed-told q NewOrder b from t (w .passes) (w .complete) m in
+    let same : record { time = headOf s .time; id = textIn q b from 11; account = textIn q b from 1; code = textIn q b from 55; terms = termsIn q b from } ≡ o = cc in
+    rw (← same)
     (record {
-      time = time-spelt s NewOrder (Enters o) w;
-      id = id-spelt s (told 11 refl);
-      account = account-by s (w .passes) (findTag 1 (fieldsOf b)) refl;
-      code = code-spelt s (told 55 refl);
+      time = time-spelt q s NewOrder (Enters o) w;
+      id = id-spelt q s (told 11 refl);
+      account = account-by q s (w .passes) (findTag 1 (fieldsOf b)) refl;
+      code = code-spelt q s (told 55 refl);
     })
 
 -- the texts of every new order that a message asks for
-pub enters-spelt : (venue port s : List ℕ) (o : NewOrderAsked) → askedOf venue port s ≡ Enters o → NewSpelt s o
-enters-spelt venue port s o e =
-    let w = request-passed venue port s (Enters o) refl e in
-    new-spelt s o (subst (λ k. Passed s k (Enters o)) (enters-kind _ _ _ _ o (w .asks)) w)
+pub enters-spelt : (q : Instrument) (venue port s : List ℕ) (o : NewOrderAsked) → askedOf q venue port s ≡ Enters o → NewSpelt q s o
+enters-spelt q venue port s o e =
+    let w = request-passed q venue port s (Enters o) refl e in
+    new-spelt q s o (subst (λ k. Passed q s k (Enters o)) (enters-kind q _ _ _ _ o (w .asks)) w)
 
 -- ---- a replacement
-pub record ReplacementSpelt (s : List ℕ) (o : ReplacementAsked) : Type 0 where
+pub record ReplacementSpelt (q : Instrument) (s : List ℕ) (o : ReplacementAsked) : Type 0 where
   pub time : Timed s (o .time)
   pub id : Spelt s (o .id) 1 32 32 126
   pub original : Spelt s (o .original) 1 32 32 126
-  pub code : Spelt s (o .code) 1 9 48 57
+  pub code : Spelt s (o .code) 1 9 (codeLow q) (codeHigh q)
 
-replacement-spelt : (s : List ℕ) (o : ReplacementAsked) → Passed s Replacement (Replaces o) → ReplacementSpelt s o
+replacement-spelt : (q : Instrument) (s : List ℕ) (o : ReplacementAsked) → Passed q s Replacement (Replaces o) → ReplacementSpelt q s o
 unfolding requestIn oneOf
-replacement-spelt s o w =
+replacement-spelt q s o w =
     let b = bodyOf s in
     let from = bodyPart s .start in
-    let told : (t : ℕ) → oneOf t (needed Replacement) ≡ true → Told b from t = λ t m. needed-told Replacement b from t (w .passes) (w .complete) m in
-    let q : record { time = headOf s .time; id = textIn b from 11; original = textIn b from 41; code = textIn b from 55; quantity = saidIn b from 38; level = saidIn b from 44; side = saidIn b from 54 } ≡ o = cc in
-    rw (← q)
+    let told : (t : ℕ) → oneOf t (needed q Replacement) ≡ true → Told q b from t = λ t m. needed-told q Replacement b from t (w .passes) (w .complete) m in
+    let same : record { time = headOf s .time; id = textIn q b from 11; original = textIn q b from 41; code = textIn q b from 55; quantity = saidIn q b from 38; level = saidIn q b from 44; side = saidIn q b from 54 } ≡ o = cc in
+    rw (← same)
     (record {
-      time = time-spelt s Replacement (Replaces o) w;
-      id = id-spelt s (told 11 refl);
-      original = original-spelt s (told 41 refl);
-      code = code-spelt s (told 55 refl);
+      time = time-spelt q s Replacement (Replaces o) w;
+      id = id-spelt q s (told 11 refl);
+      original = original-spelt q s (told 41 refl);
+      code = code-spelt q s (told 55 refl);
     })
 
 -- the texts of every replacement that a message asks for
-pub replaces-spelt : (venue port s : List ℕ) (o : ReplacementAsked) → askedOf venue port s ≡ Replaces o → ReplacementSpelt s o
-replaces-spelt venue port s o e =
-    let w = request-passed venue port s (Replaces o) refl e in
-    replacement-spelt s o (subst (λ k. Passed s k (Replaces o)) (replaces-kind _ _ _ _ o (w .asks)) w)
+pub replaces-spelt : (q : Instrument) (venue port s : List ℕ) (o : ReplacementAsked) → askedOf q venue port s ≡ Replaces o → ReplacementSpelt q s o
+replaces-spelt q venue port s o e =
+    let w = request-passed q venue port s (Replaces o) refl e in
+    replacement-spelt q s o (subst (λ k. Passed q s k (Replaces o)) (replaces-kind q _ _ _ _ o (w .asks)) w)
 
 -- ---- a cancel
-pub record CancelSpelt (s : List ℕ) (o : Cancellation) : Type 0 where
+pub record CancelSpelt (q : Instrument) (s : List ℕ) (o : Cancellation) : Type 0 where
   pub time : Timed s (o .time)
   pub id : Spelt s (o .id) 1 32 32 126
   pub original : Spelt s (o .original) 1 32 32 126
-  pub code : Spelt s (o .code) 1 9 48 57
+  pub code : Spelt s (o .code) 1 9 (codeLow q) (codeHigh q)
 
-cancel-spelt : (s : List ℕ) (o : Cancellation) → Passed s Cancel (Cancels o) → CancelSpelt s o
+cancel-spelt : (q : Instrument) (s : List ℕ) (o : Cancellation) → Passed q s Cancel (Cancels o) → CancelSpelt q s o
 unfolding requestIn oneOf
-cancel-spelt s o w =
+cancel-spelt q s o w =
     let b = bodyOf s in
     let from = bodyPart s .start in
-    let told : (t : ℕ) → oneOf t (needed Cancel) ≡ true → Told b from t = λ t m. needed-told Cancel b from t (w .passes) (w .complete) m in
-    let q : record { time = headOf s .time; id = textIn b from 11; original = textIn b from 41; code = textIn b from 55; side = saidIn b from 54 } ≡ o = cc in
-    rw (← q)
+    let told : (t : ℕ) → oneOf t (needed q Cancel) ≡ true → Told q b from t = λ t m. needed-told q Cancel b from t (w .passes) (w .complete) m in
+    let same : record { time = headOf s .time; id = textIn q b from 11; original = textIn q b from 41; code = textIn q b from 55; side = saidIn q b from 54 } ≡ o = cc in
+    rw (← same)
     (record {
-      time = time-spelt s Cancel (Cancels o) w;
-      id = id-spelt s (told 11 refl);
-      original = original-spelt s (told 41 refl);
-      code = code-spelt s (told 55 refl);
+      time = time-spelt q s Cancel (Cancels o) w;
+      id = id-spelt q s (told 11 refl);
+      original = original-spelt q s (told 41 refl);
+      code = code-spelt q s (told 55 refl);
     })
 
 -- the texts of every cancel that a message asks for
-pub cancels-spelt : (venue port s : List ℕ) (o : Cancellation) → askedOf venue port s ≡ Cancels o → CancelSpelt s o
-cancels-spelt venue port s o e =
-    let w = request-passed venue port s (Cancels o) refl e in
-    cancel-spelt s o (subst (λ k. Passed s k (Cancels o)) (cancels-kind _ _ _ _ o (w .asks)) w)
+pub cancels-spelt : (q : Instrument) (venue port s : List ℕ) (o : Cancellation) → askedOf q venue port s ≡ Cancels o → CancelSpelt q s o
+cancels-spelt q venue port s o e =
+    let w = request-passed q venue port s (Cancels o) refl e in
+    cancel-spelt q s o (subst (λ k. Passed q s k (Cancels o)) (cancels-kind q _ _ _ _ o (w .asks)) w)

@@ -1,11 +1,13 @@
 -- What a message asks of the market that has this venue id and this port id: it is garbled, or it gets a session Reject, or it
--- asks for a new order, a replacement or a cancel. From "Reading a message" of document 01 and T-05 of document 02. A text is
--- given by where it stands in the message, a number as a number. Assumes nothing: every list of bytes has one answer.
+-- asks for a new order, a replacement or a cancel. From "Reading a message" of document 01 and T-05 and T-08 of document 02; what the
+-- market trades is q. A text is given by where it stands in the message, a number as a number. Assumes nothing: every list of bytes
+-- has one answer.
 use Prim.Native.Nat.{ℕ, _+_}
 use mathlib.Core.List.{List, [], _∷_}
 use mathlib.Core.Bool.{Bool, true, false, cond, not}
 use lib.Dec.{eqb}
 use Rattle.octets.specs.Octets.{partAt, sameBytes}
+use Rattle.decimal.specs.declared.Instrument.{Instrument}
 use Rattle.fix.specs.declared.fields.Found.{Found}
 use Rattle.fix.specs.declared.fields.Found.the-variants.{At, Nothing}
 use Rattle.fix.specs.declared.frame.Part.{Part}
@@ -34,16 +36,16 @@ abbrev pub numberSaid : Judged → ℕ
 numberSaid (Says n) = n
 numberSaid (Fails r) = 0
 
-abbrev pub saidFound : List ℕ → ℕ → ℕ → Found → ℕ
-saidFound b from t (At start len) = numberSaid (lookAs (from + start) (shapeOf t) (partAt b start len))
-saidFound b from t Nothing = 0
+abbrev pub saidFound : Instrument → List ℕ → ℕ → ℕ → Found → ℕ
+saidFound q b from t (At start len) = numberSaid (lookAs (from + start) (shapeOf q t) (partAt b start len))
+saidFound q b from t Nothing = 0
 
 abbrev pub lengthFound : Found → ℕ
 lengthFound (At start len) = len
 lengthFound Nothing = 0
 
-unfoldable pub saidIn : List ℕ → ℕ → ℕ → ℕ
-saidIn b from t = saidFound b from t (findTag t (fieldsOf b))
+unfoldable pub saidIn : Instrument → List ℕ → ℕ → ℕ → ℕ
+saidIn q b from t = saidFound q b from t (findTag t (fieldsOf b))
 
 unfoldable pub lengthIn : List ℕ → ℕ → ℕ
 lengthIn b t = lengthFound (findTag t (fieldsOf b))
@@ -53,8 +55,8 @@ unfoldable pub hasIn : List ℕ → ℕ → Bool
 hasIn b t = hasTag t (fieldsOf b)
 
 -- where a text stands
-abbrev pub textIn : List ℕ → ℕ → ℕ → Part
-textIn b from t = record { start = saidIn b from t; len = lengthIn b t }
+abbrev pub textIn : Instrument → List ℕ → ℕ → ℕ → Part
+textIn q b from t = record { start = saidIn q b from t; len = lengthIn b t }
 
 -- ---- a session Reject
 
@@ -65,50 +67,52 @@ refusalOf h reason tag =
 
 -- ---- requests
 
-unfoldable pub termsIn : List ℕ → ℕ → Terms
-termsIn b from =
+unfoldable pub termsIn : Instrument → List ℕ → ℕ → Terms
+termsIn q b from =
     record {
-      quantity = saidIn b from 38;
-      level = saidIn b from 44;
-      side = saidIn b from 54;
-      tif = saidIn b from 59;
-      capacity = saidIn b from 47;
-      class = saidIn b from 8060;
-      mpid = saidIn b from 109;
-      minqty = saidIn b from 110;
+      quantity = saidIn q b from 38;
+      level = saidIn q b from 44;
+      side = saidIn q b from 54;
+      tif = saidIn q b from 59;
+      capacity = saidIn q b from 47;
+      class = saidIn q b from 8060;
+      mpid = saidIn q b from 109;
+      minqty = saidIn q b from 110;
+      cash = saidIn q b from 544;
+      margin = saidIn q b from 8214;
     }
 
 -- what a complete message of the type asks
-unfoldable pub requestIn : Kind → Head → List ℕ → ℕ → Asked
-requestIn NewOrder h b from =
-    Enters (record { time = h .time; id = textIn b from 11; account = textIn b from 1; code = textIn b from 55; terms = termsIn b from })
-requestIn Replacement h b from =
-    Replaces (record { time = h .time; id = textIn b from 11; original = textIn b from 41; code = textIn b from 55; quantity = saidIn b from 38; level = saidIn b from 44; side = saidIn b from 54 })
-requestIn Cancel h b from =
-    Cancels (record { time = h .time; id = textIn b from 11; original = textIn b from 41; code = textIn b from 55; side = saidIn b from 54 })
-requestIn Unknown h b from = refusalOf h 11 35
+unfoldable pub requestIn : Instrument → Kind → Head → List ℕ → ℕ → Asked
+requestIn q NewOrder h b from =
+    Enters (record { time = h .time; id = textIn q b from 11; account = textIn q b from 1; code = textIn q b from 55; terms = termsIn q b from })
+requestIn q Replacement h b from =
+    Replaces (record { time = h .time; id = textIn q b from 11; original = textIn q b from 41; code = textIn q b from 55; quantity = saidIn q b from 38; level = saidIn q b from 44; side = saidIn q b from 54 })
+requestIn q Cancel h b from =
+    Cancels (record { time = h .time; id = textIn q b from 11; original = textIn q b from 41; code = textIn q b from 55; side = saidIn q b from 54 })
+requestIn q Unknown h b from = refusalOf h 11 35
 
 -- ---- from the left
 
 -- the fields agree: the smallest needed tag that is missing, or the request
-unfoldable pub completed : Kind → Head → List ℕ → ℕ → Asked
-completed k h b from =
-    let t = firstMissing (needed k) (fieldsOf b) in
-    cond (eqb t 0) (requestIn k h b from) (refusalOf h 1 t)
+unfoldable pub completed : Instrument → Kind → Head → List ℕ → ℕ → Asked
+completed q k h b from =
+    let t = firstMissing (needed q k) (fieldsOf b) in
+    cond (eqb t 0) (requestIn q k h b from) (refusalOf h 1 t)
 
 -- each field by itself passed: the first that clashes with others, or what follows
-unfoldable pub agreed : Kind → Head → List ℕ → ℕ → Asked
-agreed k h b from =
-    let t = firstClashing (hasIn b) (saidIn b from) in
-    cond (eqb t 0) (completed k h b from) (refusalOf h 5 t)
+unfoldable pub agreed : Instrument → Kind → Head → List ℕ → ℕ → Asked
+agreed q k h b from =
+    let t = firstClashing q (hasIn b) (saidIn q b from) in
+    cond (eqb t 0) (completed q k h b from) (refusalOf h 5 t)
 
-abbrev pub afterBody : Kind → Head → List ℕ → ℕ → Verdict → Asked
-afterBody k h b from (Verdict.Fails r t) = refusalOf h r t
-afterBody k h b from Verdict.Passes = agreed k h b from
+abbrev pub afterBody : Instrument → Kind → Head → List ℕ → ℕ → Verdict → Asked
+afterBody q k h b from (Verdict.Fails r t) = refusalOf h r t
+afterBody q k h b from Verdict.Passes = agreed q k h b from
 
 -- the type is known, and the ids are right: the body decides
-unfoldable pub bodyAsked : Kind → Head → List ℕ → ℕ → Asked
-bodyAsked k h b from = afterBody k h b from (firstFailing k b from (fieldsOf b))
+unfoldable pub bodyAsked : Instrument → Kind → Head → List ℕ → ℕ → Asked
+bodyAsked q k h b from = afterBody q k h b from (firstFailing q k b from (fieldsOf b))
 
 -- 35 is not known: 11. 49 is not the port, or else 56 not the venue: 9. Then the body.
 abbrev pub isKnown : Kind → Bool
@@ -117,16 +121,16 @@ isKnown Replacement = true
 isKnown Cancel = true
 isKnown Unknown = false
 
-unfoldable pub headAsked : List ℕ → List ℕ → List ℕ → Asked
-headAsked venue port s =
+unfoldable pub headAsked : Instrument → List ℕ → List ℕ → List ℕ → Asked
+headAsked q venue port s =
     cond (not (isKnown (kindOf (valueOf s 35)))) (refusalOf (headOf s) 11 35)
     (cond (not (sameBytes (valueOf s 49) port)) (refusalOf (headOf s) 9 49)
     (cond (not (sameBytes (valueOf s 56) venue)) (refusalOf (headOf s) 9 56)
-    (bodyAsked (kindOf (valueOf s 35)) (headOf s) (bodyOf s) (bodyPart s .start))))
+    (bodyAsked q (kindOf (valueOf s 35)) (headOf s) (bodyOf s) (bodyPart s .start))))
 
 -- what a message asks
-unfoldable pub askedOf : List ℕ → List ℕ → List ℕ → Asked
-askedOf venue port s = cond (garbledMessage s) Garbled (headAsked venue port s)
+unfoldable pub askedOf : Instrument → List ℕ → List ℕ → List ℕ → Asked
+askedOf q venue port s = cond (garbledMessage s) Garbled (headAsked q venue port s)
 
 -- the number of a refusal that an answer is: 5 garbled, 6 a session Reject, 0 none so far
 abbrev pub refusalNumber : Asked → ℕ

@@ -2,10 +2,12 @@
 use Prim.Native.Nat.{ℕ, _+_, _-_, _%_, _^_, _<_}
 use mathlib.Core.Path.{_≡_}
 use mathlib.Core.List.{List, [], _∷_}
-use mathlib.Core.Bool.{Bool, true, false, cond, not}
+use mathlib.Core.Bool.{Bool, true, false, cond, not, _||_}
 use lib.ListN.{length, getD, set, replicate}
 use lib.Dec.{eqb}
 use Rattle.octets.specs.Octets.{partAt}
+use Rattle.decimal.specs.declared.Instrument.{Instrument}
+use Rattle.decimal.specs.declared.Instrument.the-variants.{Bonds, Equities}
 use Rattle.fix.specs.Fields.{Fld, fieldsOf, findTag}
 use Rattle.fix.specs.Garbled.{headOf, bodyPart}
 use Rattle.fix.specs.Steps.{Held}
@@ -17,10 +19,10 @@ use Rattle.request.specs.declared.Terms.{Terms}
 use Rattle.request.specs.declared.Asked.{Asked}
 use Rattle.request.specs.declared.Asked.the-variants.{Enters, Replaces, Cancels}
 use Rattle.request.specs.declared.Verdict.{Verdict}
-use Rattle.request.specs.Session.{needed, listed, firstFailing, firstClashing}
+use Rattle.request.specs.Session.{needed, belongs, listed, firstFailing, firstClashing}
 use Rattle.request.specs.Asks.{saidIn, lengthIn, refusalOf}
 
--- the length of a row: the listed tags have different remainders by it
+-- the length of a row: the tags that are listed in some market have different remainders by it
 abbrev pub slots : ℕ
 slots = 45
 
@@ -45,14 +47,27 @@ keptSays says lens t n = cond (eqb (rowAt lens t) 0) (set says (slot t) n) says
 unfoldable pub keptLens : List ℕ → ℕ → ℕ → List ℕ
 keptLens lens t len = cond (eqb (rowAt lens t) 0) (set lens (slot t) len) lens
 
--- the two rows hold, for each listed tag, what its value says and how long it is
-abbrev pub Gathered : List ℕ → ℕ → List ℕ → List ℕ → Type 0
-Gathered b from says lens = (t : ℕ) → listed t ≡ true → (rowAt says t ≡ saidIn b from t) × (rowAt lens t ≡ lengthIn b t)
+-- the market trades equities
+abbrev pub isEquities : Instrument → Bool
+isEquities Bonds = false
+isEquities Equities = true
+
+-- r tells whether a message of the type may have the tag, whatever the market trades
+pub record InEach (k : Kind) (t : ℕ) (r : Bool) : Type 0 where
+  pub told : (q : Instrument) → r ≡ belongs q k t
+
+-- a tag that is listed in some market
+unfoldable pub known : ℕ → Bool
+known t = listed Bonds t || listed Equities t
+
+-- the two rows hold, for each such tag, what its value says and how long it is
+abbrev pub Gathered : Instrument → List ℕ → ℕ → List ℕ → List ℕ → Type 0
+Gathered q b from says lens = (t : ℕ) → known t ≡ true → (rowAt says t ≡ saidIn q b from t) × (rowAt lens t ≡ lengthIn b t)
 
 -- the verdict on a body, with the rows that it leaves where it passes
-pub record Walked (k : Kind) (b : List ℕ) (from : ℕ) (r : Verdict) (says lens : List ℕ) : Type 0 where
-  pub verdict : r ≡ firstFailing k b from (fieldsOf b)
-  pub rows : r ≡ Verdict.Passes → Gathered b from says lens
+pub record Walked (q : Instrument) (k : Kind) (b : List ℕ) (from : ℕ) (r : Verdict) (says lens : List ℕ) : Type 0 where
+  pub verdict : r ≡ firstFailing q k b from (fieldsOf b)
+  pub rows : r ≡ Verdict.Passes → Gathered q b from says lens
 
 -- the head is that of the message, and the row holds the fields of its body
 pub record Admitted (s : List ℕ) (h : Head) (row : List ℕ) : Type 0 where
@@ -84,6 +99,8 @@ termsRow says =
       class = rowAt says 8060;
       mpid = rowAt says 109;
       minqty = rowAt says 110;
+      cash = rowAt says 544;
+      margin = rowAt says 8214;
     }
 
 unfoldable pub requestRow : Kind → Head → List ℕ → List ℕ → Asked
@@ -95,12 +112,12 @@ requestRow Cancel h says lens =
     Cancels (record { time = h .time; id = textRow says lens 11; original = textRow says lens 41; code = textRow says lens 55; side = rowAt says 54 })
 requestRow Unknown h says lens = refusalOf h 11 35
 
-unfoldable pub completedRow : Kind → Head → List ℕ → List ℕ → Asked
-completedRow k h says lens =
-    let t = firstUnset (needed k) lens in
+unfoldable pub completedRow : Instrument → Kind → Head → List ℕ → List ℕ → Asked
+completedRow q k h says lens =
+    let t = firstUnset (needed q k) lens in
     cond (eqb t 0) (requestRow k h says lens) (refusalOf h 1 t)
 
-unfoldable pub agreedRow : Kind → Head → List ℕ → List ℕ → Asked
-agreedRow k h says lens =
-    let t = firstClashing (hasRow lens) (rowAt says) in
-    cond (eqb t 0) (completedRow k h says lens) (refusalOf h 5 t)
+unfoldable pub agreedRow : Instrument → Kind → Head → List ℕ → List ℕ → Asked
+agreedRow q k h says lens =
+    let t = firstClashing q (hasRow lens) (rowAt says) in
+    cond (eqb t 0) (completedRow q k h says lens) (refusalOf h 5 t)

@@ -12,6 +12,7 @@ use crate::body::clashing;
 use crate::body::gather;
 use crate::body::in_row;
 use crate::body::missing;
+use decimal::Instrument;
 use fix::frame::Frame;
 use fix::frame::Head;
 use fix::frame::Part;
@@ -94,6 +95,8 @@ fn terms_at(says: &[u64; SLOTS]) -> Terms
         class: in_row(says, 8060),
         mpid: in_row(says, 109),
         minqty: in_row(says, 110),
+        cash: in_row(says, 544),
+        margin: in_row(says, 8214),
     }
 }
 
@@ -133,10 +136,10 @@ fn request(kind: Kind, h: Head, says: &[u64; SLOTS], lens: &[u64; SLOTS]) -> Ask
 }
 
 // The fields agree: a needed tag is missing, or this is the request.
-fn completes(kind: Kind, h: Head, says: &[u64; SLOTS], lens: &[u64; SLOTS]) -> Asked
-    ensures { λ r. ⌜ r ≡ completedRow kind h (now (says .entry)) (now (lens .entry)) ⌝ }
+fn completes(q: Instrument, kind: Kind, h: Head, says: &[u64; SLOTS], lens: &[u64; SLOTS]) -> Asked
+    ensures { λ r. ⌜ r ≡ completedRow q kind h (now (says .entry)) (now (lens .entry)) ⌝ }
 {
-    let t = missing(kind, lens);
+    let t = missing(q, kind, lens);
     if t != 0 {
         return refuses(h, 1, t);
     }
@@ -144,35 +147,35 @@ fn completes(kind: Kind, h: Head, says: &[u64; SLOTS], lens: &[u64; SLOTS]) -> A
 }
 
 // Each field by itself passed: one clashes with others, or what follows decides.
-fn agrees(kind: Kind, h: Head, says: &[u64; SLOTS], lens: &[u64; SLOTS]) -> Asked
-    ensures { λ r. ⌜ r ≡ agreedRow kind h (now (says .entry)) (now (lens .entry)) ⌝ }
+fn agrees(q: Instrument, kind: Kind, h: Head, says: &[u64; SLOTS], lens: &[u64; SLOTS]) -> Asked
+    ensures { λ r. ⌜ r ≡ agreedRow q kind h (now (says .entry)) (now (lens .entry)) ⌝ }
 {
-    let t = clashing(says, lens);
+    let t = clashing(q, says, lens);
     if t != 0 {
         return refuses(h, 5, t);
     }
-    completes(kind, h, says, lens)
+    completes(q, kind, h, says, lens)
 }
 
 // The body, a part from the middle of the message, is handed on to the reader of fields and decides.
-fn decides(s: &[u8], kind: Kind, h: Head, row: &[u16; 1023]) -> Asked
+fn decides(q: Instrument, s: &[u8], kind: Kind, h: Head, row: &[u16; 1023]) -> Asked
     requires { ⌜ Held (now row) (h .body .start) 7 (fieldsOf (partAt (now s) (h .body .start) (h .body .len))) ⌝ }
-    ensures { λ r. ⌜ r ≡ bodyAsked kind h (partAt (now (s .entry)) (h .body .start) (h .body .len)) (h .body .start) ⌝ }
+    ensures { λ r. ⌜ r ≡ bodyAsked q kind h (partAt (now (s .entry)) (h .body .start) (h .body .len)) (h .body .start) ⌝ }
 {
     let mut says: [u64; SLOTS] = [0; SLOTS];
     let mut lens: [u64; SLOTS] = [0; SLOTS];
     let from = h.body.start;
     let body = part_at(s, from, h.body.len);
-    match gather(kind, body, from, row, &mut says, &mut lens) {
+    match gather(q, kind, body, from, row, &mut says, &mut lens) {
         Verdict::Fails { reason, tag } => refuses(h, reason, tag),
-        Verdict::Passes => agrees(kind, h, &says, &lens),
+        Verdict::Passes => agrees(q, kind, h, &says, &lens),
     }
 }
 
 // What a message that is not garbled asks: the type, the ids, then the body.
-fn admits(venue: &[u8], port: &[u8], s: &[u8], h: Head, row: &[u16; 1023]) -> Asked
+fn admits(q: Instrument, venue: &[u8], port: &[u8], s: &[u8], h: Head, row: &[u16; 1023]) -> Asked
     requires { ⌜ Admitted (now s) h (now row) ⌝ }
-    ensures { λ r. ⌜ r ≡ headAsked (now (venue .entry)) (now (port .entry)) (now (s .entry)) ⌝ }
+    ensures { λ r. ⌜ r ≡ headAsked q (now (venue .entry)) (now (port .entry)) (now (s .entry)) ⌝ }
 {
     let kind = kind_of(part_at(s, h.kind.start, h.kind.len));
     if !is_known(kind) {
@@ -184,16 +187,16 @@ fn admits(venue: &[u8], port: &[u8], s: &[u8], h: Head, row: &[u16; 1023]) -> As
     if !same(part_at(s, h.target.start, h.target.len), venue) {
         return refuses(h, 9, 56);
     }
-    decides(s, kind, h, row)
+    decides(q, s, kind, h, row)
 }
 
-// What a message asks of the market with this venue id and this port id.
-pub fn asked(venue: &[u8], port: &[u8], s: &[u8]) -> Asked
-    ensures { λ r. ⌜ r ≡ askedOf (now (venue .entry)) (now (port .entry)) (now (s .entry)) ⌝ }
+// What a message asks of the market that trades q and has this venue id and this port id.
+pub fn asked(q: Instrument, venue: &[u8], port: &[u8], s: &[u8]) -> Asked
+    ensures { λ r. ⌜ r ≡ askedOf q (now (venue .entry)) (now (port .entry)) (now (s .entry)) ⌝ }
 {
     let mut row: [u16; 1023] = [0; 1023];
     match framed_in(s, &mut row) {
         Frame::Garbled => Asked::Garbled,
-        Frame::Good(h) => admits(venue, port, s, h, &row),
+        Frame::Good(h) => admits(q, venue, port, s, h, &row),
     }
 }

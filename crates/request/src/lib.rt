@@ -34,8 +34,8 @@ pub struct Refusal {
     pub time: Part,
 }
 
-// The numbers of a new order: 38, 44 as a level, 54 (1 buys, 2 sells), 59 (0 Day, 3 IOC, 4 Fill or Kill), 47 (a character),
-// 8060, and 109 and 110, each 0 where it has none.
+// The numbers of a new order: 38, 44 as a level, 54 (1 buys, any other sells), 59 (0 Day, 3 IOC, 4 Fill or Kill), 47 (a
+// character), 8060, and 109, 110, 544 and 8214, each 0 where it has none.
 pub struct Terms {
     pub quantity: u64,
     pub level: u64,
@@ -45,6 +45,8 @@ pub struct Terms {
     pub class: u64,
     pub mpid: u64,
     pub minqty: u64,
+    pub cash: u64,
+    pub margin: u64,
 }
 
 // A new order: where 52, 11, 1 (of length 0 where it has none) and 55 stand, and its numbers.

@@ -1,6 +1,7 @@
 // What the value of a tag says, and whether it may.
 use crate::Judged;
 use crate::Kind;
+use decimal::Instrument;
 use decimal::Said;
 use decimal::read::is_digit;
 use decimal::read::read_level;
@@ -11,7 +12,8 @@ ghost use mathlib.Core.Path.{_≡_};
 ghost use Prim.Native.Nat.{ℕ, _+_, _-_, _≤_, _<_};
 ghost use lib.ListN.{length, getD};
 ghost use Rattle.request.specs.declared.Kind.{Kind};
-ghost use Rattle.request.specs.Session.{belongs, listed, charSays, Shape, Text, Digits, Amount, Yield, Time, Among, shapeOf, lookAs, oneOf};
+ghost use Rattle.request.specs.Gathers.{isEquities, InEach};
+ghost use Rattle.request.specs.Session.{belongs, listed, charSays, Shape, Text, Digits, Amount, Quote, Time, Among, codeShape, sideShape, cashShape, marginShape, shapeOf, lookAs, oneOf};
 
 // A text of 1 to `most` characters, which stands at place `at`.
 fn text(at: u64, v: &[u8], most: usize) -> Judged
@@ -52,11 +54,11 @@ fn amount(at: u64, v: &[u8], most: usize) -> Judged
     }
 }
 
-// A yield as a level.
-fn level(at: u64, v: &[u8]) -> Judged
-    ensures { λ r. ⌜ r ≡ lookAs at Yield (now (v .entry)) ⌝ }
+// A yield or a price as a level.
+fn level(q: Instrument, at: u64, v: &[u8]) -> Judged
+    ensures { λ r. ⌜ r ≡ lookAs at (Quote q) (now (v .entry)) ⌝ }
 {
-    match read_level(v) {
+    match read_level(q, v) {
         Said::Value(n) => Judged::Says(n),
         Said::Wrong => Judged::Fails(6),
     }
@@ -113,44 +115,97 @@ fn among(at: u64, v: &[u8], cs: &[u8]) -> Judged
     Judged::Says(char_says(v[0]))
 }
 
+// The code of a bond or a share, which stands at place `at`.
+fn code(q: Instrument, at: u64, v: &[u8]) -> Judged
+    ensures { λ r. ⌜ r ≡ lookAs at (codeShape q) (now (v .entry)) ⌝ }
+{
+    match q {
+        Instrument::Bonds => digits(at, v, 9),
+        Instrument::Equities => text(at, v, 9),
+    }
+}
+
+// One character that says the side.
+fn side(q: Instrument, at: u64, v: &[u8]) -> Judged
+    ensures { λ r. ⌜ r ≡ lookAs at (sideShape q) (now (v .entry)) ⌝ }
+{
+    match q {
+        Instrument::Bonds => among(at, v, b"12"),
+        Instrument::Equities => among(at, v, b"1256"),
+    }
+}
+
+// CashMargin, of equities.
+fn cash(q: Instrument, at: u64, v: &[u8]) -> Judged
+    ensures { λ r. ⌜ r ≡ lookAs at (cashShape q) (now (v .entry)) ⌝ }
+{
+    match q {
+        Instrument::Bonds => Judged::Fails(3),
+        Instrument::Equities => among(at, v, b"123"),
+    }
+}
+
+// MarginTransactionType, of equities.
+fn margin(q: Instrument, at: u64, v: &[u8]) -> Judged
+    ensures { λ r. ⌜ r ≡ lookAs at (marginShape q) (now (v .entry)) ⌝ }
+{
+    match q {
+        Instrument::Bonds => Judged::Fails(3),
+        Instrument::Equities => among(at, v, b"12"),
+    }
+}
+
 // What the value of a tag says, where it stands at place `at`.
-pub fn look(at: u64, tag: u64, v: &[u8]) -> Judged
-    ensures { λ r. ⌜ r ≡ lookAs at (shapeOf tag) (now (v .entry)) ⌝ }
+pub fn look(q: Instrument, at: u64, tag: u64, v: &[u8]) -> Judged
+    ensures { λ r. ⌜ r ≡ lookAs at (shapeOf q tag) (now (v .entry)) ⌝ }
 {
     match tag {
         1 => text(at, v, 10),
         11 => text(at, v, 32),
         41 => text(at, v, 32),
-        55 => digits(at, v, 9),
+        55 => code(q, at, v),
         38 => amount(at, v, 9),
         110 => amount(at, v, 9),
         109 => amount(at, v, 6),
-        44 => level(at, v),
+        44 => level(q, at, v),
         60 => time(at, v),
         21 => among(at, v, b"1"),
         40 => among(at, v, b"2"),
         47 => among(at, v, b"AP"),
-        54 => among(at, v, b"12"),
+        54 => side(q, at, v),
         59 => among(at, v, b"034"),
         8060 => among(at, v, b"13456"),
+        544 => cash(q, at, v),
+        8214 => margin(q, at, v),
         _ => Judged::Fails(3),
     }
 }
 
+// Whether the market trades equities.
+pub fn is_equities(q: Instrument) -> bool
+    ensures { λ r. ⌜ r ≡ isEquities q ⌝ }
+{
+    match q {
+        Instrument::Bonds => false,
+        Instrument::Equities => true,
+    }
+}
+
 // Whether a new order may have the tag.
-fn in_new_order(tag: u64) -> bool
-    ensures { λ r. ⌜ r ≡ belongs Kind.NewOrder tag ⌝ }
+fn in_new_order(q: Instrument, tag: u64) -> bool
+    ensures { λ r. ⌜ r ≡ belongs q Kind.NewOrder tag ⌝ }
 {
     match tag {
         1 | 11 | 21 | 38 | 40 | 44 | 47 | 54 | 59 | 109 | 8060 => true,
         55 | 60 | 110 => true,
+        544 | 8214 => is_equities(q),
         _ => false,
     }
 }
 
-// Whether a replacement may have the tag.
+// Whether a replacement may have the tag, whatever the market trades.
 fn in_replacement(tag: u64) -> bool
-    ensures { λ r. ⌜ r ≡ belongs Kind.Replacement tag ⌝ }
+    ensures { λ r. ⌜ InEach Kind.Replacement tag r ⌝ }
 {
     match tag {
         11 | 21 | 38 | 40 | 44 | 54 | 60 => true,
@@ -159,9 +214,9 @@ fn in_replacement(tag: u64) -> bool
     }
 }
 
-// Whether a cancel may have the tag.
+// Whether a cancel may have the tag, whatever the market trades.
 fn in_cancel(tag: u64) -> bool
-    ensures { λ r. ⌜ r ≡ belongs Kind.Cancel tag ⌝ }
+    ensures { λ r. ⌜ InEach Kind.Cancel tag r ⌝ }
 {
     match tag {
         11 | 38 | 41 | 54 | 60 => true,
@@ -171,11 +226,11 @@ fn in_cancel(tag: u64) -> bool
 }
 
 // Whether a message of the type may have the tag.
-pub fn in_kind(kind: Kind, tag: u64) -> bool
-    ensures { λ r. ⌜ r ≡ belongs kind tag ⌝ }
+pub fn in_kind(q: Instrument, kind: Kind, tag: u64) -> bool
+    ensures { λ r. ⌜ r ≡ belongs q kind tag ⌝ }
 {
     match kind {
-        Kind::NewOrder => in_new_order(tag),
+        Kind::NewOrder => in_new_order(q, tag),
         Kind::Replacement => in_replacement(tag),
         Kind::Cancel => in_cancel(tag),
         Kind::Unknown => false,
@@ -183,8 +238,8 @@ pub fn in_kind(kind: Kind, tag: u64) -> bool
 }
 
 // Whether a message of some type may have the tag.
-pub fn in_some(tag: u64) -> bool
-    ensures { λ r. ⌜ r ≡ listed tag ⌝ }
+pub fn in_some(q: Instrument, tag: u64) -> bool
+    ensures { λ r. ⌜ r ≡ listed q tag ⌝ }
 {
-    in_new_order(tag) | in_replacement(tag) | in_cancel(tag)
+    in_new_order(q, tag) | in_replacement(tag) | in_cancel(tag)
 }

@@ -9,13 +9,17 @@ use lib.Dec.{lit≤, lit<, eqb}
 use lib.ListN.{length, replicate, length-append, length-take, take, drop}
 use Rattle.octets.specs.Octets.{partAt}
 use Rattle.octets.proofs.Bools.{split}
-use Rattle.decimal.specs.Writing.{decimal, fixed, meanOf}
+use Rattle.decimal.specs.declared.Instrument.{Instrument}
+use Rattle.decimal.specs.declared.Instrument.the-variants.{Bonds, Equities}
+use Rattle.decimal.specs.Instruments.{highest}
+use Rattle.decimal.specs.Writing.{decimal, meanOf}
 use Rattle.decimal.proofs.Digits.{decimal-few}
 use Rattle.decimal.proofs.Means.{mean-range}
-use Rattle.decimal.proofs.RoundTrip.{fixed-length}
+use Rattle.decimal.proofs.RoundTrip.{level-length, mean-length}
 use Rattle.matching.specs.declared.Order.{Order}
 use Rattle.matching.specs.Matching.{openOf}
 use Rattle.matching.specs.Held.{Sound}
+use Rattle.matching.specs.Quoted.{Quoted}
 use Rattle.matching.proofs.Sounds.{minimum-most}
 use Rattle.report.specs.declared.Place.{Place}
 use Rattle.report.specs.declared.Value.{Value}
@@ -23,8 +27,15 @@ use Rattle.report.specs.declared.Value.the-variants.{Absent, Number, Char, Word
 use Rattle.report.specs.declared.Field.{Field}
 use Rattle.report.specs.Fields.{isAbsent, valueBytes, written, fieldBytes, rowBytes}
 use Rattle.report.proofs.Bytes.{length-written, row-append}
-use Rattle.rows.specs.Rows.{_is_, text, orNumber, orNobody, digit, avgPx, padded}
+use Rattle.rows.specs.declared.Shown.{Shown}
+use Rattle.rows.specs.declared.Fill.{Fill}
+use Rattle.rows.specs.Rows.{_is_, text, orNumber, orNobody, digit, orDigit, group, ownField, lastField, otherField, countField, avgPx, padded}
 use Rattle.rows.specs.Ranges.{Short}
+
+-- what holds in each of the two markets holds in both
+pub of-both : {G : Type 0} (q : Instrument) → (q ≡ Bonds → G) → (q ≡ Equities → G) → G
+of-both Bonds b e = b refl
+of-both Equities b e = e refl
 
 -- ---- rows
 
@@ -80,7 +91,7 @@ module _ (sent stored : List ℕ) where
   char-short c = lit≤ tt
 
   pub word-short : (w x y z : ℕ) → Short sent stored 4 (Word w x y z)
-  word-short w x y z = lit≤ tt
+  word-short w x y z = split (eqb z 0) (λ e. rw e (lit≤ tt)) (λ e. rw e (lit≤ tt))
 
   pub number-short : (k n : ℕ) → n < 10 ^ suc k → Short sent stored (suc k) (Number n)
   number-short k n h = decimal-few k n h
@@ -106,14 +117,43 @@ module _ (sent stored : List ℕ) where
   unfolding orNobody
   or-nobody-short n h = split (eqb n 0) (λ e. rw e (lit≤ tt)) (λ e. rw e (decimal-few 8 n h))
 
-  pub level-short : (l : ℕ) → 0 < l → l ≤ 1999999999 → Short sent stored 11 (Level l)
-  level-short l a b = fixed-length 3 l a (omega (arith, b))
+  pub level-short : (q : Instrument) (l : ℕ) → 0 < l → l ≤ highest q → Short sent stored 11 (Level q l)
+  level-short q l a b = level-length q l a b
 
-  pub mean-short : (o : Order) → Sound o → Short sent stored 14 (Mean (avgPx o))
+  pub mean-short : (q : Instrument) (o : Order) → Sound o → Quoted q o → Short sent stored 14 (Mean q (avgPx o))
   unfolding avgPx
-  mean-short o h =
-      let r = mean-range (o .sum) (o .executed) (h .sum-low) (h .sum-high) in
-      fixed-length 6 (meanOf (o .sum) (o .executed)) (r .0) (omega (arith, r .1))
+  mean-short q o h k =
+      let r = mean-range q (o .sum) (o .executed) (h .sum-low) (k .sum) in
+      mean-length q (meanOf (o .sum) (o .executed)) (r .0) (r .1)
+
+  pub zero-short : (q : Instrument) → Short sent stored 14 (Mean q (meanOf 0 0))
+  zero-short q = let r = mean-range q 0 0 zero-le zero-le in mean-length q (meanOf 0 0) (r .0) (r .1)
+
+  -- what only one of the markets has
+  pub group-short : (q : Instrument) → Short sent stored 4 (group q)
+  unfolding group
+  group-short Bonds = lit≤ tt
+  group-short Equities = lit≤ tt
+
+  pub own-short : (q : Instrument) (o : Shown) → Short sent stored 1 (ownField q o .value)
+  unfolding ownField
+  own-short Bonds o = number-short 0 9 (lit< tt)
+  own-short Equities o = digit-short (o .cash)
+
+  pub last-short : (q : Instrument) (o : Shown) → Short sent stored 1 (lastField q o .value)
+  unfolding lastField orDigit
+  last-short Bonds o = zero-le
+  last-short Equities o = split (eqb (o .margin) 0) (λ e. rw e zero-le) (λ e. rw e (digit-short (o .margin)))
+
+  pub other-short : (q : Instrument) (f : Fill) → f .other < 10 ^ 6 → Short sent stored 6 (otherField q f .value)
+  unfolding otherField
+  other-short Bonds f h = number-short 5 (f .other) h
+  other-short Equities f h = zero-le
+
+  pub count-short : (q : Instrument) → Short sent stored 1 (countField q .value)
+  unfolding countField
+  count-short Bonds = number-short 0 1 (lit< tt)
+  count-short Equities = zero-le
 
   pub open-short : (o : Order) → Sound o → Short sent stored 9 (Number (openOf o))
   unfolding openOf

@@ -1,7 +1,8 @@
--- The seven kinds of report, each as its row of fields (document 01, "The reports"; document 02, T-05; source document 000, 7.2
--- and 7.5.1 to 7.5.4, without 797): the header's fields from 35 on, then the body's with their tags ascending; 8, 9 and 10 are
--- the frame's. 34 and 17 are the report's number, 52 and 60 the causing message's 52; all of an order is taken after the event,
--- its 38 is the quantity accepted, also after a decrement, and its 59 and 110 are as they were sent. Assumes nothing.
+-- The seven kinds of report, each as its row of fields (document 01, "The reports"; document 02, T-05 and T-08; source documents 000
+-- and 003, 7.2 and 7.5.1 to 7.5.4, without 797): the header's fields from 35 on, then the body's with their tags ascending; 8, 9 and
+-- 10 are the frame's. 34 and 17 are the report's number, 52 and 60 the causing message's 52; all of an order is taken after the
+-- event, its 38 is the quantity accepted, also after a decrement, and its 54, 59, 110, 544 and 8214 are as they were sent. A bond
+-- market and an equities market have one row for each kind; the few fields that only one of them has are named once. Assumes nothing.
 use mathlib.Core.Bool.{Bool, true, false, cond}
 use mathlib.Core.List.{List, [], _∷_, _++_}
 use Prim.Native.Nat.{ℕ, _+_, _-_, _%_}
@@ -9,6 +10,8 @@ use Prim.Native.Char.{Char as Letter}
 use lib.Dec.{eqb, ltb}
 use lib.ListN.{length, replicate}
 use Rattle.octets.specs.Characters.{byte}
+use Rattle.decimal.specs.declared.Instrument.{Instrument}
+use Rattle.decimal.specs.declared.Instrument.the-variants.{Bonds, Equities}
 use Rattle.decimal.specs.Writing.{meanOf}
 use Rattle.matching.specs.declared.Order.{Order}
 use Rattle.matching.specs.Matching.{openOf}
@@ -16,7 +19,7 @@ use Rattle.report.specs.declared.Place.{Place}
 use Rattle.report.specs.declared.Value.{Value}
 use Rattle.report.specs.declared.Value.the-variants.{Absent, Number, Char, Word, Sent, Stored, Level, Mean}
 use Rattle.report.specs.declared.Field.{Field}
-use Rattle.report.specs.Fields.{word}
+use Rattle.report.specs.Fields.{word, groupOf}
 use Rattle.rows.specs.declared.Stamp.{Stamp}
 use Rattle.rows.specs.declared.Shown.{Shown}
 use Rattle.rows.specs.declared.Figures.{Figures}
@@ -49,16 +52,42 @@ char c = Char (byte c)
 unfoldable pub digit : ℕ → Value
 digit n = Char (byte "0" + n % 10)
 
--- `DJGB` and `NONE`
-abbrev pub djgb : Value
-djgb = word "DJGB"
+-- the same, or no value where it is 0
+unfoldable pub orDigit : ℕ → Value
+orDigit n = cond (eqb n 0) Absent (digit n)
 
+-- `NONE`
 abbrev pub nobody : Value
 nobody = word "NONE"
 
 -- 37 where there may be no order, which then is number 0
 unfoldable pub orNobody : ℕ → Value
 orNobody n = cond (eqb n 0) nobody (Number n)
+
+-- ---- what only one of the markets has
+
+-- 50
+unfoldable pub group : Instrument → Value
+group q = word (groupOf q)
+
+-- behind 378: 423, which is 9 for every bond, or CashMargin
+unfoldable pub ownField : Instrument → Shown → Field
+ownField Bonds o = 423 is Number 9
+ownField Equities o = 544 is digit (o .cash)
+
+-- behind 8060: MarginTransactionType, if the order has one
+unfoldable pub lastField : Instrument → Shown → Field
+lastField Bonds o = 0 is Absent
+lastField Equities o = 8214 is orDigit (o .margin)
+
+-- of a Trade: the other's MPID, and how many others there are
+unfoldable pub otherField : Instrument → Fill → Field
+otherField Bonds f = 375 is Number (f .other)
+otherField Equities f = 0 is Absent
+
+unfoldable pub countField : Instrument → Field
+countField Bonds = 382 is Number 1
+countField Equities = 0 is Absent
 
 -- ---- what is worked out of an order
 
@@ -82,9 +111,10 @@ tradeStatus o = cond (eqb (openOf o) 0) 2 1
 unfoldable pub statusOf : Order → ℕ
 statusOf o = cond (ltb 0 (o .canceled)) 4 (cond (eqb (openOf o) 0) 2 (cond (ltb 0 (o .executed)) 1 0))
 
--- all of it: 109 if the order has an MPID, 110 if it has a MinQty, 6, 151, 54, 59, 8060, and 39 of a Trade and of Replaced
-unfoldable pub figuresOf : Shown → Figures
-figuresOf o =
+-- all of it: 109 if the order has an MPID, 110 if it has a MinQty, 6, 151, 54, 59, 8060, 39 of a Trade and of Replaced, and the fields
+-- that only one of the markets has
+unfoldable pub figuresOf : Instrument → Shown → Figures
+figuresOf q o =
     record {
       client = orNumber (o .order .mpid);
       least = orNumber (o .order .minqty);
@@ -95,6 +125,8 @@ figuresOf o =
       class = digit (o .class);
       traded = digit (tradeStatus (o .order));
       replaced = digit (replacedStatus (o .order));
+      own = ownField q o;
+      last = lastField q o;
     }
 
 -- ---- 41 and 378 of Replaced and Canceled: as requested, 41 alone; by prevention 378=100, and on a decrement the order's own 11
@@ -126,7 +158,7 @@ header type s =
     35 is Char type
     ∷ 34 is Number (s .number)
     ∷ 49 is s .venue
-    ∷ 50 is djgb
+    ∷ 50 is group (s .of)
     ∷ 52 is s .time
     ∷ 56 is s .port
     ∷ []
@@ -136,7 +168,7 @@ unfoldable pub acceptedFields : Stamp → Shown → Figures → List Field
 acceptedFields s o g =
     header (byte "8") s
     ++ (1 is o .account
-    ∷ 6 is Mean (g .mean)
+    ∷ 6 is Mean (s .of) (g .mean)
     ∷ 11 is o .id
     ∷ 14 is Number (o .order .executed)
     ∷ 17 is Number (s .number)
@@ -145,7 +177,7 @@ acceptedFields s o g =
     ∷ 38 is Number (orderQty (o .order))
     ∷ 39 is char "0"
     ∷ 40 is char "2"
-    ∷ 44 is Level (o .order .level)
+    ∷ 44 is Level (s .of) (o .order .level)
     ∷ 47 is Char (o .capacity)
     ∷ 54 is g .side
     ∷ 55 is o .code
@@ -155,19 +187,20 @@ acceptedFields s o g =
     ∷ 110 is g .least
     ∷ 150 is char "0"
     ∷ 151 is Number (g .left)
-    ∷ 423 is Number 9
+    ∷ g .own
     ∷ 8060 is g .class
+    ∷ g .last
     ∷ [])
 
 abbrev pub acceptedRow : Stamp → Shown → List Field
-acceptedRow s o = acceptedFields s o (figuresOf o)
+acceptedRow s o = acceptedFields s o (figuresOf (s .of) o)
 
 -- Replaced, as requested or by a decrement
 unfoldable pub replacedFields : Stamp → Shown → Figures → Ground → List Field
 replacedFields s o g w =
     header (byte "8") s
     ++ (1 is o .account
-    ∷ 6 is Mean (g .mean)
+    ∷ 6 is Mean (s .of) (g .mean)
     ∷ 11 is o .id
     ∷ 14 is Number (o .order .executed)
     ∷ 17 is Number (s .number)
@@ -177,7 +210,7 @@ replacedFields s o g w =
     ∷ 39 is g .replaced
     ∷ 40 is char "2"
     ∷ 41 is w .orig
-    ∷ 44 is Level (o .order .level)
+    ∷ 44 is Level (s .of) (o .order .level)
     ∷ 47 is Char (o .capacity)
     ∷ 54 is g .side
     ∷ 55 is o .code
@@ -188,19 +221,20 @@ replacedFields s o g w =
     ∷ 150 is char "5"
     ∷ 151 is Number (g .left)
     ∷ 378 is w .reason
-    ∷ 423 is Number 9
+    ∷ g .own
     ∷ 8060 is g .class
+    ∷ g .last
     ∷ [])
 
 abbrev pub replacedRow : Stamp → Shown → Ground → List Field
-replacedRow s o w = replacedFields s o (figuresOf o) w
+replacedRow s o w = replacedFields s o (figuresOf (s .of) o) w
 
 -- Canceled, as requested, by prevention, or an immediate order that was killed or whose rest expired
 unfoldable pub canceledFields : Stamp → Shown → Figures → Ground → List Field
 canceledFields s o g w =
     header (byte "8") s
     ++ (1 is o .account
-    ∷ 6 is Mean (g .mean)
+    ∷ 6 is Mean (s .of) (g .mean)
     ∷ 11 is o .id
     ∷ 14 is Number (o .order .executed)
     ∷ 17 is Number (s .number)
@@ -210,7 +244,7 @@ canceledFields s o g w =
     ∷ 39 is char "4"
     ∷ 40 is char "2"
     ∷ 41 is w .orig
-    ∷ 44 is Level (o .order .level)
+    ∷ 44 is Level (s .of) (o .order .level)
     ∷ 47 is Char (o .capacity)
     ∷ 54 is g .side
     ∷ 55 is o .code
@@ -221,30 +255,31 @@ canceledFields s o g w =
     ∷ 150 is char "4"
     ∷ 151 is Number (g .left)
     ∷ 378 is w .reason
-    ∷ 423 is Number 9
+    ∷ g .own
     ∷ 8060 is g .class
+    ∷ g .last
     ∷ [])
 
 abbrev pub canceledRow : Stamp → Shown → Ground → List Field
-canceledRow s o w = canceledFields s o (figuresOf o) w
+canceledRow s o w = canceledFields s o (figuresOf (s .of) o) w
 
 -- A Trade
 unfoldable pub tradeFields : Stamp → Shown → Figures → Fill → List Field
 tradeFields s o g f =
     header (byte "8") s
     ++ (1 is o .account
-    ∷ 6 is Mean (g .mean)
+    ∷ 6 is Mean (s .of) (g .mean)
     ∷ 11 is o .id
     ∷ 14 is Number (o .order .executed)
     ∷ 17 is Number (s .number)
     ∷ 20 is char "0"
-    ∷ 31 is Level (f .level)
+    ∷ 31 is Level (s .of) (f .level)
     ∷ 32 is Number (f .quantity)
     ∷ 37 is Number (o .orderid)
     ∷ 38 is Number (orderQty (o .order))
     ∷ 39 is g .traded
     ∷ 40 is char "2"
-    ∷ 44 is Level (o .order .level)
+    ∷ 44 is Level (s .of) (o .order .level)
     ∷ 47 is Char (o .capacity)
     ∷ 54 is g .side
     ∷ 55 is o .code
@@ -254,32 +289,33 @@ tradeFields s o g f =
     ∷ 110 is g .least
     ∷ 150 is g .traded
     ∷ 151 is Number (g .left)
-    ∷ 375 is Number (f .other)
-    ∷ 382 is Number 1
-    ∷ 423 is Number 9
+    ∷ otherField (s .of) f
+    ∷ countField (s .of)
+    ∷ g .own
     ∷ 851 is Number (f .liquidity)
     ∷ 880 is Number (f .first)
     ∷ 8060 is g .class
+    ∷ g .last
     ∷ [])
 
 abbrev pub tradeRow : Stamp → Shown → Fill → List Field
-tradeRow s o f = tradeFields s o (figuresOf o) f
+tradeRow s o f = tradeFields s o (figuresOf (s .of) o) f
 
 -- Rejected
 unfoldable pub rejectedRow : Stamp → Refused → List Field
-rejectedRow s q =
+rejectedRow s r =
     header (byte "8") s
-    ++ (6 is Mean (meanOf 0 0)
-    ∷ 11 is text (q .id)
+    ++ (6 is Mean (s .of) (meanOf 0 0)
+    ∷ 11 is text (r .id)
     ∷ 14 is Number 0
     ∷ 17 is Number (s .number)
     ∷ 20 is char "0"
     ∷ 37 is nobody
-    ∷ 38 is Number (q .quantity)
+    ∷ 38 is Number (r .quantity)
     ∷ 39 is char "8"
-    ∷ 54 is digit (q .side)
-    ∷ 55 is text (q .code)
-    ∷ 103 is Number (q .reason)
+    ∷ 54 is digit (r .side)
+    ∷ 55 is text (r .code)
+    ∷ 103 is Number (r .reason)
     ∷ 150 is char "8"
     ∷ 151 is Number 0
     ∷ [])

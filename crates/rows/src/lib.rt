@@ -1,35 +1,41 @@
 // The rows of the seven kinds of report, each a table of its fields.
 ghost use mathlib.Core.Path.{_≡_};
 ghost use Rattle.matching.specs.Held.{Covered, Sound};
-ghost use Rattle.rows.specs.Rows.{orNumber, orNobody, avgPx, tradeStatus, replacedStatus, statusOf, figuresOf, padded, acceptedRow, replacedRow, canceledRow, tradeRow, rejectedRow, cancelRejectRow, sessionRejectRow};
+ghost use Rattle.rows.specs.Rows.{orNumber, orDigit, orNobody, group, ownField, lastField, otherField, countField, avgPx, tradeStatus, replacedStatus, statusOf, figuresOf, padded, acceptedRow, replacedRow, canceledRow, tradeRow, rejectedRow, cancelRejectRow, sessionRejectRow};
 ghost use Rattle.rows.specs.Rows.{text as Rows·text};
 ghost use Rattle.rows.specs.Rows.{digit as Rows·digit};
+use decimal::Instrument;
 use matching::Order;
 use report::Field;
 use report::Place;
 use report::Value;
 
-// What every report starts with: its number, and the 52 of the causing message, venue and port.
+// What every report starts with: what its market trades, its number, and the 52 of the causing message, venue and port.
 pub struct Stamp {
+    pub of: Instrument,
     pub number: u64,
     pub time: Value,
     pub venue: Value,
     pub port: Value,
 }
 
-// An order as it is reported, after the event: what 37 calls it, its numbers, its capacity (a character), its classification (a
-// number of one digit), the bond code, its ClOrdID and its account, if it has one.
+// An order as it is reported, after the event: what 37 calls it, its numbers, its capacity (a character), its classification, its
+// CashMargin and its MarginTransactionType (numbers of one digit, 0 for none of the last two), the bond code or symbol, its ClOrdID
+// and its account, if it has one.
 pub struct Shown {
     pub orderid: u64,
     pub order: Order,
     pub capacity: u8,
     pub class: u64,
+    pub cash: u64,
+    pub margin: u64,
     pub code: Value,
     pub id: Value,
     pub account: Value,
 }
 
-// What is worked out of an order for its reports: 109, 110, 6, 151, 54, 59, 8060, and 39 of a Trade and of Replaced.
+// What is worked out of an order for its reports: 109, 110, 6, 151, 54, 59, 8060, 39 of a Trade and of Replaced, the field that each
+// market has of its own (423 or 544), and the one behind 8060 (8214, or none).
 pub struct Figures {
     pub client: Value,
     pub least: Value,
@@ -40,6 +46,8 @@ pub struct Figures {
     pub class: Value,
     pub traded: Value,
     pub replaced: Value,
+    pub own: Field,
+    pub last: Field,
 }
 
 // Why an order was replaced or canceled: its 41 and 378, or none.
@@ -119,6 +127,100 @@ fn digit(n: u64) -> Value
     Value::Char(48 + (n % 10) as u8)
 }
 
+// The same, or no value where it is 0.
+fn or_digit(n: u64) -> Value
+    ensures { λ r. ⌜ r ≡ orDigit n ⌝ }
+{
+    if n == 0 {
+        return Value::Absent;
+    }
+    digit(n)
+}
+
+// 50, the group that the market belongs to.
+fn group_of(q: Instrument) -> Value
+    ensures { λ r. ⌜ r ≡ group q ⌝ }
+{
+    match q {
+        Instrument::Bonds => Value::Word {
+            w: b'D',
+            x: b'J',
+            y: b'G',
+            z: b'B',
+        },
+        Instrument::Equities => Value::Word {
+            w: b'D',
+            x: b'A',
+            y: b'Y',
+            z: 0,
+        },
+    }
+}
+
+// The field of an order that each market has of its own: 423 of bonds, CashMargin of equities.
+fn own_field(q: Instrument, o: Shown) -> Field
+    ensures { λ r. ⌜ r ≡ ownField q o ⌝ }
+{
+    match q {
+        Instrument::Bonds => Field {
+            tag: 423,
+            value: Value::Number(9),
+        },
+        Instrument::Equities => Field {
+            tag: 544,
+            value: digit(o.cash),
+        },
+    }
+}
+
+// The field behind 8060: MarginTransactionType of equities, if the order has one.
+fn last_field(q: Instrument, o: Shown) -> Field
+    ensures { λ r. ⌜ r ≡ lastField q o ⌝ }
+{
+    match q {
+        Instrument::Bonds => Field {
+            tag: 0,
+            value: Value::Absent,
+        },
+        Instrument::Equities => Field {
+            tag: 8214,
+            value: or_digit(o.margin),
+        },
+    }
+}
+
+// The other's MPID in a Trade, which bonds alone show.
+fn other_field(q: Instrument, f: Fill) -> Field
+    ensures { λ r. ⌜ r ≡ otherField q f ⌝ }
+{
+    match q {
+        Instrument::Bonds => Field {
+            tag: 375,
+            value: Value::Number(f.other),
+        },
+        Instrument::Equities => Field {
+            tag: 0,
+            value: Value::Absent,
+        },
+    }
+}
+
+// How many others there are in a Trade, which bonds alone show.
+fn count_field(q: Instrument) -> Field
+    ensures { λ r. ⌜ r ≡ countField q ⌝ }
+{
+    match q {
+        Instrument::Bonds => Field {
+            tag: 382,
+            value: Value::Number(1),
+        },
+        Instrument::Equities => Field {
+            tag: 0,
+            value: Value::Absent,
+        },
+    }
+}
+
 // 37 where there may be no order.
 fn or_nobody(n: u64) -> Value
     ensures { λ r. ⌜ r ≡ orNobody n ⌝ }
@@ -181,9 +283,9 @@ pub fn status_of(o: Order) -> u64
 }
 
 // What is worked out of an order.
-fn figures_of(o: Shown) -> Figures
+fn figures_of(q: Instrument, o: Shown) -> Figures
     requires { ⌜ Sound (o .order) ⌝ }
-    ensures { λ r. ⌜ r ≡ figuresOf o ⌝ }
+    ensures { λ r. ⌜ r ≡ figuresOf q o ⌝ }
 {
     let x = o.order;
     let client = or_number(x.mpid);
@@ -195,6 +297,8 @@ fn figures_of(o: Shown) -> Figures
     let traded = digit(t);
     let r = replaced_status(x);
     let replaced = digit(r);
+    let own = own_field(q, o);
+    let last = last_field(q, o);
     Figures {
         client,
         least,
@@ -205,6 +309,8 @@ fn figures_of(o: Shown) -> Figures
         class,
         traded,
         replaced,
+        own,
+        last,
     }
 }
 
@@ -218,13 +324,17 @@ pub fn accepted_row(s: Stamp, o: Shown) -> [Field; 36]
         value: Value::Absent,
     };
     let x = o.order;
+    let q = s.of;
+    let group = group_of(q);
     let time = s.time;
     let venue = s.venue;
     let port = s.port;
     let code = o.code;
     let id = o.id;
     let account = o.account;
-    let g = figures_of(o);
+    let g = figures_of(q, o);
+    let own = g.own;
+    let last = g.last;
     let client = g.client;
     let least = g.least;
     let side = g.side;
@@ -245,12 +355,7 @@ pub fn accepted_row(s: Stamp, o: Shown) -> [Field; 36]
         },
         Field {
             tag: 50,
-            value: Value::Word {
-                w: b'D',
-                x: b'J',
-                y: b'G',
-                z: b'B',
-            },
+            value: group,
         },
         Field {
             tag: 52,
@@ -266,7 +371,10 @@ pub fn accepted_row(s: Stamp, o: Shown) -> [Field; 36]
         },
         Field {
             tag: 6,
-            value: Value::Mean(g.mean),
+            value: Value::Mean {
+                of: q,
+                mean: g.mean,
+            },
         },
         Field { tag: 11, value: id },
         Field {
@@ -299,7 +407,10 @@ pub fn accepted_row(s: Stamp, o: Shown) -> [Field; 36]
         },
         Field {
             tag: 44,
-            value: Value::Level(x.level),
+            value: Value::Level {
+                of: q,
+                level: x.level,
+            },
         },
         Field {
             tag: 47,
@@ -337,15 +448,12 @@ pub fn accepted_row(s: Stamp, o: Shown) -> [Field; 36]
             tag: 151,
             value: Value::Number(g.left),
         },
-        Field {
-            tag: 423,
-            value: Value::Number(9),
-        },
+        own,
         Field {
             tag: 8060,
             value: class,
         },
-        none,
+        last,
         none,
         none,
         none,
@@ -366,6 +474,8 @@ pub fn replaced_row(s: Stamp, o: Shown, w: Ground) -> [Field; 36]
         value: Value::Absent,
     };
     let x = o.order;
+    let q = s.of;
+    let group = group_of(q);
     let time = s.time;
     let venue = s.venue;
     let port = s.port;
@@ -374,7 +484,9 @@ pub fn replaced_row(s: Stamp, o: Shown, w: Ground) -> [Field; 36]
     let account = o.account;
     let orig = w.orig;
     let reason = w.reason;
-    let g = figures_of(o);
+    let g = figures_of(q, o);
+    let own = g.own;
+    let last = g.last;
     let client = g.client;
     let least = g.least;
     let side = g.side;
@@ -396,12 +508,7 @@ pub fn replaced_row(s: Stamp, o: Shown, w: Ground) -> [Field; 36]
         },
         Field {
             tag: 50,
-            value: Value::Word {
-                w: b'D',
-                x: b'J',
-                y: b'G',
-                z: b'B',
-            },
+            value: group,
         },
         Field {
             tag: 52,
@@ -417,7 +524,10 @@ pub fn replaced_row(s: Stamp, o: Shown, w: Ground) -> [Field; 36]
         },
         Field {
             tag: 6,
-            value: Value::Mean(g.mean),
+            value: Value::Mean {
+                of: q,
+                mean: g.mean,
+            },
         },
         Field { tag: 11, value: id },
         Field {
@@ -454,7 +564,10 @@ pub fn replaced_row(s: Stamp, o: Shown, w: Ground) -> [Field; 36]
         },
         Field {
             tag: 44,
-            value: Value::Level(x.level),
+            value: Value::Level {
+                of: q,
+                level: x.level,
+            },
         },
         Field {
             tag: 47,
@@ -496,15 +609,12 @@ pub fn replaced_row(s: Stamp, o: Shown, w: Ground) -> [Field; 36]
             tag: 378,
             value: reason,
         },
-        Field {
-            tag: 423,
-            value: Value::Number(9),
-        },
+        own,
         Field {
             tag: 8060,
             value: class,
         },
-        none,
+        last,
         none,
         none,
         none,
@@ -523,6 +633,8 @@ pub fn canceled_row(s: Stamp, o: Shown, w: Ground) -> [Field; 36]
         value: Value::Absent,
     };
     let x = o.order;
+    let q = s.of;
+    let group = group_of(q);
     let time = s.time;
     let venue = s.venue;
     let port = s.port;
@@ -531,7 +643,9 @@ pub fn canceled_row(s: Stamp, o: Shown, w: Ground) -> [Field; 36]
     let account = o.account;
     let orig = w.orig;
     let reason = w.reason;
-    let g = figures_of(o);
+    let g = figures_of(q, o);
+    let own = g.own;
+    let last = g.last;
     let client = g.client;
     let least = g.least;
     let side = g.side;
@@ -552,12 +666,7 @@ pub fn canceled_row(s: Stamp, o: Shown, w: Ground) -> [Field; 36]
         },
         Field {
             tag: 50,
-            value: Value::Word {
-                w: b'D',
-                x: b'J',
-                y: b'G',
-                z: b'B',
-            },
+            value: group,
         },
         Field {
             tag: 52,
@@ -573,7 +682,10 @@ pub fn canceled_row(s: Stamp, o: Shown, w: Ground) -> [Field; 36]
         },
         Field {
             tag: 6,
-            value: Value::Mean(g.mean),
+            value: Value::Mean {
+                of: q,
+                mean: g.mean,
+            },
         },
         Field { tag: 11, value: id },
         Field {
@@ -610,7 +722,10 @@ pub fn canceled_row(s: Stamp, o: Shown, w: Ground) -> [Field; 36]
         },
         Field {
             tag: 44,
-            value: Value::Level(x.level),
+            value: Value::Level {
+                of: q,
+                level: x.level,
+            },
         },
         Field {
             tag: 47,
@@ -652,15 +767,12 @@ pub fn canceled_row(s: Stamp, o: Shown, w: Ground) -> [Field; 36]
             tag: 378,
             value: reason,
         },
-        Field {
-            tag: 423,
-            value: Value::Number(9),
-        },
+        own,
         Field {
             tag: 8060,
             value: class,
         },
-        none,
+        last,
         none,
         none,
         none,
@@ -679,19 +791,25 @@ pub fn trade_row(s: Stamp, o: Shown, f: Fill) -> [Field; 36]
         value: Value::Absent,
     };
     let x = o.order;
+    let q = s.of;
+    let group = group_of(q);
     let time = s.time;
     let venue = s.venue;
     let port = s.port;
     let code = o.code;
     let id = o.id;
     let account = o.account;
-    let g = figures_of(o);
+    let g = figures_of(q, o);
+    let own = g.own;
+    let last = g.last;
     let client = g.client;
     let least = g.least;
     let side = g.side;
     let tif = g.tif;
     let class = g.class;
     let status = g.traded;
+    let other = other_field(q, f);
+    let count = count_field(q);
     [
         Field {
             tag: 35,
@@ -707,12 +825,7 @@ pub fn trade_row(s: Stamp, o: Shown, f: Fill) -> [Field; 36]
         },
         Field {
             tag: 50,
-            value: Value::Word {
-                w: b'D',
-                x: b'J',
-                y: b'G',
-                z: b'B',
-            },
+            value: group,
         },
         Field {
             tag: 52,
@@ -728,7 +841,10 @@ pub fn trade_row(s: Stamp, o: Shown, f: Fill) -> [Field; 36]
         },
         Field {
             tag: 6,
-            value: Value::Mean(g.mean),
+            value: Value::Mean {
+                of: q,
+                mean: g.mean,
+            },
         },
         Field { tag: 11, value: id },
         Field {
@@ -745,7 +861,10 @@ pub fn trade_row(s: Stamp, o: Shown, f: Fill) -> [Field; 36]
         },
         Field {
             tag: 31,
-            value: Value::Level(f.level),
+            value: Value::Level {
+                of: q,
+                level: f.level,
+            },
         },
         Field {
             tag: 32,
@@ -769,7 +888,10 @@ pub fn trade_row(s: Stamp, o: Shown, f: Fill) -> [Field; 36]
         },
         Field {
             tag: 44,
-            value: Value::Level(x.level),
+            value: Value::Level {
+                of: q,
+                level: x.level,
+            },
         },
         Field {
             tag: 47,
@@ -807,18 +929,9 @@ pub fn trade_row(s: Stamp, o: Shown, f: Fill) -> [Field; 36]
             tag: 151,
             value: Value::Number(g.left),
         },
-        Field {
-            tag: 375,
-            value: Value::Number(f.other),
-        },
-        Field {
-            tag: 382,
-            value: Value::Number(1),
-        },
-        Field {
-            tag: 423,
-            value: Value::Number(9),
-        },
+        other,
+        count,
+        own,
         Field {
             tag: 851,
             value: Value::Number(f.liquidity),
@@ -831,25 +944,27 @@ pub fn trade_row(s: Stamp, o: Shown, f: Fill) -> [Field; 36]
             tag: 8060,
             value: class,
         },
-        none,
+        last,
         none,
     ]
 }
 
 // The row of Rejected.
-pub fn rejected_row(s: Stamp, q: Refused) -> [Field; 36]
-    ensures { λ r. ⌜ r ≡ padded (rejectedRow s q) ⌝ }
+pub fn rejected_row(s: Stamp, r: Refused) -> [Field; 36]
+    ensures { λ row. ⌜ row ≡ padded (rejectedRow s r) ⌝ }
 {
     let none = Field {
         tag: 0,
         value: Value::Absent,
     };
+    let q = s.of;
+    let group = group_of(q);
     let time = s.time;
     let venue = s.venue;
     let port = s.port;
-    let id = text(q.id);
-    let code = text(q.code);
-    let side = digit(q.side);
+    let id = text(r.id);
+    let code = text(r.code);
+    let side = digit(r.side);
     [
         Field {
             tag: 35,
@@ -865,12 +980,7 @@ pub fn rejected_row(s: Stamp, q: Refused) -> [Field; 36]
         },
         Field {
             tag: 50,
-            value: Value::Word {
-                w: b'D',
-                x: b'J',
-                y: b'G',
-                z: b'B',
-            },
+            value: group,
         },
         Field {
             tag: 52,
@@ -882,7 +992,10 @@ pub fn rejected_row(s: Stamp, q: Refused) -> [Field; 36]
         },
         Field {
             tag: 6,
-            value: Value::Mean(1_000_000_000_000),
+            value: Value::Mean {
+                of: q,
+                mean: 1_000_000_000_000,
+            },
         },
         Field { tag: 11, value: id },
         Field {
@@ -908,7 +1021,7 @@ pub fn rejected_row(s: Stamp, q: Refused) -> [Field; 36]
         },
         Field {
             tag: 38,
-            value: Value::Number(q.quantity),
+            value: Value::Number(r.quantity),
         },
         Field {
             tag: 39,
@@ -924,7 +1037,7 @@ pub fn rejected_row(s: Stamp, q: Refused) -> [Field; 36]
         },
         Field {
             tag: 103,
-            value: Value::Number(q.reason),
+            value: Value::Number(r.reason),
         },
         Field {
             tag: 150,
@@ -962,6 +1075,8 @@ pub fn cancel_reject_row(s: Stamp, u: Unchanged) -> [Field; 36]
         tag: 0,
         value: Value::Absent,
     };
+    let q = s.of;
+    let group = group_of(q);
     let time = s.time;
     let venue = s.venue;
     let port = s.port;
@@ -984,12 +1099,7 @@ pub fn cancel_reject_row(s: Stamp, u: Unchanged) -> [Field; 36]
         },
         Field {
             tag: 50,
-            value: Value::Word {
-                w: b'D',
-                x: b'J',
-                y: b'G',
-                z: b'B',
-            },
+            value: group,
         },
         Field {
             tag: 52,
@@ -1055,6 +1165,8 @@ pub fn session_reject_row(s: Stamp, f: Faulty) -> [Field; 36]
         tag: 0,
         value: Value::Absent,
     };
+    let q = s.of;
+    let group = group_of(q);
     let time = s.time;
     let venue = s.venue;
     let port = s.port;
@@ -1074,12 +1186,7 @@ pub fn session_reject_row(s: Stamp, f: Faulty) -> [Field; 36]
         },
         Field {
             tag: 50,
-            value: Value::Word {
-                w: b'D',
-                x: b'J',
-                y: b'G',
-                z: b'B',
-            },
+            value: group,
         },
         Field {
             tag: 52,

@@ -20,14 +20,16 @@ use Rattle.matching.specs.Matching.{put as putOrder}
 use Rattle.matching.specs.Held.{In, Takes}
 use Rattle.matching.proofs.Conserved.{takes-low, takes-high}
 use Rattle.matching.proofs.Requests.{takes-more, takes-in, takes-back, takes-most}
+use Rattle.table.specs.declared.record.Marks.{Marks}
 use Rattle.table.specs.Places.{recordAt}
-use Rattle.table.specs.Heading.{isListed}
+use Rattle.table.specs.Heading.{instrumentOf, isListed}
 use Rattle.table.specs.Orders.{clOrdIdAt, orderIdAt, filled, bookOf, putId, recordOf, accepted}
-use Rattle.table.specs.Market.{every, isPrintable, restZero, isCapacity, isClass, isRecord}
+use Rattle.table.specs.Market.{every, isPrintable, restZero, isMarked, isRecord}
 use Rattle.table.specs.Facts.{FreshNumbers, Named}
-use Rattle.table.proofs.Same.{Same, same-in, same-then, put-below, put-above, is-text-same, rest-same, record-parts, order-same, id-same, order-id-same, settings-same, spare-same, listed-same, filled-few}
-use Rattle.table.proofs.Stores.{Sized, putTexts, length-record, accepted-texts, accepted-behind, accepted-id, accepted-order-id, accepted-capacity, accepted-class, accepted-spare, accepted-order}
+use Rattle.table.proofs.Same.{Same, same-in, same-then, put-below, put-above, is-text-same, rest-same, record-parts, order-same, id-same, order-id-same, instrument-same, settings-same, kind-same, listed-same, filled-few}
+use Rattle.table.proofs.Stores.{Sized, putTexts, length-record, accepted-texts, accepted-behind, accepted-id, accepted-order-id, accepted-marks, accepted-spare, accepted-order}
 use Rattle.table.proofs.Books.{length-book, book-put}
+use Rattle.table.proofs.Instruments.{marked-bytes}
 use Rattle.table.proofs.Texts.{is-text-put}
 use Rattle.table.proofs.Fresh.{fresh-taken}
 use Rattle.table.proofs.Frames.{Formed, filled-byte, filled-is, id-short}
@@ -43,12 +45,12 @@ zero-later : (t : List ℕ) (q p : ℕ) → allZero (drop q t) ≡ true → q �
 zero-later t q p h l = zero-from (drop p t) (λ k m. getD-drop p t k 0 ∙ zero-byte t q (p + k) h (omega arith))
 
 -- the order o is written as record k of t, which it may take, with a new OrderID and ClOrdID
-module _ (t : List ℕ) (k orderId : ℕ) (clOrdId account : List ℕ) (capacity class : ℕ) (o : Order) (f : Formed t) (x : Takes (bookOf t) k) (small : k ≤ 255)
-    (g : Named t clOrdId) (few : length account ≤ 10) (printable : every isPrintable account ≡ true) (a : isCapacity capacity ≡ true) (b : isClass class ≡ true)
+module _ (t : List ℕ) (k orderId : ℕ) (clOrdId account : List ℕ) (marks : Marks) (o : Order) (f : Formed t) (x : Takes (bookOf t) k) (small : k ≤ 255)
+    (g : Named t clOrdId) (few : length account ≤ 10) (printable : every isPrintable account ≡ true) (a : isMarked (instrumentOf t) marks ≡ true)
     (some : 1 ≤ orderId) (sized : orderId < 256 ^ 4) where
   -- the table afterwards, and its number of filled records
   abbrev pub after : List ℕ
-  after = accepted t k orderId clOrdId account capacity class o
+  after = accepted t k orderId clOrdId account marks o
 
   abbrev pub count : ℕ
   count = length (putOrder (bookOf t) k o)
@@ -75,21 +77,24 @@ module _ (t : List ℕ) (k orderId : ℕ) (clOrdId account : List ℕ) (capacity
   -- all bytes but those of the record are as they were
   pub entered-heading : Same after t 0 128
   unfolding accepted
-  entered-heading = let l = low in put-below t (128 * k) (recordOf orderId clOrdId account capacity class o) 0 128 (omega arith)
+  entered-heading = let l = low in put-below t (128 * k) (recordOf orderId clOrdId account marks o) 0 128 (omega arith)
+
+  pub entered-instrument : instrumentOf after ≡ instrumentOf t
+  entered-instrument = instrument-same (same-in 55 56 entered-heading (lit≤ tt) (lit≤ tt))
 
   entered-behind : (e : ℕ) → Same after t (128 * k + 128) e
-  entered-behind = accepted-behind t k orderId clOrdId account capacity class o (g .short) few room
+  entered-behind = accepted-behind t k orderId clOrdId account marks o (g .short) few room
 
   entered-other : (i : ℕ) → (i ≡ k → ⊥) → Same after t (128 * i) (128 * i + 128)
   unfolding accepted
   entered-other i n =
-      let s = length-record t k orderId clOrdId account capacity class o (g .short) few room in
-      ⊎-elim (λ (l : k < i). put-above t (128 * k) (recordOf orderId clOrdId account capacity class o) (128 * i) (128 * i + 128) (omega arith))
-      (λ (l : i ≤ k). put-below t (128 * k) (recordOf orderId clOrdId account capacity class o) (128 * i) (128 * i + 128) (omega arith)) (below-or k i)
+      let s = length-record t k orderId clOrdId account marks o (g .short) few room in
+      ⊎-elim (λ (l : k < i). put-above t (128 * k) (recordOf orderId clOrdId account marks o) (128 * i) (128 * i + 128) (omega arith))
+      (λ (l : i ≤ k). put-below t (128 * k) (recordOf orderId clOrdId account marks o) (128 * i) (128 * i + 128) (omega arith)) (below-or k i)
 
   -- its texts
   texts : Same after (putTexts t k clOrdId account) (128 * k) (128 * k + 44)
-  texts = accepted-texts t k orderId clOrdId account capacity class o (g .short) few room
+  texts = accepted-texts t k orderId clOrdId account marks o (g .short) few room
 
   id-texts : Same after (putId t k clOrdId) (128 * k) (128 * k + 33)
   id-texts =
@@ -122,7 +127,7 @@ module _ (t : List ℕ) (k orderId : ℕ) (clOrdId account : List ℕ) (capacity
 
   -- the OrderIDs afterwards
   pub entered-order-id : orderIdAt after k ≡ orderId
-  entered-order-id = accepted-order-id t k orderId clOrdId account capacity class o (g .short) few room sized
+  entered-order-id = accepted-order-id t k orderId clOrdId account marks o (g .short) few room sized
 
   other-order-id : (i : ℕ) → (i ≡ k → ⊥) → orderIdAt after i ≡ orderIdAt t i
   other-order-id i n = order-id-same i (same-in (128 * i + 84) (128 * i + 128) (entered-other i n) (omega arith) (omega arith))
@@ -138,16 +143,16 @@ module _ (t : List ℕ) (k orderId : ℕ) (clOrdId account : List ℕ) (capacity
   new-record =
       let p : ℕ = 128 * k in
       let long = length-put t p (textBytes 32 clOrdId) in
-      let c = accepted-capacity t k orderId clOrdId account capacity class o (g .short) few room in
-      let d = accepted-class t k orderId clOrdId account capacity class o (g .short) few room in
+      let c = accepted-marks t k orderId clOrdId account marks o (g .short) few room (marked-bytes (instrumentOf t) marks a) in
+      let d = entered-instrument in
       parts-record after k
       (is-text-same isPrintable 1 32 p (p + 33) id-texts (omega arith)
       ∙ is-text-put 32 t p clOrdId (omega (arith, room)) (g .short) isPrintable 1 (g .some) (g .printable))
       (is-text-same isPrintable 0 10 (p + 33) (p + 44) (same-in (p + 33) (p + 44) texts (omega arith) (omega arith)) (omega arith)
       ∙ is-text-put 10 (putId t k clOrdId) (p + 33) account (omega (arith, room)) few isPrintable 0 (omega arith) printable)
-      (rw c a) (rw d b)
+      (rw (d, c) a)
       (rw entered-order-id some)
-      (accepted-spare t k orderId clOrdId account capacity class o (g .short) few room)
+      (accepted-spare t k orderId clOrdId account marks o (g .short) few room)
 
   entered-record : (i : ℕ) → 1 ≤ i → i ≤ count → isRecord after i ≡ true
   entered-record i l h =
@@ -156,13 +161,13 @@ module _ (t : List ℕ) (k orderId : ℕ) (clOrdId account : List ℕ) (capacity
       (λ z.
       let n = eqb-false i k z in
       let s = entered-other i n in
-      record-parts i (same-in (128 * i) (128 * i + 44) s (omega arith) (omega arith)) (same-in (128 * i + 46) (128 * i + 48) s (omega arith) (omega arith))
+      record-parts i (same-in 55 56 entered-heading (lit≤ tt) (lit≤ tt)) (same-in (128 * i) (128 * i + 44) s (omega arith) (omega arith)) (same-in (128 * i + 46) (128 * i + 48) s (omega arith) (omega arith))
       (same-in (128 * i + 84) (128 * i + 128) s (omega arith) (omega arith))
       ∙ f .records i l (others i l h n))
 
   -- the ClOrdIDs afterwards
   pub entered-id : clOrdIdAt after k ≡ clOrdId
-  entered-id = accepted-id t k orderId clOrdId account capacity class o (g .short) few room
+  entered-id = accepted-id t k orderId clOrdId account marks o (g .short) few room
 
   pub entered-keeps : (i : ℕ) → 1 ≤ i → i ≤ count → (i ≡ k → ⊥) → clOrdIdAt after i ≡ clOrdIdAt t i
   entered-keeps i l h n =
@@ -196,8 +201,8 @@ module _ (t : List ℕ) (k orderId : ℕ) (clOrdId account : List ℕ) (capacity
       let s = entered-heading in
       record {
         long = s .size ∙ f .long;
-        settings = settings-same (same-in 0 28 s (lit≤ tt) (lit≤ tt)) (same-in 56 96 s (lit≤ tt) (lit≤ tt)) ∙ f .settings;
-        spare = spare-same (same-in 55 56 s (lit≤ tt) (lit≤ tt)) ∙ f .spare;
+        settings = settings-same (same-in 0 28 s (lit≤ tt) (lit≤ tt)) (same-in 55 96 s (lit≤ tt) (lit≤ tt)) ∙ f .settings;
+        kind = kind-same (same-in 55 56 s (lit≤ tt) (lit≤ tt)) ∙ f .kind;
         rest = rest;
         records = λ i l h. entered-record i l (rw e at h);
         ids = λ i j l h m. entered-ids i j l h (rw e at m);
@@ -217,7 +222,7 @@ module _ (t : List ℕ) (k orderId : ℕ) (clOrdId account : List ℕ) (capacity
   entered-book z =
       let e = entered-filled in
       book-put t after k o low (takes-high (bookOf t) k x) e
-      (accepted-order t k orderId clOrdId account capacity class o (g .short) few room z)
+      (accepted-order t k orderId clOrdId account marks o (g .short) few room z)
       (λ j l h n. others j l (rw e at h) n)
       (λ j l h n. order-same j (same-in (128 * j + 44) (128 * j + 92) (entered-other j n) (omega arith) (omega arith)))
 

@@ -4,6 +4,7 @@ use mathlib.Core.Bool.{Bool, true, false, not, _&&_, _||_}
 use mathlib.Core.List.{List}
 use mathlib.Core.Logic.{⊎-elim}
 use Prim.Native.Nat.{ℕ, zero, suc, _+_, _*_, _-_, _≤_, _<_}
+use native.Mathlib.Nat.{mul-le-mul-left}
 use native.Mathlib.Omega.{arith}
 use lib.Dec.{eqb, leb, ltb}
 use lib.ListN.{length, getD, List·getD-eq-default}
@@ -14,11 +15,14 @@ use Rattle.octets.specs.Tests.{allUpTo}
 use Rattle.octets.proofs.Bools.{split, both-i, both-l, both-r, or-l, or-r, not-both}
 use Rattle.octets.proofs.Ranges.{all-at, all-from}
 use Rattle.octets.proofs.Searches.{upto-at, upto-from, record-at, record-from}
+use Rattle.decimal.specs.declared.Instrument.{Instrument}
 use Rattle.matching.specs.declared.Order.{Order}
 use Rattle.matching.specs.Matching.{Book, none, at, openOf, isBuy, isOpen, isImmediate, crosses, opposedTo}
 use Rattle.matching.specs.Held.{Sound, In, Held}
+use Rattle.matching.specs.Quoted.{Quoted}
 use Rattle.matching.proofs.Books.{open-low, open-high}
-use Rattle.table.specs.Heading.{nextOf, workOf, isListed}
+use Rattle.matching.proofs.Quoting.{side-any, highest-most}
+use Rattle.table.specs.Heading.{nextOf, workOf, instrumentOf, isListed}
 use Rattle.table.specs.Orders.{clOrdIdAt, orderIdAt, orderAt, filled, bookOf}
 use Rattle.table.specs.Market.{hasLength, hasNext, hasWork, isRecord, isRanged, isKnown, isWithin, isShut, isPriced, isOrder, hasOrders, isFreshId, hasIds, hasOrderIds, hasPlaces, isDone, noIoc, isClear, noCross, hasNumbers, isBook, isMarket}
 use Rattle.table.specs.Facts.{FreshNumbers, Market}
@@ -36,30 +40,42 @@ not-i h = rw h
 
 -- ---- one order
 
-pub sound-facts : (o : Order) → isRanged o ≡ true → isWithin o ≡ true → isShut o ≡ true → isPriced o ≡ true → Sound o
-unfolding isRanged isWithin isShut isPriced
-sound-facts o r w s p =
+-- its side is one of the market's, its level and its sum are what the market's levels can come to
+pub quoted-facts : (q : Instrument) (o : Order) → isRanged q o ≡ true → isPriced q o ≡ true → Quoted q o
+unfolding isRanged isPriced
+quoted-facts q o r p =
     record {
-      sides = search (both-l, both-r) depth 9;
+      side = search (both-l, both-r) depth 9;
+      level = leb-true _ _ (search (both-l, both-r) depth 9);
+      sum = leb-true _ _ (search both-r);
+    }
+
+pub sound-facts : (q : Instrument) (o : Order) → isRanged q o ≡ true → isWithin o ≡ true → isShut o ≡ true → isPriced q o ≡ true → Sound o
+unfolding isRanged isWithin isShut isPriced
+sound-facts q o r w s p =
+    let t = quoted-facts q o r p in
+    let top = highest-most q in
+    record {
+      sides = side-any q (o .side) (t .side);
       tifs = search (both-l, both-r) depth 10;
       minimum = search (both-l, both-r) depth 10;
       level-low = leb-true _ _ (search (both-l, both-r) depth 9);
-      level-high = leb-true _ _ (search (both-l, both-r) depth 9);
+      level-high = omega (arith, t .level);
       qty-low = leb-true _ _ (search (both-l, both-r));
       qty-high = leb-true _ _ (search (both-l, both-r));
       covered = leb-true _ _ w;
       dead = λ c. eqb-true _ _ (or-r _ _ s (ne-eqb (o .canceled) 0 (λ e. omega arith)));
       sum-low = leb-true _ _ (search both-l);
-      sum-high = leb-true _ _ (search both-r);
+      sum-high = omega (arith, t .sum, mul-le-mul-left (o .executed) top);
       place-low = leb-true _ _ (search both-r);
     }
 
-pub sound-ranged : (o : Order) → Sound o → isRanged o ≡ true
+pub sound-ranged : (q : Instrument) (o : Order) → Sound o → Quoted q o → isRanged q o ≡ true
 unfolding isRanged
-sound-ranged o h =
+sound-ranged q o h t =
     both-i (both-i (both-i (both-i (both-i (both-i (both-i
-    (h .sides) (h .tifs)) (h .minimum))
-    (le-leb _ _ (h .level-low))) (le-leb _ _ (h .level-high)))
+    (t .side) (h .tifs)) (h .minimum))
+    (le-leb _ _ (h .level-low))) (le-leb _ _ (t .level)))
     (le-leb _ _ (h .qty-low))) (le-leb _ _ (h .qty-high))) (le-leb _ _ (h .place-low))
 
 pub sound-within : (o : Order) → Sound o → isWithin o ≡ true
@@ -72,9 +88,9 @@ sound-shut o h =
     split (eqb (o .canceled) 0) (λ e. or-l _ (eqb (openOf o) 0) e)
     (λ e. or-second (eqb (o .canceled) 0) _ (eq-eqb _ _ (h .dead (omega (arith, eqb-false)))))
 
-pub sound-priced : (o : Order) → Sound o → isPriced o ≡ true
+pub sound-priced : (q : Instrument) (o : Order) → Sound o → Quoted q o → isPriced q o ≡ true
 unfolding isPriced
-sound-priced o h = both-i (le-leb _ _ (h .sum-low)) (le-leb _ _ (h .sum-high))
+sound-priced q o h t = both-i (le-leb _ _ (h .sum-low)) (le-leb _ _ (t .sum))
 
 -- an immediate order that is done has nothing open
 done-order : (o : Order) → isDone o ≡ true → isImmediate o ≡ true → openOf o ≡ 0
@@ -208,7 +224,11 @@ module _ (t : List ℕ) where
 
   order-sound : (i : ℕ) → isOrder t i ≡ true → Sound (orderAt t i)
   unfolding isOrder
-  order-sound i h = sound-facts (orderAt t i) (search (both-l, both-r)) (search (both-l, both-r)) (search (both-l, both-r)) (search (both-l, both-r))
+  order-sound i h = sound-facts (instrumentOf t) (orderAt t i) (search (both-l, both-r)) (search (both-l, both-r)) (search (both-l, both-r)) (search (both-l, both-r))
+
+  order-quoted : (i : ℕ) → isOrder t i ≡ true → Quoted (instrumentOf t) (orderAt t i)
+  unfolding isOrder
+  order-quoted i h = quoted-facts (instrumentOf t) (orderAt t i) (search (both-l, both-r)) (search both-r)
 
   order-record : (i : ℕ) → isOrder t i ≡ true → isRecord t i ≡ true
   unfolding isOrder
@@ -218,11 +238,12 @@ module _ (t : List ℕ) where
   unfolding isOrder
   order-known i h = search (both-l, both-r)
 
-  facts-order : (i : ℕ) → isRecord t i ≡ true → isKnown t (orderAt t i .mpid) ≡ true → Sound (orderAt t i) → isOrder t i ≡ true
+  facts-order : (i : ℕ) → isRecord t i ≡ true → isKnown t (orderAt t i .mpid) ≡ true → Sound (orderAt t i) → Quoted (instrumentOf t) (orderAt t i) → isOrder t i ≡ true
   unfolding isOrder
-  facts-order i r k h =
-      both-i (both-i (both-i (both-i (both-i r (sound-ranged (orderAt t i) h)) k) (sound-within (orderAt t i) h)) (sound-shut (orderAt t i) h))
-      (sound-priced (orderAt t i) h)
+  facts-order i r k h x =
+      let q : Instrument = instrumentOf t in
+      let o : Order = orderAt t i in
+      both-i (both-i (both-i (both-i (both-i r (sound-ranged q o h x)) k) (sound-within o h)) (sound-shut o h)) (sound-priced q o h x)
 
   work-within : hasWork t ≡ true → workOf t ≤ filled t
   unfolding hasWork
@@ -294,13 +315,14 @@ module _ (t : List ℕ) where
         settings = search (both-l, both-r) depth 13;
         next-low = leb-true _ _ (both-l _ (leb (nextOf t) 1000000000) n);
         work = w;
-        spare = search (both-l, both-r) depth 13;
+        kind = search (both-l, both-r) depth 13;
         rest = search (both-l, both-r) depth 13;
         records = λ i l m. order-record i (is i l m);
         ids = id-facts (search (both-l, both-r) depth 13);
         order-ids = order-id-facts (search (both-l, both-r) depth 13);
         decision = search (both-l, both-r) depth 13;
         held = book-facts n w is b;
+        quoted = λ i l m. order-quoted i (is i l m);
         best = search both-r;
       }
 
@@ -313,11 +335,12 @@ module _ (t : List ℕ) where
       let in-book : (i : ℕ) → 1 ≤ i → i ≤ filled t → In (bookOf t) i = λ i l n. record { low = l; high = omega arith } in
       both-i (both-i (both-i (both-i (both-i (both-i (both-i (both-i (both-i (both-i (both-i
       (eq-eqb _ _ (m .long)) (m .settings))
-      (both-i (le-leb _ _ (m .next-low)) (le-leb _ _ (h .next-high)))) (m .work)) (m .spare)) (m .rest))
+      (both-i (le-leb _ _ (m .next-low)) (le-leb _ _ (h .next-high)))) (m .work)) (m .kind)) (m .rest))
       (record-from (isOrder t) (filled t) (λ i l n.
       facts-order i (m .records i l n)
       (rw (at-book t i l n) at (h .owned i (in-book i l n)))
-      (rw (at-book t i l n) at (h .sound i (in-book i l n))))))
+      (rw (at-book t i l n) at (h .sound i (in-book i l n)))
+      (m .quoted i l n))))
       (facts-id (m .ids)))
       (facts-order-id (m .order-ids)))
       (facts-book h))

@@ -12,14 +12,17 @@ use borrow.Author.Tests.{leb-true, eqb-true, eqb-false, eq-eqb, ne-eqb}
 use Rattle.octets.specs.Octets.{put, sameBytes}
 use Rattle.octets.proofs.Bools.{both-l, both-r}
 use Rattle.octets.proofs.Places.{below-or}
+use Rattle.decimal.specs.declared.Instrument.{Instrument}
 use Rattle.matching.specs.Held.{Held}
+use Rattle.matching.specs.Quoted.{Quoted, AllQuoted}
 use Rattle.table.specs.Places.{tableBytes, recordAt}
-use Rattle.table.specs.Heading.{nextOf, workOf, decidedOf, isListed, putDecided}
+use Rattle.table.specs.Heading.{nextOf, workOf, instrumentOf, decidedOf, isListed, putDecided}
 use Rattle.table.specs.Orders.{clOrdIdAt, orderIdAt, orderAt, isFree, filled, bookOf}
-use Rattle.table.specs.Market.{isText, hasSettings, hasWork, hasSpare, restZero, isRecord, hasDecision, hasBest}
+use Rattle.table.specs.Market.{isText, hasSettings, hasWork, hasKind, restZero, isRecord, hasDecision, hasBest}
 use Rattle.table.specs.Facts.{FreshNumbers, Market}
 use Rattle.octets.proofs.Searches.{first-before, first-is, first-holds}
-use Rattle.table.proofs.Same.{Same, same-in, same-then, put-below, put-above, order-same, record-parts, rest-same, id-same, order-id-same, settings-same, spare-same, listed-same, filled-few}
+use Rattle.table.proofs.Same.{Same, same-in, same-then, put-below, put-above, order-same, record-parts, rest-same, id-same, order-id-same, instrument-same, settings-same, kind-same, listed-same, filled-few}
+use Rattle.table.proofs.Books.{length-book, at-book}
 use Rattle.table.proofs.Fresh.{fresh-same}
 
 pub record Framed (t u : List ℕ) : Type 0 where
@@ -34,14 +37,14 @@ pub record Framed (t u : List ℕ) : Type 0 where
 pub record Formed (t : List ℕ) : Type 0 where
   pub long : length t ≡ tableBytes
   pub settings : hasSettings t ≡ true
-  pub spare : hasSpare t ≡ true
+  pub kind : hasKind t ≡ true
   pub rest : restZero t ≡ true
   pub records : (i : ℕ) → 1 ≤ i → i ≤ filled t → isRecord t i ≡ true
   pub ids : (j k : ℕ) → 1 ≤ j → j < k → k ≤ filled t → sameBytes (clOrdIdAt t j) (clOrdIdAt t k) ≡ false
 
 pub market-formed : (t : List ℕ) → Market t → Formed t
 market-formed t m =
-    record { long = m .long; settings = m .settings; spare = m .spare; rest = m .rest; records = m .records; ids = m .ids }
+    record { long = m .long; settings = m .settings; kind = m .kind; rest = m .rest; records = m .records; ids = m .ids }
 
 -- all that it asks but for the decision and the best levels
 pub record Unnoted (t : List ℕ) : Type 0 where
@@ -50,11 +53,19 @@ pub record Unnoted (t : List ℕ) : Type 0 where
   pub next-low : 1 ≤ nextOf t
   pub order-ids : FreshNumbers (orderIdAt t) (nextOf t) (filled t)
   pub held : Held (isListed t) (nextOf t) (bookOf t) (workOf t)
+  pub quoted : AllQuoted (instrumentOf t) (bookOf t)
 
 -- and all but for the best levels
 pub record Untopped (t : List ℕ) : Type 0 where
   pub unnoted : Unnoted t
   pub decision : hasDecision (bookOf t) (workOf t) (decidedOf t) ≡ true
+
+-- what a market asks of each order, told of the book
+pub quoted-book : (t : List ℕ) (q : Instrument) → ((i : ℕ) → 1 ≤ i → i ≤ filled t → Quoted q (orderAt t i)) → AllQuoted q (bookOf t)
+quoted-book t q h k i = let n = length-book t in let l : k ≤ filled t = omega (arith, i .high) in rw (at-book t k (i .low) l) (h k (i .low) l)
+
+pub book-quoted : (t : List ℕ) (q : Instrument) → AllQuoted q (bookOf t) → (i : ℕ) → 1 ≤ i → i ≤ filled t → Quoted q (orderAt t i)
+book-quoted t q h i l m = rw (at-book t i l m) at (h i (record { low = l; high = omega (arith, length-book t) }))
 
 pub topped-market : (t : List ℕ) → Untopped t → hasBest t ≡ true → Market t
 topped-market t v b =
@@ -64,13 +75,14 @@ topped-market t v b =
       settings = u .formed .settings;
       next-low = u .next-low;
       work = u .work;
-      spare = u .formed .spare;
+      kind = u .formed .kind;
       rest = u .formed .rest;
       records = u .formed .records;
       ids = u .formed .ids;
       order-ids = u .order-ids;
       decision = v .decision;
       held = u .held;
+      quoted = book-quoted t (instrumentOf t) (u .quoted);
       best = b;
     }
 
@@ -123,16 +135,22 @@ module _ (t u : List ℕ) (long : length t ≡ tableBytes) (f : Framed t u) wher
       rw (e, d) h
 
   pub framed-settings : hasSettings u ≡ hasSettings t
-  framed-settings = settings-same (f .names) (same-in 56 96 (f .lists) (lit≤ tt) (lit≤ tt))
+  framed-settings = settings-same (f .names) (f .lists)
 
-  pub framed-spare : hasSpare u ≡ hasSpare t
-  framed-spare = spare-same (same-in 55 56 (f .lists) (lit≤ tt) (lit≤ tt))
+  kind-byte : Same u t 55 56
+  kind-byte = same-in 55 56 (f .lists) (lit≤ tt) (lit≤ tt)
+
+  pub framed-kind : hasKind u ≡ hasKind t
+  framed-kind = kind-same kind-byte
+
+  pub framed-instrument : instrumentOf u ≡ instrumentOf t
+  framed-instrument = instrument-same kind-byte
 
   pub framed-listed : isListed u ≡ isListed t
   framed-listed = λ j m. listed-same (same-in 56 96 (f .lists) (lit≤ tt) (lit≤ tt)) m j
 
   pub framed-record : (i : ℕ) → 1 ≤ i → i ≤ filled t → isRecord u i ≡ isRecord t i
-  framed-record i l h = record-parts i (f .texts i l h) (f .kinds i l h) (f .spares i l h)
+  framed-record i l h = record-parts i kind-byte (f .texts i l h) (f .kinds i l h) (f .spares i l h)
 
   pub framed-id : (i : ℕ) → 1 ≤ i → i ≤ filled t → isRecord t i ≡ true → clOrdIdAt u i ≡ clOrdIdAt t i
   framed-id i l h r = id-same i (same-in (128 * i) (128 * i + 33) (f .texts i l h) (omega arith) (omega arith)) (id-short t i r)
@@ -148,7 +166,7 @@ module _ (t u : List ℕ) (long : length t ≡ tableBytes) (f : Framed t u) wher
       record {
         long = framed-long;
         settings = framed-settings ∙ m .settings;
-        spare = framed-spare ∙ m .spare;
+        kind = framed-kind ∙ m .kind;
         rest = framed-rest (m .rest);
         records = λ i l k. framed-record i l (omega arith) ∙ m .records i l (omega arith);
         ids = λ j k l i o.

@@ -6,7 +6,7 @@ use mathlib.Core.List.{List, [], _∷_}
 use Prim.Native.Nat.{ℕ, _+_, _*_, _^_, _≤_, _<_}
 use native.Mathlib.Omega.{arith}
 use lib.Dec.{eqb, lit≤}
-use lib.ListN.{length}
+use lib.ListN.{length, replicate}
 use borrow.Author.Tests.{eqb-true, eqb-false, leb-true, ltb-true}
 use Rattle.octets.specs.Octets.{bytesOf, put, textBytes}
 use Rattle.octets.specs.Tests.{allUpTo}
@@ -14,12 +14,14 @@ use Rattle.octets.proofs.Bools.{split, both-l, both-r, or-r}
 use Rattle.octets.proofs.Ranges.{all-at}
 use Rattle.octets.proofs.Places.{length-bytesOf}
 use Rattle.octets.proofs.Parts.{length-textBytes}
+use Rattle.decimal.specs.Instruments.{highest}
 use Rattle.decimal.specs.Reading.{isTime}
 use Rattle.decimal.proofs.Times.{time-short}
 use Rattle.matching.specs.declared.Order.{Order}
 use Rattle.matching.specs.declared.Event.{Event}
 use Rattle.matching.specs.declared.Event.the-variants.{Accepted, Replaced, Withdrawn}
-use Rattle.matching.specs.Matching.{Book, at, openOf, minimumOf, decidedAfter, change, after, partner, happens, bookAfter, workAfter}
+use Rattle.matching.specs.Matching.{Book, at, openOf, minimumOf, decidedAfter, who, change, after, partner, happens, bookAfter, workAfter}
+use Rattle.matching.specs.Quoted.{Quoted, AllQuoted}
 use Rattle.matching.specs.Held.{In, Held, Ready, Takes, Enters, Renews}
 use Rattle.matching.proofs.Conserved.{takes-low}
 use Rattle.matching.proofs.Placing.{place-either}
@@ -27,22 +29,25 @@ use Rattle.matching.proofs.Events.{play-minimum}
 use Rattle.matching.proofs.Sounds.{minimum-most}
 use Rattle.matching.proofs.Steps.{happens-fits}
 use Rattle.matching.proofs.Holding.{step-ready, step-held}
+use Rattle.matching.proofs.Quoting.{step-quoted, moved-quoted, renewed-quoted, accepted-quoted}
 use Rattle.matching.proofs.Requests.{later-held, takes-in, accepted-held, replaced-held, withdrawn-fits, withdrawn-held}
+use Rattle.table.specs.declared.record.Marks.{Marks}
 use Rattle.table.specs.Places.{tableBytes}
-use Rattle.table.specs.Heading.{nextOf, workOf, decidedOf, mpidAt, entries, entryOf, modeOf, isListed, putNext, putWork, putDecided}
-use Rattle.table.specs.Orders.{orderIdAt, orderAt, filled, bookOf, termBytes, putId, putTerms, putAmounts, applied, withdrawn, replaced, accepted}
+use Rattle.table.specs.Heading.{nextOf, workOf, instrumentOf, decidedOf, mpidAt, entries, entryOf, modeOf, isListed, putNext, putWork, putDecided}
+use Rattle.table.specs.Orders.{orderIdAt, orderAt, filled, bookOf, termBytes, amountBytes, recordOf, putId, putTerms, putAmounts, applied, withdrawn, replaced, accepted}
 use Rattle.table.specs.Best.{bestDue, bookRow, putBest, clearBest}
-use Rattle.table.specs.Market.{every, isPrintable, isEntry, hasList, hasSettings, hasWork, isCapacity, isClass, hasDecision, hasBest}
+use Rattle.table.specs.Market.{every, isPrintable, isEntry, hasList, hasSettings, hasWork, isMarked, hasDecision, hasBest}
 use Rattle.table.specs.Facts.{FreshNumbers, Market, Named}
 use Rattle.table.specs.Changes.{played, missesNow, stepEvents, stepWork, numbered, stepped, entered, renewed, taken}
 use Rattle.octets.proofs.Searches.{first-holds}
-use Rattle.table.proofs.Same.{Same, same-in, same-then, put-below, put-above, next-same, work-same, decided-same}
+use Rattle.table.proofs.Same.{Same, same-in, same-then, put-below, put-above, next-same, work-same, instrument-same, decided-same}
+use Rattle.table.proofs.Instruments.{instrument-below, instrument-above}
 use Rattle.table.proofs.Stores.{Terms, Sized, next-got, work-got, decided-got}
 use Rattle.table.proofs.Books.{length-book, at-book}
-use Rattle.table.proofs.Frames.{Framed, framed-long, framed-filled, framed-listed, framed-order-ids, framed-self, framed-then, framed-heading, framed-decided, framed-best, Formed, Unnoted, Untopped, topped-market, market-formed, framed-formed}
+use Rattle.table.proofs.Frames.{Framed, framed-long, framed-filled, framed-instrument, framed-listed, framed-order-ids, framed-self, framed-then, framed-heading, framed-decided, framed-best, Formed, Unnoted, Untopped, quoted-book, topped-market, market-formed, framed-formed}
 use Rattle.table.proofs.Applied.{Played, all-played, fits-move, heading-applied, framed-applied, book-applied, framed-terms, book-terms, book-next, book-work, book-decided, book-best, sound-amounts}
-use Rattle.table.proofs.Naming.{named-formed, named-heading, named-order-ids, named-book, named-order, named-filled, named-listed}
-use Rattle.table.proofs.Entering.{entered-formed, entered-heading, entered-order-ids, entered-filled, entered-book, entered-listed}
+use Rattle.table.proofs.Naming.{named-formed, named-heading, named-instrument, named-order-ids, named-book, named-order, named-filled, named-listed}
+use Rattle.table.proofs.Entering.{entered-formed, entered-heading, entered-instrument, entered-order-ids, entered-filled, entered-book, entered-listed}
 use Rattle.table.proofs.Bests.{length-due, due-idle, due-busy, has-best-put, has-best-same, has-best-busy}
 use Rattle.table.proofs.Working.{has-work-kept, has-work-put, has-work-none, undecided, idle-undecided, least-undecided, decided-after}
 
@@ -59,7 +64,7 @@ decided-next t n = decided-same (put-above t 28 (bytesOf 4 n) 96 97 (omega (arit
 
 -- a table with the frame of a formed one, its work in order and its book held, once its next number is set
 module _ (t u : List ℕ) (m : Formed t) (f : Framed t u) (w : hasWork u ≡ true) (n : ℕ) (low : 1 ≤ n) (ids : FreshNumbers (orderIdAt t) n (filled t))
-    (h : Held (isListed t) n (bookOf u) (workOf u)) where
+    (h : Held (isListed t) n (bookOf u) (workOf u)) (quoted : AllQuoted (instrumentOf t) (bookOf u)) where
   long : length u ≡ tableBytes
   long = framed-long t u (m .long) f
 
@@ -78,6 +83,7 @@ module _ (t u : List ℕ) (m : Formed t) (f : Framed t u) (w : hasWork u ≡ tru
         next-low = omega arith;
         order-ids = framed-order-ids t v (m .long) k n (nextOf v) (omega arith) ids;
         held = rw (e, x, b, framed-listed t v (m .long) k) h;
+        quoted = rw (b, framed-instrument t v (m .long) k) quoted;
       }
 
   -- with its decision as it was, where nothing is decided
@@ -114,6 +120,7 @@ module _ (t : List ℕ) (u : Unnoted t) (d : ℕ) (g : hasDecision (bookOf t) (w
               next-low = rw e (u .next-low);
               order-ids = framed-order-ids t v long f (nextOf t) (nextOf v) (omega arith) (u .order-ids);
               held = rw (e, x, b, framed-listed t v long f) (u .held);
+              quoted = rw (b, framed-instrument t v long f) (u .quoted);
             };
         decision = rw (b, x, n) g;
       }
@@ -144,6 +151,7 @@ module _ (t : List ℕ) (u : Untopped t) where
               next-low = rw e (w .next-low);
               order-ids = framed-order-ids t v long f (nextOf t) (nextOf v) (omega arith) (w .order-ids);
               held = rw (e, x, b, framed-listed t v long f) (w .held);
+              quoted = rw (b, framed-instrument t v long f) (w .quoted);
             };
         decision = rw (b, x, d) (u .decision);
       })
@@ -158,7 +166,8 @@ module _ (t : List ℕ) (u : Untopped t) where
 
 -- the same, and with another order in work or none
 module _ (t u : List ℕ) (m : Formed t) (f : Framed t u) (n : ℕ) (low : 1 ≤ n) (ids : FreshNumbers (orderIdAt t) n (filled t))
-    (w : ℕ) (stamp : List ℕ) (short : length stamp ≤ 21) (h : Held (isListed t) n (bookOf u) w) where
+    (w : ℕ) (stamp : List ℕ) (short : length stamp ≤ 21) (h : Held (isListed t) n (bookOf u) w)
+    (quoted : AllQuoted (instrumentOf t) (bookOf u)) where
   numbered-long : length (putNext u n) ≡ tableBytes
   numbered-long = framed-long t (putNext u n) (m .long) (framed-then t u (putNext u n) (m .long) f (framed-next u n))
 
@@ -179,6 +188,7 @@ module _ (t u : List ℕ) (m : Formed t) (f : Framed t u) (n : ℕ) (low : 1 ≤
         next-low = omega arith;
         order-ids = framed-order-ids t v (m .long) k n (nextOf v) (omega arith) ids;
         held = rw (e, d, b, framed-listed t v (m .long) k) h;
+        quoted = rw (b, framed-instrument t v (m .long) k) quoted;
       }
 
   -- with its decision as it was, where nothing is decided
@@ -206,6 +216,10 @@ work-stays missed b w n =
 later-order-ids : (t : List ℕ) (n : ℕ) → Market t → nextOf t ≤ n → FreshNumbers (orderIdAt t) n (filled t)
 later-order-ids t n m l = framed-order-ids t t (m .long) (framed-self t) (nextOf t) n l (m .order-ids)
 
+-- what it asks of each order, told of its book
+pub market-quoted : (t : List ℕ) → Market t → AllQuoted (instrumentOf t) (bookOf t)
+market-quoted t m = quoted-book t (instrumentOf t) (m .quoted)
+
 -- a step on a market with an order in work leaves a market
 pub stepped-kept : (t : List ℕ) → Market t → 1 ≤ workOf t → Market (stepped t)
 unfolding stepped stepEvents stepWork numbered
@@ -226,18 +240,19 @@ stepped-kept t m l =
     let v : ℕ = workAfter d b w in
     let h : Held (isListed t) n (bookOf u) v = rw c (step-held (isListed t) (modeOf t) d (nextOf t) b w i (m .held)) in
     let ids : FreshNumbers (orderIdAt t) n (filled t) = later-order-ids t n m (omega arith) in
-    let z : length (putNext u n) ≡ tableBytes = numbered-long t u (market-formed t m) (p .framed) n low ids v [] (lit≤ tt) h in
+    let quoted : AllQuoted (instrumentOf t) (bookOf u) = rw c (step-quoted (instrumentOf t) (modeOf t) d b w i (market-quoted t m)) in
+    let z : length (putNext u n) ≡ tableBytes = numbered-long t u (market-formed t m) (p .framed) n low ids v [] (lit≤ tt) h quoted in
     split (eqb v 0)
     (λ x.
     let q : v ≡ 0 = eqb-true v 0 x in
-    let r = reworked t u (market-formed t m) (p .framed) n low ids 0 [] (lit≤ tt) (subst (λ (k : ℕ). Held (isListed t) n (bookOf u) k) q h) (has-work-none (putNext u n) z) in
+    let r = reworked t u (market-formed t m) (p .framed) n low ids 0 [] (lit≤ tt) (subst (λ (k : ℕ). Held (isListed t) n (bookOf u) k) q h) quoted (has-work-none (putNext u n) z) in
     let v1 : List ℕ = putWork (putNext u n) 0 [] in
     let y1 : workOf (putDecided v1 0) ≡ 0 = work-same (put-below v1 96 (0 ∷ []) 32 33 (lit≤ tt)) ∙ work-got (putNext u n) 0 [] (omega arith) (lit≤ tt) in
     rw (x, e) (put-best-kept (putDecided v1 0) (noted-kept v1 r 0 (undecided _ _ 0 refl)) y1))
     (λ x.
     let q : v ≡ w = work-stays d b w (eqb-false v 0 x) in
     let g : hasWork u ≡ true = has-work-kept t u (m .long) (same-in 32 55 (p .heading) (lit≤ tt) (lit≤ tt)) (omega (arith, framed-filled t u (m .long) (p .framed))) (m .work) in
-    let r = renumbered t u (market-formed t m) (p .framed) g n low ids (subst (λ (k : ℕ). Held (isListed t) n (bookOf u) k) (q ∙ sym y) h) in
+    let r = renumbered t u (market-formed t m) (p .framed) g n low ids (subst (λ (k : ℕ). Held (isListed t) n (bookOf u) k) (q ∙ sym y) h) quoted in
     let a : bookOf (putNext u n) ≡ bookAfter (modeOf t) d b w = book-next u n (framed-long t u (m .long) (p .framed)) ∙ c in
     let j : workOf (putNext u n) ≡ w = work-same (same-in 32 33 (work-next u n) (lit≤ tt) (lit≤ tt)) ∙ y in
     let o : minimumOf (at (bookAfter (modeOf t) d b w) w) ≡ minimumOf (at b w) = play-minimum w es b (happens-fits (modeOf t) d b w i) in
@@ -270,7 +285,7 @@ numbered-kept t n m e h =
     let s : Same v t 97 128 = put-above t 28 (bytesOf 4 (nextOf t + n)) 97 128 (omega (arith, length-bytesOf 4 (nextOf t + n))) in
     let w : workOf v ≡ workOf t = work-same (same-in 32 33 (work-next t (nextOf t + n)) (lit≤ tt) (lit≤ tt)) in
     topped-market v
-    (renumbered-idle t t (market-formed t m) (framed-self t) (m .work) (nextOf t + n) (omega (arith, m .next-low)) (later-order-ids t (nextOf t + n) m (omega arith)) later (idle-decided t m e))
+    (renumbered-idle t t (market-formed t m) (framed-self t) (m .work) (nextOf t + n) (omega (arith, m .next-low)) (later-order-ids t (nextOf t + n) m (omega arith)) later (market-quoted t m) (idle-decided t m e))
     (has-best-same t v s w (book-next t (nextOf t + n) (m .long)) (m .best))
 
 -- ---- a replacement's terms are of their widths, whether it keeps its place or takes the one given
@@ -314,6 +329,9 @@ module _ (t : List ℕ) (k : ℕ) (clOrdId : List ℕ) (m : Market t) (e : workO
   held : Held (isListed t) (nextOf t) (bookOf t) 0
   held = rw e at (m .held)
 
+  kind : instrumentOf (putId t k clOrdId) ≡ instrumentOf t
+  kind = named-instrument t k clOrdId (market-formed t m) (i .low) high g
+
   order-ids : FreshNumbers (orderIdAt (putId t k clOrdId)) (nextOf t + 1) (filled (putId t k clOrdId))
   order-ids = named-order-ids t k clOrdId (market-formed t m) (i .low) high g (nextOf t) (nextOf t + 1) (omega arith) (m .order-ids)
 
@@ -338,17 +356,19 @@ module _ (t : List ℕ) (k : ℕ) (clOrdId : List ℕ) (m : Market t) (e : workO
       let z : filled u ≡ filled t = framed-filled t1 u (formed .long) f ∙ filled-there in
       let h : Held (isListed t1) (nextOf t + 1) (bookOf u) (workOf u) =
       rw (b, w, named-listed t k clOrdId (market-formed t m) (i .low) high g) (withdrawn-held (isListed t) (nextOf t) (bookOf t) k held i low) in
+      let quoted : AllQuoted (instrumentOf t1) (bookOf u) =
+      rw (b, kind) (moved-quoted (instrumentOf t) (bookOf t) v fit (omega arith) (market-quoted t m)) in
       let x : putAmounts t1 k (change v (orderAt t k)) ≡ u = rw order in
       let d : decidedOf u ≡ 0 = decided-same (same-in 96 97 (same-then s heading) (lit≤ tt) (lit≤ tt)) ∙ idle-decided t m e in
       let y : workOf (putNext u (nextOf t + 1)) ≡ 0 = work-same (same-in 32 33 (work-next u (nextOf t + 1)) (lit≤ tt) (lit≤ tt)) ∙ w in
-      rw (x, n) (put-best-kept (putNext u (nextOf t + 1)) (renumbered-idle t1 u formed f (idle u s z) (nextOf t + 1) (omega arith) order-ids h d) y)
+      rw (x, n) (put-best-kept (putNext u (nextOf t + 1)) (renumbered-idle t1 u formed f (idle u s z) (nextOf t + 1) (omega arith) order-ids h quoted d) y)
 
   -- ---- a replacement
 
-  pub renewed-kept : (l q p : ℕ) (stamp : List ℕ) → Renews (nextOf t) (bookOf t) k l q p → isTime stamp ≡ true
+  pub renewed-kept : (l q p : ℕ) (stamp : List ℕ) → Renews (nextOf t) (bookOf t) k l q p → l ≤ highest (instrumentOf t) → isTime stamp ≡ true
       → Market (renewed t clOrdId (Replaced k l q p) stamp)
   unfolding renewed replaced numbered change after
-  renewed-kept l q p stamp a time =
+  renewed-kept l q p stamp a top time =
       let v : Event = Replaced k l q p in
       let t1 : List ℕ = putId t k clOrdId in
       let c : Order = change v (orderAt t k) in
@@ -362,15 +382,17 @@ module _ (t : List ℕ) (k : ℕ) (clOrdId : List ℕ) (m : Market t) (e : workO
       let n : nextOf u ≡ nextOf t = next-same (same-in 28 32 (same-then s heading) (lit≤ tt) (lit≤ tt)) in
       let h : Held (isListed t1) (nextOf t + 1) (bookOf u) k =
       rw (b, named-listed t k clOrdId (market-formed t m) (i .low) high g) (replaced-held (isListed t) (nextOf t) (bookOf t) k l q p held a) in
+      let quoted : AllQuoted (instrumentOf t1) (bookOf u) =
+      rw (b, kind) (renewed-quoted (instrumentOf t) (bookOf t) k l q p i top (market-quoted t m)) in
       let x : List ℕ = putNext u (nextOf t + 1) in
       let short = time-short stamp time in
-      let longer = numbered-long t1 u formed f (nextOf t + 1) (omega arith) order-ids k stamp short h in
+      let longer = numbered-long t1 u formed f (nextOf t + 1) (omega arith) order-ids k stamp short h quoted in
       let same : filled (putWork x k stamp) ≡ filled t =
       framed-filled x (putWork x k stamp) longer (framed-work x k stamp short)
       ∙ framed-filled u x (framed-long t1 u long f) (framed-next u (nextOf t + 1))
       ∙ framed-filled t1 u long f ∙ filled-there in
       let d : decidedOf u ≡ 0 = decided-same (same-in 96 97 (same-then s heading) (lit≤ tt) (lit≤ tt)) ∙ idle-decided t m e in
-      rw n (reworked-cleared t1 u formed f (nextOf t + 1) (omega arith) order-ids k stamp short h (has-work-put x k stamp longer (i .low) (omega (arith, high)) time) d (i .low))
+      rw n (reworked-cleared t1 u formed f (nextOf t + 1) (omega arith) order-ids k stamp short h quoted (has-work-put x k stamp longer (i .low) (omega (arith, high)) time) d (i .low))
 
 -- ---- a new order
 
@@ -401,57 +423,63 @@ enters-sized t n o m a =
     }
 
 -- a new order as record k, with the next number as its OrderID: what stands afterwards, but for the number and the work
-module _ (t : List ℕ) (k : ℕ) (clOrdId account : List ℕ) (capacity class : ℕ) (o : Order) (m : Market t) (g : Named t clOrdId) (few : length account ≤ 10)
-    (printable : every isPrintable account ≡ true) (cap : isCapacity capacity ≡ true) (cls : isClass class ≡ true)
+module _ (t : List ℕ) (k : ℕ) (clOrdId account : List ℕ) (marks : Marks) (o : Order) (m : Market t) (g : Named t clOrdId) (few : length account ≤ 10)
+    (printable : every isPrintable account ≡ true) (marked : isMarked (instrumentOf t) marks ≡ true)
     (a : Enters (isListed t) (nextOf t) (bookOf t) k o) where
   small-number : nextOf t < 256 ^ 4
   small-number = omega (arith, a .numbered)
 
-  pub new-formed : Formed (accepted t k (nextOf t) clOrdId account capacity class o)
+  pub new-formed : Formed (accepted t k (nextOf t) clOrdId account marks o)
   new-formed =
-      entered-formed t k (nextOf t) clOrdId account capacity class o (market-formed t m) (a .number) (a .free) g few printable cap cls (m .next-low) small-number
+      entered-formed t k (nextOf t) clOrdId account marks o (market-formed t m) (a .number) (a .free) g few printable marked (m .next-low) small-number
 
-  pub new-heading : Same (accepted t k (nextOf t) clOrdId account capacity class o) t 0 128
+  pub new-heading : Same (accepted t k (nextOf t) clOrdId account marks o) t 0 128
   new-heading =
-      entered-heading t k (nextOf t) clOrdId account capacity class o (market-formed t m) (a .number) (a .free) g few printable cap cls (m .next-low) small-number
+      entered-heading t k (nextOf t) clOrdId account marks o (market-formed t m) (a .number) (a .free) g few printable marked (m .next-low) small-number
 
-  pub new-filled : filled (accepted t k (nextOf t) clOrdId account capacity class o) ≡ length (after (bookOf t) (Accepted k o))
+  pub new-filled : filled (accepted t k (nextOf t) clOrdId account marks o) ≡ length (after (bookOf t) (Accepted k o))
   unfolding after change
   new-filled =
-      entered-filled t k (nextOf t) clOrdId account capacity class o (market-formed t m) (a .number) (a .free) g few printable cap cls (m .next-low) small-number
+      entered-filled t k (nextOf t) clOrdId account marks o (market-formed t m) (a .number) (a .free) g few printable marked (m .next-low) small-number
 
-  pub new-book : bookOf (accepted t k (nextOf t) clOrdId account capacity class o) ≡ after (bookOf t) (Accepted k o)
+  pub new-book : bookOf (accepted t k (nextOf t) clOrdId account marks o) ≡ after (bookOf t) (Accepted k o)
   unfolding after change
   new-book =
-      entered-book t k (nextOf t) clOrdId account capacity class o (market-formed t m) (a .number) (a .free) g few printable cap cls (m .next-low) small-number
+      entered-book t k (nextOf t) clOrdId account marks o (market-formed t m) (a .number) (a .free) g few printable marked (m .next-low) small-number
       (enters-sized t k o m a)
 
-  new-order-ids : FreshNumbers (orderIdAt (accepted t k (nextOf t) clOrdId account capacity class o)) (nextOf t + 1) (filled (accepted t k (nextOf t) clOrdId account capacity class o))
+  new-order-ids : FreshNumbers (orderIdAt (accepted t k (nextOf t) clOrdId account marks o)) (nextOf t + 1) (filled (accepted t k (nextOf t) clOrdId account marks o))
   new-order-ids =
-      entered-order-ids t k (nextOf t) clOrdId account capacity class o (market-formed t m) (a .number) (a .free) g few printable cap cls (m .next-low) small-number
+      entered-order-ids t k (nextOf t) clOrdId account marks o (market-formed t m) (a .number) (a .free) g few printable marked (m .next-low) small-number
       (m .order-ids)
 
-  new-listed : isListed (accepted t k (nextOf t) clOrdId account capacity class o) ≡ isListed t
+  new-listed : isListed (accepted t k (nextOf t) clOrdId account marks o) ≡ isListed t
   new-listed =
-      entered-listed t k (nextOf t) clOrdId account capacity class o (market-formed t m) (a .number) (a .free) g few printable cap cls (m .next-low) small-number
+      entered-listed t k (nextOf t) clOrdId account marks o (market-formed t m) (a .number) (a .free) g few printable marked (m .next-low) small-number
+
+  pub new-instrument : instrumentOf (accepted t k (nextOf t) clOrdId account marks o) ≡ instrumentOf t
+  new-instrument =
+      entered-instrument t k (nextOf t) clOrdId account marks o (market-formed t m) (a .number) (a .free) g few printable marked (m .next-low) small-number
 
   -- the record is one of the filled ones
-  new-inside : k ≤ filled (accepted t k (nextOf t) clOrdId account capacity class o)
+  new-inside : k ≤ filled (accepted t k (nextOf t) clOrdId account marks o)
   unfolding after change
   new-inside = rw new-filled (takes-in (bookOf t) k o (a .number) .high)
 
-  pub entered-kept : (stamp : List ℕ) → workOf t ≡ 0 → isTime stamp ≡ true → Market (entered t k clOrdId account capacity class o stamp)
+  pub entered-kept : (stamp : List ℕ) → Quoted (instrumentOf t) o → workOf t ≡ 0 → isTime stamp ≡ true → Market (entered t k clOrdId account marks o stamp)
   unfolding entered numbered
-  entered-kept stamp e time =
-      let u : List ℕ = accepted t k (nextOf t) clOrdId account capacity class o in
+  entered-kept stamp within e time =
+      let u : List ℕ = accepted t k (nextOf t) clOrdId account marks o in
       let s = new-heading in
       let n : nextOf u ≡ nextOf t = next-same (same-in 28 32 s (lit≤ tt) (lit≤ tt)) in
       let held : Held (isListed t) (nextOf t) (bookOf t) 0 = rw e at (m .held) in
       let h : Held (isListed u) (nextOf t + 1) (bookOf u) k =
       rw (new-book, new-listed) (accepted-held (isListed t) (nextOf t) (bookOf t) k o held a) in
+      let quoted : AllQuoted (instrumentOf u) (bookOf u) =
+      rw (new-book, new-instrument) (accepted-quoted (instrumentOf t) (bookOf t) k o (a .number) within (market-quoted t m)) in
       let x : List ℕ = putNext u (nextOf t + 1) in
       let short = time-short stamp time in
-      let longer = numbered-long u u new-formed (framed-self u) (nextOf t + 1) (omega arith) new-order-ids k stamp short h in
+      let longer = numbered-long u u new-formed (framed-self u) (nextOf t + 1) (omega arith) new-order-ids k stamp short h quoted in
       let same : filled (putWork x k stamp) ≡ filled u =
       framed-filled x (putWork x k stamp) longer (framed-work x k stamp short)
       ∙ framed-filled u x (new-formed .long) (framed-next u (nextOf t + 1)) in
@@ -459,5 +487,72 @@ module _ (t : List ℕ) (k : ℕ) (clOrdId account : List ℕ) (capacity class :
       let low = takes-low (bookOf t) k (a .number) in
       let high = new-inside in
       rw n
-      (reworked-cleared u u new-formed (framed-self u) (nextOf t + 1) (omega arith) new-order-ids k stamp short h
+      (reworked-cleared u u new-formed (framed-self u) (nextOf t + 1) (omega arith) new-order-ids k stamp short h quoted
       (has-work-put x k stamp longer low (omega arith) time) d low)
+
+-- ---- what the market trades is the same after each
+
+instrument-next : (t : List ℕ) (n : ℕ) → instrumentOf (putNext t n) ≡ instrumentOf t
+instrument-next t n = instrument-above t 28 (bytesOf 4 n) (omega (arith, length-bytesOf 4 n))
+
+instrument-work : (t : List ℕ) (w : ℕ) (stamp : List ℕ) → length stamp ≤ 21 → instrumentOf (putWork t w stamp) ≡ instrumentOf t
+instrument-work t w stamp h = instrument-above t 32 (w ∷ textBytes 21 stamp) (omega (arith, length-textBytes 21 stamp h))
+
+instrument-decided : (t : List ℕ) (d : ℕ) → instrumentOf (putDecided t d) ≡ instrumentOf t
+instrument-decided t d = instrument-below t 96 (d ∷ []) (lit≤ tt)
+
+instrument-best : (t vs : List ℕ) → instrumentOf (put t 97 vs) ≡ instrumentOf t
+instrument-best t vs = instrument-below t 97 vs (lit≤ tt)
+
+pub stepped-instrument : (t : List ℕ) → Market t → 1 ≤ workOf t → instrumentOf (stepped t) ≡ instrumentOf t
+unfolding stepped stepEvents stepWork numbered
+stepped-instrument t m l =
+    let b : Book = bookOf t in
+    let w : ℕ = workOf t in
+    let d : Bool = missesNow t in
+    let es : List Event = happens (modeOf t) d b w in
+    let i : In b w = record { low = l; high = m .held .work } in
+    let p : Played t es =
+    all-played es t (m .long) (fits-move es b (happens-fits (modeOf t) d b w i)) (step-ready (isListed t) (modeOf t) d (nextOf t) b w i (m .held)) in
+    let u : List ℕ = played t es in
+    let n : ℕ = nextOf u + length es in
+    let x : List ℕ = putNext u n in
+    let same : instrumentOf x ≡ instrumentOf t = instrument-next u n ∙ instrument-same (same-in 55 56 (p .heading) (lit≤ tt) (lit≤ tt)) in
+    split (eqb (workAfter d b w) 0)
+    (λ z. rw z
+    (instrument-best (putDecided (putWork x 0 []) 0) (bookRow (putDecided (putWork x 0 []) 0))
+    ∙ instrument-decided (putWork x 0 []) 0 ∙ instrument-work x 0 [] (lit≤ tt) ∙ same))
+    (λ z. rw z (instrument-decided x (decidedAfter b w) ∙ same))
+
+pub numbered-instrument : (t : List ℕ) (n : ℕ) → instrumentOf (numbered t n) ≡ instrumentOf t
+unfolding numbered
+numbered-instrument t n = instrument-next t (nextOf t + n)
+
+pub taken-instrument : (t clOrdId : List ℕ) (e : Event) → 1 ≤ who e → instrumentOf (taken t clOrdId e) ≡ instrumentOf t
+unfolding taken withdrawn
+taken-instrument t clOrdId e l =
+    let t1 : List ℕ = putId t (who e) clOrdId in
+    let u : List ℕ = putAmounts t1 (who e) (change e (orderAt t (who e))) in
+    instrument-best (numbered u 1) (bookRow (numbered u 1)) ∙ numbered-instrument u 1
+    ∙ instrument-below t1 (128 * who e + 64) (amountBytes (change e (orderAt t (who e)))) (omega arith)
+    ∙ instrument-below t (128 * who e) (textBytes 32 clOrdId) (omega arith)
+
+pub renewed-instrument : (t clOrdId : List ℕ) (e : Event) (stamp : List ℕ) → 1 ≤ who e → isTime stamp ≡ true → instrumentOf (renewed t clOrdId e stamp) ≡ instrumentOf t
+unfolding renewed replaced
+renewed-instrument t clOrdId e stamp l time =
+    let t1 : List ℕ = putId t (who e) clOrdId in
+    let c : Order = change e (orderAt t (who e)) in
+    let u : List ℕ = putTerms t1 (who e) c in
+    instrument-best (putWork (numbered u 1) (who e) stamp) (replicate 31 0)
+    ∙ instrument-work (numbered u 1) (who e) stamp (time-short stamp time) ∙ numbered-instrument u 1
+    ∙ instrument-below t1 (128 * who e + 48) (termBytes c) (omega arith)
+    ∙ instrument-below t (128 * who e) (textBytes 32 clOrdId) (omega arith)
+
+pub entered-instruments : (t : List ℕ) (k : ℕ) (clOrdId account : List ℕ) (marks : Marks) (o : Order) (stamp : List ℕ) → 1 ≤ k → isTime stamp ≡ true
+    → instrumentOf (entered t k clOrdId account marks o stamp) ≡ instrumentOf t
+unfolding entered accepted
+entered-instruments t k clOrdId account marks o stamp l time =
+    let u : List ℕ = accepted t k (nextOf t) clOrdId account marks o in
+    instrument-best (putWork (numbered u 1) k stamp) (replicate 31 0)
+    ∙ instrument-work (numbered u 1) k stamp (time-short stamp time) ∙ numbered-instrument u 1
+    ∙ instrument-below t (128 * k) (recordOf (nextOf t) clOrdId account marks o) (omega arith)

@@ -1,14 +1,15 @@
 -- The laws of `table`, for the proofs of this crate and of those above it. Nothing here need be believed.
--- Loaded: an order as the loader reads it; Same: what is read depends on the bytes it is read from; Stores: what stands
--- after a store; Writes: parts of a record make the record; Books: the book of a table; Lookups: searches over the
--- records; Fresh: numbers that no two records share; Facts: the test of a market as facts; Listed: the MPIDs; Frames: all but
--- number, work, best levels and amounts; Applied: stores against events; Texts: texts put; Events: applying an event; Working: the
--- order in work; Bests: the best levels in the heading; Fronts: the best level found by looking; Naming: a record takes another
--- ClOrdID; Entering: a record is written anew; Settings: settings tested and written; Kept: a market stays a market; OrderIds: which
--- records keep theirs; Opens: opening makes one; Notes: turns with quantities; Looks: what an order would trade, found by looking;
--- Promises: what a market says of its texts and OrderIDs; Theorems: what people read.
+-- Loaded: an order as the loader reads it; Same: what is read depends on the bytes it is read from; Instruments: what a market
+-- trades, and its marks; Stores: what stands after a store; Writes: parts of a record make the record; Books: the book of a table;
+-- Lookups: searches over the records; Fresh: numbers that no two records share; Facts: the test of a market as facts; Listed: the
+-- MPIDs; Frames: all but number, work, best levels and amounts; Applied: stores against events; Texts: texts put; Events: applying
+-- an event; Working: the order in work; Bests: the best levels in the heading; Fronts: the best level found by looking; Naming: a
+-- record takes another ClOrdID; Entering: a record is written anew; Settings: settings tested and written; Kept: a market stays a
+-- market; OrderIds: which records keep theirs; Opens: opening makes one; Notes: turns with quantities; Looks: what an order would
+-- trade, found by looking; Promises: what a market says of its texts and OrderIDs; Theorems: what people read.
 pub mod Loaded
 pub mod Same
+pub mod Instruments
 pub mod Stores
 pub mod Writes
 pub mod Books

@@ -1,6 +1,6 @@
 -- A record takes a new ClOrdID: the table stays formed if the ClOrdID is good and no order has it.
 use mathlib.Core.Path.{_≡_, sym, ap, _∙_}
-use mathlib.Core.Bool.{true, false}
+use mathlib.Core.Bool.{true, false, _&&_}
 use mathlib.Core.List.{List}
 use mathlib.Core.Logic.{⊎-elim}
 use Prim.Native.Nat.{ℕ, _+_, _*_, _≤_, _<_}
@@ -13,11 +13,11 @@ use Rattle.octets.proofs.Bools.{split, both-i, both-l, both-r}
 use Rattle.octets.proofs.Places.{below-or}
 use Rattle.octets.proofs.Parts.{length-textBytes, text-put-first, same-not, not-same}
 use Rattle.table.specs.Places.{recordAt}
-use Rattle.table.specs.Heading.{isListed}
-use Rattle.table.specs.Orders.{clOrdIdAt, orderIdAt, capacityAt, classificationAt, orderAt, filled, bookOf, putId}
-use Rattle.table.specs.Market.{isPrintable, isText, restZero, isCapacity, isClass, isRecord}
+use Rattle.table.specs.Heading.{instrumentOf, isListed}
+use Rattle.table.specs.Orders.{clOrdIdAt, orderIdAt, capacityAt, classificationAt, cashAt, marginAt, marksAt, orderAt, filled, bookOf, putId}
+use Rattle.table.specs.Market.{isPrintable, isText, restZero, isCapacity, isClass, isCash, isMarked, isRecord}
 use Rattle.table.specs.Facts.{FreshNumbers, Named}
-use Rattle.table.proofs.Same.{Same, same-in, put-below, put-above, is-text-same, part-same, rest-same, record-parts, order-same, id-same, order-id-same, settings-same, spare-same, listed-same, filled-few, book-same}
+use Rattle.table.proofs.Same.{Same, same-in, put-below, put-above, is-text-same, part-same, rest-same, marks-same, record-parts, order-same, id-same, order-id-same, instrument-same, settings-same, kind-same, listed-same, filled-few, book-same}
 use Rattle.table.proofs.Stores.{id-got, id-keeps}
 use Rattle.table.proofs.Texts.{is-text-put}
 use Rattle.table.proofs.Fresh.{fresh-same}
@@ -39,10 +39,10 @@ zero-rest t n e h = rw e h
 -- the parts of a good record
 module _ (t : List ℕ) (i : ℕ) where
   pub parts-record : isText isPrintable 1 32 t (recordAt i) ≡ true → isText isPrintable 0 10 t (recordAt i + 33) ≡ true
-      → isCapacity (capacityAt t i) ≡ true → isClass (classificationAt t i) ≡ true → 1 ≤ orderIdAt t i
-      → allZero (partAt t (recordAt i + 92) 36) ≡ true → isRecord t i ≡ true
+      → isMarked (instrumentOf t) (marksAt t i) ≡ true → 1 ≤ orderIdAt t i
+      → allZero (partAt t (recordAt i + 94) 34) ≡ true → isRecord t i ≡ true
   unfolding isRecord
-  parts-record a b c d g e = both-i (both-i (both-i (both-i (both-i a b) c) d) (le-leb 1 (orderIdAt t i) g)) e
+  parts-record a b c g e = both-i (both-i (both-i (both-i a b) c) (le-leb 1 (orderIdAt t i) g)) e
 
   module _ (h : isRecord t i ≡ true) where
     pub record-id : isText isPrintable 1 32 t (recordAt i) ≡ true
@@ -53,19 +53,27 @@ module _ (t : List ℕ) (i : ℕ) where
     unfolding isRecord
     record-account = search (both-l, both-r)
 
-    pub record-capacity : isCapacity (capacityAt t i) ≡ true
+    pub record-marked : isMarked (instrumentOf t) (marksAt t i) ≡ true
     unfolding isRecord
-    record-capacity = search (both-l, both-r)
+    record-marked = search (both-l, both-r)
+
+    pub record-capacity : isCapacity (capacityAt t i) ≡ true
+    unfolding isMarked marksAt
+    record-capacity = both-l (isCapacity (capacityAt t i)) _ (both-l _ _ record-marked)
 
     pub record-class : isClass (classificationAt t i) ≡ true
-    unfolding isRecord
-    record-class = search (both-l, both-r)
+    unfolding isMarked marksAt
+    record-class = both-r (isCapacity (capacityAt t i)) _ (both-l _ _ record-marked)
+
+    pub record-cash : isCash (instrumentOf t) (cashAt t i) (marginAt t i) ≡ true
+    unfolding isMarked marksAt
+    record-cash = both-r (isCapacity (capacityAt t i) && isClass (classificationAt t i)) _ record-marked
 
     pub record-order-id : 1 ≤ orderIdAt t i
     unfolding isRecord
     record-order-id = leb-true 1 (orderIdAt t i) (search (both-l, both-r))
 
-    pub record-spare : allZero (partAt t (recordAt i + 92) 36) ≡ true
+    pub record-spare : allZero (partAt t (recordAt i + 94) 34) ≡ true
     unfolding isRecord
     record-spare = search both-r
 
@@ -79,6 +87,9 @@ module _ (t : List ℕ) (k : ℕ) (xs : List ℕ) (f : Formed t) (low : 1 ≤ k)
   -- all bytes but those of the ClOrdID are as they were
   pub named-heading : Same (putId t k xs) t 0 128
   named-heading = put-below t (128 * k) (textBytes 32 xs) 0 128 (omega arith)
+
+  pub named-instrument : instrumentOf (putId t k xs) ≡ instrumentOf t
+  named-instrument = instrument-same (same-in 55 56 named-heading (lit≤ tt) (lit≤ tt))
 
   named-behind : (e : ℕ) → Same (putId t k xs) t (128 * k + 33) e
   named-behind e = put-above t (128 * k) (textBytes 32 xs) (128 * k + 33) e (omega (arith, wide))
@@ -112,7 +123,7 @@ module _ (t : List ℕ) (k : ℕ) (xs : List ℕ) (f : Formed t) (low : 1 ≤ k)
       (λ z. let q = eqb-true i k z in rw q here)
       (λ z.
       let s = named-other i (eqb-false i k z) in
-      record-parts i (same-in (128 * i) (128 * i + 44) s (omega arith) (omega arith)) (same-in (128 * i + 46) (128 * i + 48) s (omega arith) (omega arith))
+      record-parts i (same-in 55 56 named-heading (lit≤ tt) (lit≤ tt)) (same-in (128 * i) (128 * i + 44) s (omega arith) (omega arith)) (same-in (128 * i + 46) (128 * i + 48) s (omega arith) (omega arith))
       (same-in (128 * i + 84) (128 * i + 128) s (omega arith) (omega arith))
       ∙ r)
     where
@@ -120,14 +131,15 @@ module _ (t : List ℕ) (k : ℕ) (xs : List ℕ) (f : Formed t) (low : 1 ≤ k)
       here =
           let r = f .records k low high in
           let s = named-behind (128 * k + 128) in
-          let c : capacityAt (putId t k xs) k ≡ capacityAt t k = s .byte (128 * k + 46) (omega arith) (omega arith) in
-          let d : classificationAt (putId t k xs) k ≡ classificationAt t k = s .byte (128 * k + 47) (omega arith) (omega arith) in
+          let c : marksAt (putId t k xs) k ≡ marksAt t k =
+          marks-same k (same-in (128 * k + 46) (128 * k + 48) s (omega arith) (omega arith)) (same-in (128 * k + 84) (128 * k + 128) s (omega arith) (omega arith)) in
+          let d = named-instrument in
           parts-record (putId t k xs) k
           (is-text-put 32 t (128 * k) xs (omega (arith, room)) (g .short) isPrintable 1 (g .some) (g .printable))
           (is-text-same isPrintable 0 10 (128 * k + 33) (128 * k + 128) s (omega arith) ∙ record-account t k r)
-          (rw c (record-capacity t k r)) (rw d (record-class t k r))
+          (rw (d, c) (record-marked t k r))
           (rw (order-id-same k (same-in (128 * k + 84) (128 * k + 128) s (omega arith) (omega arith))) (record-order-id t k r))
-          (ap allZero (part-same (128 * k + 92) 36 (128 * k + 128) (same-in (128 * k + 92) (128 * k + 128) s (omega arith) (omega arith)) (omega arith))
+          (ap allZero (part-same (128 * k + 94) 34 (128 * k + 128) (same-in (128 * k + 94) (128 * k + 128) s (omega arith) (omega arith)) (omega arith))
           ∙ record-spare t k r)
 
   -- the ClOrdIDs afterwards
@@ -162,8 +174,8 @@ module _ (t : List ℕ) (k : ℕ) (xs : List ℕ) (f : Formed t) (low : 1 ≤ k)
       let s = named-heading in
       record {
         long = s .size ∙ f .long;
-        settings = settings-same (same-in 0 28 s (lit≤ tt) (lit≤ tt)) (same-in 56 96 s (lit≤ tt) (lit≤ tt)) ∙ f .settings;
-        spare = spare-same (same-in 55 56 s (lit≤ tt) (lit≤ tt)) ∙ f .spare;
+        settings = settings-same (same-in 0 28 s (lit≤ tt) (lit≤ tt)) (same-in 55 96 s (lit≤ tt) (lit≤ tt)) ∙ f .settings;
+        kind = kind-same (same-in 55 56 s (lit≤ tt) (lit≤ tt)) ∙ f .kind;
         rest = rest;
         records = λ i l h. named-record i l (omega arith);
         ids = λ i j l h m. named-ids i j l h (omega arith);

@@ -1,6 +1,6 @@
 -- What opening writes is a market: with the settings it was given, the first number as the next, no order and nothing in work.
 use mathlib.Core.Path.{_≡_, refl, ap, _∙_}
-use mathlib.Core.Bool.{true, not}
+use mathlib.Core.Bool.{Bool, true, not}
 use mathlib.Core.List.{List, [], _∷_, _++_}
 use mathlib.Core.Logic.{⊎-elim, _⊎_, inl, inr}
 use Prim.Native.Nat.{ℕ, zero, suc, _+_, _*_, _-_, _^_, _≤_, _<_}
@@ -17,16 +17,17 @@ use Rattle.octets.proofs.Ranges.{all-from}
 use Rattle.octets.proofs.Places.{length-put, length-bytesOf, leAt-in, leAt-ext, leAt-bytesOf, getD-put-below, getD-put-above, getD-put-in, below-or}
 use Rattle.octets.proofs.Parts.{length-part, getD-part, length-textBytes}
 use Rattle.octets.proofs.Zeros.{zero-from}
-use Rattle.decimal.specs.Reading.{isDigit}
+use Rattle.decimal.specs.declared.Instrument.{Instrument}
 use Rattle.matching.proofs.Requests.{opened-held}
 use Rattle.table.specs.Places.{tableBytes}
-use Rattle.table.specs.Heading.{nextOf, workOf, decidedOf, mpidAt, modeAt, entries, isListed, mpidBytes, putVenue, putPort, putNext, putMpids, putModes}
+use Rattle.table.specs.Heading.{nextOf, workOf, kindNumber, instrumentOf, decidedOf, mpidAt, modeAt, entries, isListed, mpidBytes, putVenue, putPort, putKind, putNext, putMpids, putModes}
 use Rattle.table.specs.Orders.{filled, ordersFrom, bookOf}
-use Rattle.table.specs.Market.{isGraphic, hasNames, isEntry, hasList, hasSettings, hasSpare, restZero, isMarket}
+use Rattle.table.specs.Market.{isGraphic, isCodeCharacter, hasNames, isEntry, hasList, hasSettings, restZero, isMarketOf}
 use Rattle.table.specs.Facts.{Market}
 use Rattle.table.specs.Opened.{isNew, areGiven, areNames, areSettings, namedTable, freshTable, isOpening, opened}
 use Rattle.octets.proofs.Searches.{all-ext, first-is}
 use Rattle.table.proofs.Same.{Same, same-in, same-then, put-below, le-same, is-text-same, next-same}
+use Rattle.table.proofs.Instruments.{kind-noted, noted-kind, instrument-market}
 use Rattle.table.proofs.Stores.{next-got}
 use Rattle.table.proofs.Texts.{is-text-put}
 use Rattle.table.proofs.Working.{none-work, undecided}
@@ -90,12 +91,12 @@ mpid-bytes (m ∷ ms) (suc k) h small =
 
 -- ---- the table that opening writes
 
-module _ (venue port code : List ℕ) (first : ℕ) (mpids modes : List ℕ) (h : areSettings venue port code first mpids modes ≡ true) where
-  names : areNames venue port code ≡ true
-  names = settings-names venue port code first mpids modes h
+module _ (q : Instrument) (venue port code : List ℕ) (first : ℕ) (mpids modes : List ℕ) (h : areSettings q venue port code first mpids modes ≡ true) where
+  names : areNames q venue port code ≡ true
+  names = settings-names q venue port code first mpids modes h
 
   given : areGiven mpids modes ≡ true
-  given = settings-given venue port code first mpids modes h
+  given = settings-given q venue port code first mpids modes h
 
   few : length mpids ≤ 8
   few = given-few mpids modes given
@@ -120,37 +121,44 @@ module _ (venue port code : List ℕ) (first : ℕ) (mpids modes : List ℕ) (h 
   long-numbered : length numbered ≡ tableBytes
   long-numbered = length-put named 28 (bytesOf 4 first) ∙ long-named
 
+  abbrev noted : List ℕ
+  noted = putKind numbered q
+
+  long-noted : length noted ≡ tableBytes
+  long-noted = length-put numbered 55 (kindNumber q ∷ []) ∙ long-numbered
+
   abbrev listed : List ℕ
-  listed = putMpids numbered mpids
+  listed = putMpids noted mpids
 
   long-listed : length listed ≡ tableBytes
-  long-listed = length-put numbered 56 (mpidBytes mpids) ∙ long-numbered
+  long-listed = length-put noted 56 (mpidBytes mpids) ∙ long-noted
 
   abbrev fresh : List ℕ
   fresh = putModes listed modes
 
-  fresh-is : freshTable venue port code first mpids modes ≡ fresh
+  fresh-is : freshTable q venue port code first mpids modes ≡ fresh
   unfolding freshTable
   fresh-is = refl
 
   pub long-fresh : length fresh ≡ tableBytes
   long-fresh = length-put listed 88 modes ∙ long-listed
 
-  -- what is written neither by the names, nor as the first number, nor in the lists is zero
+  -- what is written neither by the names, nor as the first number, nor as the kind, nor in the lists is zero
   zero-named : (p : ℕ) → 28 ≤ p → getD named p 0 ≡ 0
   unfolding namedTable
   zero-named p l =
-      let a = length-textBytes 8 venue (venue-short venue port code names) in
-      let b = length-textBytes 8 port (port-short venue port code names) in
-      let c = length-textBytes 9 code (code-short venue port code names) in
+      let a = length-textBytes 8 venue (venue-short q venue port code names) in
+      let b = length-textBytes 8 port (port-short q venue port code names) in
+      let c = length-textBytes 9 code (code-short q venue port code names) in
       byte-off (putPort (putVenue (replicate 32768 0) venue) port) 18 (textBytes 9 code) p (inr (omega arith))
       ∙ byte-off (putVenue (replicate 32768 0) venue) 9 (textBytes 8 port) p (inr (omega arith))
       ∙ byte-off (replicate 32768 0) 0 (textBytes 8 venue) p (inr (omega arith)) ∙ byte-zero 32768 p
 
-  zero-fresh : (p : ℕ) → 32 ≤ p → (p < 56) ⊎ (56 + 4 * length mpids ≤ p) → (p < 88) ⊎ (88 + length modes ≤ p) → getD fresh p 0 ≡ 0
+  zero-fresh : (p : ℕ) → 32 ≤ p → (p < 55) ⊎ (56 + 4 * length mpids ≤ p) → (p < 88) ⊎ (88 + length modes ≤ p) → getD fresh p 0 ≡ 0
   zero-fresh p l x y =
       byte-off listed 88 modes p y
-      ∙ byte-off numbered 56 (mpidBytes mpids) p (⊎-elim (λ (z : p < 56). inl z) (λ (z : 56 + 4 * length mpids ≤ p). inr (omega (arith, length-mpids mpids))) x)
+      ∙ byte-off noted 56 (mpidBytes mpids) p (⊎-elim (λ (z : p < 55). inl (omega arith)) (λ (z : 56 + 4 * length mpids ≤ p). inr (omega (arith, length-mpids mpids))) x)
+      ∙ byte-off numbered 55 (kindNumber q ∷ []) p (⊎-elim (λ (z : p < 55). inl z) (λ (z : 56 + 4 * length mpids ≤ p). inr (omega arith)) x)
       ∙ byte-off named 28 (bytesOf 4 first) p (inr (omega (arith, length-bytesOf 4 first)))
       ∙ zero-named p (omega arith)
 
@@ -160,17 +168,29 @@ module _ (venue port code : List ℕ) (first : ℕ) (mpids modes : List ℕ) (h 
   same-names : Same fresh named 0 28
   same-names =
       same-then (put-below listed 88 modes 0 28 (lit≤ tt))
-      (same-then (put-below numbered 56 (mpidBytes mpids) 0 28 (lit≤ tt)) (put-below named 28 (bytesOf 4 first) 0 28 (lit≤ tt)))
+      (same-then (put-below noted 56 (mpidBytes mpids) 0 28 (lit≤ tt))
+      (same-then (put-below numbered 55 (kindNumber q ∷ []) 0 28 (lit≤ tt)) (put-below named 28 (bytesOf 4 first) 0 28 (lit≤ tt))))
+
+  -- what it trades stands as it was put
+  pub fresh-noted : getD fresh 55 0 ≡ kindNumber q
+  fresh-noted =
+      byte-off listed 88 modes 55 (inl (lit≤ tt)) ∙ byte-off noted 56 (mpidBytes mpids) 55 (inl (lit≤ tt))
+      ∙ getD-put-in numbered 55 (kindNumber q ∷ []) 0 (lit≤ tt) (omega (arith, long-numbered))
+
+  fresh-kind : instrumentOf fresh ≡ q
+  fresh-kind = kind-noted q fresh fresh-noted
 
   has-names : hasNames fresh ≡ true
   unfolding hasNames namedTable
   has-names =
+      let k = fresh-kind in
+      let f : ℕ → Bool = isCodeCharacter q in
       let zeros : List ℕ = replicate 32768 0 in
       let one : List ℕ = putVenue zeros venue in
       let two : List ℕ = putPort one port in
-      let v = venue-short venue port code names in
-      let q = port-short venue port code names in
-      let c = code-short venue port code names in
+      let v = venue-short q venue port code names in
+      let r = port-short q venue port code names in
+      let c = code-short q venue port code names in
       let long-one : length one ≡ 32768 = length-put zeros 0 (textBytes 8 venue) ∙ length-replicate {A = ℕ} 32768 0 in
       let long-two : length two ≡ 32768 = length-put one 9 (textBytes 8 port) ∙ long-one in
       let sv : Same fresh one 0 9 =
@@ -179,11 +199,12 @@ module _ (venue port code : List ℕ) (first : ℕ) (mpids modes : List ℕ) (h 
       let sp : Same fresh two 9 18 = same-then (same-in 9 18 same-names (lit≤ tt) (lit≤ tt)) (put-below two 18 (textBytes 9 code) 9 18 (lit≤ tt)) in
       both-i (both-i
       (is-text-same isGraphic 1 8 0 9 sv (lit≤ tt)
-      ∙ is-text-put 8 zeros 0 venue (omega (arith, length-replicate {A = ℕ} 32768 0)) v isGraphic 1 (name-some isGraphic 8 venue (venue-name venue port code names)) (name-every isGraphic 8 venue (venue-name venue port code names)))
+      ∙ is-text-put 8 zeros 0 venue (omega (arith, length-replicate {A = ℕ} 32768 0)) v isGraphic 1 (name-some isGraphic 8 venue (venue-name q venue port code names)) (name-every isGraphic 8 venue (venue-name q venue port code names)))
       (is-text-same isGraphic 1 8 9 18 sp (lit≤ tt)
-      ∙ is-text-put 8 one 9 port (omega arith) q isGraphic 1 (name-some isGraphic 8 port (port-name venue port code names)) (name-every isGraphic 8 port (port-name venue port code names))))
-      (is-text-same isDigit 1 9 18 28 (same-in 18 28 same-names (lit≤ tt) (lit≤ tt)) (lit≤ tt)
-      ∙ is-text-put 9 two 18 code (omega arith) c isDigit 1 (name-some isDigit 9 code (code-name venue port code names)) (name-every isDigit 9 code (code-name venue port code names)))
+      ∙ is-text-put 8 one 9 port (omega arith) r isGraphic 1 (name-some isGraphic 8 port (port-name q venue port code names)) (name-every isGraphic 8 port (port-name q venue port code names))))
+      (rw k
+      (is-text-same f 1 9 18 28 (same-in 18 28 same-names (lit≤ tt) (lit≤ tt)) (lit≤ tt)
+      ∙ is-text-put 9 two 18 code (omega arith) c f 1 (name-some f 9 code (code-name q venue port code names)) (name-every f 9 code (code-name q venue port code names))))
 
   -- the lists stand as they were put
   small : (j : ℕ) → getD mpids j 0 < 256 ^ 4
@@ -196,9 +217,9 @@ module _ (venue port code : List ℕ) (first : ℕ) (mpids modes : List ℕ) (h 
   mpid-there k l =
       let e = length-mpids mpids in
       let f = few in
-      let z = long-numbered in
+      let z = long-noted in
       le-same 4 (56 + 4 * k) 88 (same-in (56 + 4 * k) 88 (put-below listed 88 modes 56 88 (lit≤ tt)) (omega arith) (lit≤ tt)) (omega arith)
-      ∙ leAt-in 4 numbered 56 (mpidBytes mpids) (4 * k) (omega arith) (omega arith)
+      ∙ leAt-in 4 noted 56 (mpidBytes mpids) (4 * k) (omega arith) (omega arith)
       ∙ mpid-bytes mpids k l small
 
   mode-there : (k : ℕ) → k < length mpids → modeAt fresh k ≡ getD modes k 0
@@ -258,15 +279,17 @@ module _ (venue port code : List ℕ) (first : ℕ) (mpids modes : List ℕ) (h 
 
   fresh-next : nextOf fresh ≡ first
   fresh-next =
-      next-same (same-then (put-below listed 88 modes 28 32 (lit≤ tt)) (put-below numbered 56 (mpidBytes mpids) 28 32 (lit≤ tt)))
-      ∙ next-got named first (omega (arith, settings-high venue port code first mpids modes h)) (omega (arith, long-named))
+      next-same
+      (same-then (put-below listed 88 modes 28 32 (lit≤ tt))
+      (same-then (put-below noted 56 (mpidBytes mpids) 28 32 (lit≤ tt)) (put-below numbered 55 (kindNumber q ∷ []) 28 32 (lit≤ tt))))
+      ∙ next-got named first (omega (arith, settings-high q venue port code first mpids modes h)) (omega (arith, long-named))
 
   fresh-work : workOf fresh ≡ 0
   fresh-work = zero-fresh 32 (lit≤ tt) (inl (lit≤ tt)) (inl (lit≤ tt))
 
   -- what opening writes is a market
-  pub fresh-market : Market (freshTable venue port code first mpids modes)
-  unfolding hasSettings hasSpare restZero
+  pub fresh-market : Market (freshTable q venue port code first mpids modes)
+  unfolding hasSettings restZero
   fresh-market =
       let z = long-fresh in
       let e = fresh-filled in
@@ -279,23 +302,29 @@ module _ (venue port code : List ℕ) (first : ℕ) (mpids modes : List ℕ) (h 
       (record {
         long = z;
         settings = both-i has-names has-list;
-        next-low = omega (arith, settings-low venue port code first mpids modes h);
+        next-low = omega (arith, settings-low q venue port code first mpids modes h);
         work = none-work fresh w (part-zero fresh 33 22 (omega arith) (λ k l m. zero-fresh k (omega arith) (inl (omega arith)) (inl (omega arith))));
-        spare = part-zero fresh 55 1 (omega arith) (λ k l m. zero-fresh k (omega arith) (inl (omega arith)) (inl (omega arith)));
+        kind = noted-kind q fresh fresh-noted;
         rest = rw e (rest-of-zero fresh 128 (λ k l. zero-fresh k (omega arith) (inr (omega arith)) (inr (omega arith))));
         records = λ i l m. absurd (omega arith);
         ids = λ j k l m n. absurd (omega arith);
         order-ids = fresh-none _ _ _ e;
         decision = undecided (bookOf fresh) (workOf fresh) (decidedOf fresh) (zero-fresh 96 (omega arith) (inr (omega arith)) (inr (omega arith)));
-        held = rw (b, w, x) (opened-held (isListed fresh) first (omega (arith, settings-high venue port code first mpids modes h)));
+        held = rw (b, w, x) (opened-held (isListed fresh) first (omega (arith, settings-high q venue port code first mpids modes h)));
+        quoted = λ i l m. absurd (omega arith);
         best = has-best-none fresh z w b
             (part-zero fresh 97 31 (omega arith) (λ k l m. zero-fresh k (omega arith) (inr (omega arith)) (inr (omega arith))));
       })
 
--- a market is what opening leaves wherever it does not refuse
-pub opened-market : (t venue port code : List ℕ) (first : ℕ) (mpids modes : List ℕ) → isOpening t venue port code first mpids modes ≡ true
-    → isMarket (opened t venue port code first mpids modes) ≡ true
+  pub fresh-instrument : instrumentOf (freshTable q venue port code first mpids modes) ≡ q
+  fresh-instrument = rw fresh-is fresh-kind
+
+-- a market of what it is opened for is what opening leaves wherever it does not refuse
+pub opened-market : (q : Instrument) (t venue port code : List ℕ) (first : ℕ) (mpids modes : List ℕ) → isOpening q t venue port code first mpids modes ≡ true
+    → isMarketOf q (opened q t venue port code first mpids modes) ≡ true
 unfolding isOpening opened
-opened-market t venue port code first mpids modes h =
-    rw h (facts-market (freshTable venue port code first mpids modes)
-    (fresh-market venue port code first mpids modes (both-r (eqb (length t) 32768) (areSettings venue port code first mpids modes) h)))
+opened-market q t venue port code first mpids modes h =
+    let g = both-r (eqb (length t) 32768) (areSettings q venue port code first mpids modes) h in
+    let u : List ℕ = freshTable q venue port code first mpids modes in
+    let m = fresh-market q venue port code first mpids modes g in
+    rw h (instrument-market q u (facts-market u m) (m .kind) (fresh-instrument q venue port code first mpids modes g))

@@ -15,6 +15,7 @@ use Rattle.octets.proofs.Parts.{length-textBytes}
 use Rattle.matching.specs.declared.Order.{Order}
 use Rattle.matching.specs.declared.Event.{Event}
 use Rattle.matching.specs.Matching.{who, change, decidedAfter}
+use Rattle.table.specs.declared.record.Marks.{Marks}
 use Rattle.table.specs.Places.{recordAt}
 use Rattle.table.specs.Heading.{nextOf, workOf, putWork, putDecided, endWork}
 use Rattle.table.specs.Orders.{orderIdAt, orderAt, bookOf, termBytes, amountBytes, recordOf, putId, putTerms, putAmounts, applied, withdrawn, replaced, accepted}
@@ -116,25 +117,25 @@ stepped-order-id t i =
 
 -- ---- a new order, as record k
 
-module _ (t : List ℕ) (k orderId : ℕ) (clOrdId account : List ℕ) (capacity class : ℕ) (o : Order) (short : length clOrdId ≤ 32) (few : length account ≤ 10)
+module _ (t : List ℕ) (k orderId : ℕ) (clOrdId account : List ℕ) (marks : Marks) (o : Order) (short : length clOrdId ≤ 32) (few : length account ≤ 10)
     (room : recordAt k + 128 ≤ length t) where
-  pub accepted-others : (i : ℕ) → (i ≡ k → ⊥) → orderIdAt (accepted t k orderId clOrdId account capacity class o) i ≡ orderIdAt t i
+  pub accepted-others : (i : ℕ) → (i ≡ k → ⊥) → orderIdAt (accepted t k orderId clOrdId account marks o) i ≡ orderIdAt t i
   unfolding accepted
   accepted-others i n =
-      let w = length-record t k orderId clOrdId account capacity class o short few room in
-      ⊎-elim (λ (l : i < k). leAt-below 4 t (128 * k) (recordOf orderId clOrdId account capacity class o) (128 * i + 84) (omega arith))
-      (λ (l : k ≤ i). leAt-above 4 t (128 * k) (recordOf orderId clOrdId account capacity class o) (128 * i + 84) (omega arith)) (below-or i k)
+      let w = length-record t k orderId clOrdId account marks o short few room in
+      ⊎-elim (λ (l : i < k). leAt-below 4 t (128 * k) (recordOf orderId clOrdId account marks o) (128 * i + 84) (omega arith))
+      (λ (l : k ≤ i). leAt-above 4 t (128 * k) (recordOf orderId clOrdId account marks o) (128 * i + 84) (omega arith)) (below-or i k)
 
-module _ (t : List ℕ) (k : ℕ) (clOrdId account : List ℕ) (capacity class : ℕ) (o : Order) (stamp : List ℕ) (short : length clOrdId ≤ 32)
+module _ (t : List ℕ) (k : ℕ) (clOrdId account : List ℕ) (marks : Marks) (o : Order) (stamp : List ℕ) (short : length clOrdId ≤ 32)
     (few : length account ≤ 10) (brief : length stamp ≤ 21) (room : recordAt k + 128 ≤ length t) where
-  heading-order-id : (i : ℕ) → orderIdAt (entered t k clOrdId account capacity class o stamp) i ≡ orderIdAt (accepted t k (nextOf t) clOrdId account capacity class o) i
+  heading-order-id : (i : ℕ) → orderIdAt (entered t k clOrdId account marks o stamp) i ≡ orderIdAt (accepted t k (nextOf t) clOrdId account marks o) i
   unfolding entered
   heading-order-id i =
-      let u : List ℕ = accepted t k (nextOf t) clOrdId account capacity class o in
+      let u : List ℕ = accepted t k (nextOf t) clOrdId account marks o in
       cleared-order-id (putWork (numbered u 1) k stamp) i ∙ worked-order-id (numbered u 1) i k stamp brief ∙ numbered-order-id u i 1
 
-  pub entered-own : nextOf t < 256 ^ 4 → orderIdAt (entered t k clOrdId account capacity class o stamp) k ≡ nextOf t
-  entered-own small = heading-order-id k ∙ accepted-order-id t k (nextOf t) clOrdId account capacity class o short few room small
+  pub entered-own : nextOf t < 256 ^ 4 → orderIdAt (entered t k clOrdId account marks o stamp) k ≡ nextOf t
+  entered-own small = heading-order-id k ∙ accepted-order-id t k (nextOf t) clOrdId account marks o short few room small
 
-  pub entered-others : (i : ℕ) → (i ≡ k → ⊥) → orderIdAt (entered t k clOrdId account capacity class o stamp) i ≡ orderIdAt t i
-  entered-others i n = heading-order-id i ∙ accepted-others t k (nextOf t) clOrdId account capacity class o short few room i n
+  pub entered-others : (i : ℕ) → (i ≡ k → ⊥) → orderIdAt (entered t k clOrdId account marks o stamp) i ≡ orderIdAt t i
+  entered-others i n = heading-order-id i ∙ accepted-others t k (nextOf t) clOrdId account marks o short few room i n

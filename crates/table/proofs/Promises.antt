@@ -11,14 +11,14 @@ use Rattle.octets.specs.Tests.{allUpTo}
 use Rattle.octets.proofs.Bools.{both-l, both-r}
 use Rattle.octets.proofs.Ranges.{all-at}
 use Rattle.octets.proofs.Parts.{length-text}
-use Rattle.decimal.specs.Reading.{isDigit, isTime}
-use Rattle.table.specs.Heading.{venueOf, portOf, codeOf, nextOf, workOf, stampOf, modeAt, entries, entryOf, isListed, modeOf}
-use Rattle.table.specs.Orders.{clOrdIdAt, accountAt, orderIdAt, capacityAt, classificationAt, filled}
-use Rattle.table.specs.Market.{every, isGraphic, isPrintable, isPadded, isText, hasNames, isEntry, hasList, hasSettings, isCapacity, isClass}
+use Rattle.decimal.specs.Reading.{isTime}
+use Rattle.table.specs.Heading.{venueOf, portOf, codeOf, nextOf, workOf, stampOf, instrumentOf, modeAt, entries, entryOf, isListed, modeOf}
+use Rattle.table.specs.Orders.{clOrdIdAt, accountAt, orderIdAt, capacityAt, classificationAt, cashAt, marginAt, marksAt, filled}
+use Rattle.table.specs.Market.{every, isGraphic, isPrintable, isCodeCharacter, isPadded, isText, hasNames, isEntry, hasList, hasSettings, isCapacity, isClass, isCash, isMarked}
 use Rattle.table.specs.Facts.{Market}
 use Rattle.table.proofs.Same.{filled-few}
 use Rattle.table.proofs.Texts.{text-low, text-high, text-every}
-use Rattle.table.proofs.Naming.{record-id, record-account, record-order-id, record-capacity, record-class}
+use Rattle.table.proofs.Naming.{record-id, record-account, record-order-id, record-marked, record-capacity, record-class, record-cash}
 use Rattle.table.proofs.Working.{work-some}
 
 -- a good text: its length and its characters
@@ -46,9 +46,9 @@ module _ (t : List ℕ) (m : Market t) where
   unfolding hasNames
   port-spelt = let h = has-names in spelt isGraphic 1 8 t 9 (omega (arith, m .long)) (search (both-l, both-r))
 
-  pub code-spelt : Spelt isDigit 1 9 (codeOf t)
+  pub code-spelt : Spelt (isCodeCharacter (instrumentOf t)) 1 9 (codeOf t)
   unfolding hasNames
-  code-spelt = let h = has-names in spelt isDigit 1 9 t 18 (omega (arith, m .long)) (search both-r)
+  code-spelt = let h = has-names in spelt (isCodeCharacter (instrumentOf t)) 1 9 t 18 (omega (arith, m .long)) (search both-r)
 
   -- the 52 of the message whose order is in work
   pub stamp-time : 1 ≤ workOf t → isTime (stampOf t) ≡ true
@@ -81,11 +81,17 @@ module _ (t : List ℕ) (m : Market t) where
     pub order-id-below : orderIdAt t i < nextOf t
     order-id-below = m .order-ids .below i low high
 
+    pub marks-good : isMarked (instrumentOf t) (marksAt t i) ≡ true
+    marks-good = record-marked t i (m .records i low high)
+
     pub capacity-good : isCapacity (capacityAt t i) ≡ true
     capacity-good = record-capacity t i (m .records i low high)
 
     pub class-good : isClass (classificationAt t i) ≡ true
     class-good = record-class t i (m .records i low high)
+
+    pub cash-good : isCash (instrumentOf t) (cashAt t i) (marginAt t i) ≡ true
+    cash-good = record-cash t i (m .records i low high)
 
   -- one OrderID, one record
   pub order-id-apart : (i j : ℕ) → 1 ≤ i → i ≤ filled t → 1 ≤ j → j ≤ filled t → orderIdAt t i ≡ orderIdAt t j → i ≡ j

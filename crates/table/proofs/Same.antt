@@ -14,11 +14,10 @@ use Rattle.octets.specs.Octets.{leAt, put, partAt, textAt}
 use Rattle.octets.specs.Tests.{allUpTo}
 use Rattle.octets.proofs.Bools.{split, both-not-r}
 use Rattle.octets.proofs.Places.{leAt-ext, getD-put-below, getD-put-above, below-or, length-put}
-use Rattle.decimal.specs.Reading.{isDigit}
 use Rattle.table.specs.Places.{recordAt}
-use Rattle.table.specs.Heading.{nextOf, workOf, decidedOf, mpidAt, modeAt, entries, entryOf, isListed, modeOf}
-use Rattle.table.specs.Orders.{clOrdIdAt, orderIdAt, orderAt, isFree, filled, ordersFrom, bookOf}
-use Rattle.table.specs.Market.{isGraphic, isPrintable, isPadded, isText, hasNames, isEntry, hasList, hasSettings, hasSpare, isRecord, isKnown}
+use Rattle.table.specs.Heading.{nextOf, workOf, instrumentOf, decidedOf, mpidAt, modeAt, entries, entryOf, isListed, modeOf}
+use Rattle.table.specs.Orders.{clOrdIdAt, orderIdAt, marksAt, orderAt, isFree, filled, ordersFrom, bookOf}
+use Rattle.table.specs.Market.{isGraphic, isPrintable, isCodeCharacter, isPadded, isText, hasNames, isEntry, hasList, hasSettings, hasKind, isRecord, isKnown}
 use Rattle.octets.proofs.Searches.{all-ext, first-ext, first-high}
 
 -- two tables are of one length and agree on the bytes from p up to e
@@ -131,13 +130,18 @@ module _ {t u : List ℕ} where
 
   -- ---- the heading
 
-  pub names-same : Same t u 0 28 → hasNames t ≡ hasNames u
+  pub instrument-same : Same t u 55 56 → instrumentOf t ≡ instrumentOf u
+  unfolding instrumentOf
+  instrument-same s = let a : getD t 55 0 ≡ getD u 55 0 = s .byte 55 (lit≤ tt) (lit≤ tt) in rw a
+
+  pub names-same : Same t u 0 28 → Same t u 55 56 → hasNames t ≡ hasNames u
   unfolding hasNames
-  names-same s =
+  names-same s r =
+      let k = instrument-same r in
       let a = is-text-same isGraphic 1 8 0 28 s (lit≤ tt) in
       let b = is-text-same isGraphic 1 8 9 28 (same-in 9 28 s (lit≤ tt) (lit≤ tt)) (lit≤ tt) in
-      let c = is-text-same isDigit 1 9 18 28 (same-in 18 28 s (lit≤ tt) (lit≤ tt)) (lit≤ tt) in
-      rw (a, b, c)
+      let c = is-text-same (isCodeCharacter (instrumentOf u)) 1 9 18 28 (same-in 18 28 s (lit≤ tt) (lit≤ tt)) (lit≤ tt) in
+      rw (k, a, b, c)
 
   pub next-same : Same t u 28 32 → nextOf t ≡ nextOf u
   next-same s = le-same 4 28 32 s (lit≤ tt)
@@ -206,28 +210,41 @@ module _ {t u : List ℕ} where
       part-same (88 + n) (8 - n) 96 (same-in (88 + n) 96 s (omega arith) (omega arith)) (omega arith) in
       rw (a, b, c, d)
 
-  pub settings-same : Same t u 0 28 → Same t u 56 96 → hasSettings t ≡ hasSettings u
+  pub settings-same : Same t u 0 28 → Same t u 55 96 → hasSettings t ≡ hasSettings u
   unfolding hasSettings
-  settings-same s r = let a = names-same s in let b = list-same r in rw (a, b)
+  settings-same s r =
+      let a = names-same s (same-in 55 56 r (lit≤ tt) (lit≤ tt)) in
+      let b = list-same (same-in 56 96 r (lit≤ tt) (lit≤ tt)) in
+      rw (a, b)
 
-  pub spare-same : Same t u 55 56 → hasSpare t ≡ hasSpare u
-  unfolding hasSpare
-  spare-same s = let a = part-same 55 1 56 s (lit≤ tt) in rw a
+  pub kind-same : Same t u 55 56 → hasKind t ≡ hasKind u
+  unfolding hasKind
+  kind-same s = let a : getD t 55 0 ≡ getD u 55 0 = s .byte 55 (lit≤ tt) (lit≤ tt) in rw a
 
   -- ---- the records
 
-  -- by its texts, its capacity and classification, and its OrderID and unused bytes
-  pub record-parts : (i : ℕ) → Same t u (recordAt i) (recordAt i + 44) → Same t u (recordAt i + 46) (recordAt i + 48)
+  pub marks-same : (i : ℕ) → Same t u (recordAt i + 46) (recordAt i + 48) → Same t u (recordAt i + 84) (recordAt i + 128) → marksAt t i ≡ marksAt u i
+  unfolding marksAt
+  marks-same i r q =
+      λ j. record {
+        capacity = r .byte (128 * i + 46) (omega arith) (omega arith) j;
+        class = r .byte (128 * i + 47) (omega arith) (omega arith) j;
+        cash = q .byte (128 * i + 92) (omega arith) (omega arith) j;
+        margin = q .byte (128 * i + 93) (omega arith) (omega arith) j;
+      }
+
+  -- by what the market trades, its texts, its capacity and classification, and its OrderID and what stands behind it
+  pub record-parts : (i : ℕ) → Same t u 55 56 → Same t u (recordAt i) (recordAt i + 44) → Same t u (recordAt i + 46) (recordAt i + 48)
       → Same t u (recordAt i + 84) (recordAt i + 128) → isRecord t i ≡ isRecord u i
   unfolding isRecord
-  record-parts i s r q =
+  record-parts i h s r q =
+      let k = instrument-same h in
       let a = is-text-same isPrintable 1 32 (128 * i) (128 * i + 44) s (omega arith) in
       let b = is-text-same isPrintable 0 10 (128 * i + 33) (128 * i + 44) (same-in (128 * i + 33) (128 * i + 44) s (omega arith) (omega arith)) (omega arith) in
-      let c : getD t (128 * i + 46) 0 ≡ getD u (128 * i + 46) 0 = r .byte (128 * i + 46) (omega arith) (omega arith) in
-      let d : getD t (128 * i + 47) 0 ≡ getD u (128 * i + 47) 0 = r .byte (128 * i + 47) (omega arith) (omega arith) in
+      let c = marks-same i r q in
       let e : orderIdAt t i ≡ orderIdAt u i = le-same 4 (128 * i + 84) (128 * i + 128) q (omega arith) in
-      let f = part-same (128 * i + 92) 36 (128 * i + 128) (same-in (128 * i + 92) (128 * i + 128) q (omega arith) (omega arith)) (omega arith) in
-      rw (a, b, c, d, e, f)
+      let f = part-same (128 * i + 94) 34 (128 * i + 128) (same-in (128 * i + 94) (128 * i + 128) q (omega arith) (omega arith)) (omega arith) in
+      rw (k, a, b, c, e, f)
 
   pub order-same : (i : ℕ) → Same t u (recordAt i + 44) (recordAt i + 92) → orderAt t i ≡ orderAt u i
   unfolding orderAt

@@ -15,10 +15,12 @@ use Rattle.octets.specs.Octets.{bytesOf, put, putText}
 use Rattle.octets.specs.Tests.{allUpTo}
 use Rattle.octets.proofs.Bools.{both-l, both-r, both-not-r}
 use Rattle.octets.proofs.Ranges.{all-at}
+use Rattle.decimal.specs.declared.Instrument.{Instrument}
+use Rattle.decimal.specs.declared.Instrument.the-variants.{Bonds, Equities}
 use Rattle.decimal.specs.Reading.{isDigit}
 use Rattle.octets.proofs.Places.{put-put, length-put, length-bytesOf, below-or}
-use Rattle.table.specs.Heading.{mpidBytes, putNext, putMpids, putModes}
-use Rattle.table.specs.Market.{every, isBetween, isGraphic}
+use Rattle.table.specs.Heading.{mpidBytes, putKind, putNext, putMpids, putModes}
+use Rattle.table.specs.Market.{every, isBetween, isGraphic, isCodeCharacter}
 use Rattle.table.specs.Opened.{isName, isNew, isGiven, areGiven, areNames, areSettings, namedTable, freshTable, isOpening, opened, openNumber}
 
 -- ---- a test of every byte that has come to byte i: from there on it gives the whole test's answer
@@ -70,11 +72,20 @@ module _ (mpids modes : List ℕ) where
   unfolding areGiven
   given-all h a = rw (h, a)
 
--- the names, by the code's digits
-pub names-are : (venue port code : List ℕ) (a b c : Bool) → a ≡ isName (isBetween 33 126) 8 venue → b ≡ isName (isBetween 33 126) 8 port
-    → c ≡ isName (isBetween 48 57) 9 code → (a && b && c) ≡ areNames venue port code
-unfolding areNames isDigit
-names-are venue port code a b c x y z = rw (x, y, z)
+-- the code of a bond, and the symbol of a share
+pub code-digits : (code : List ℕ) (a : Bool) → a ≡ isName (isBetween 48 57) 9 code → a ≡ isName (isCodeCharacter Bonds) 9 code
+unfolding isCodeCharacter isDigit
+code-digits code a x = x
+
+pub code-graphic : (code : List ℕ) (a : Bool) → a ≡ isName (isBetween 33 126) 9 code → a ≡ isName (isCodeCharacter Equities) 9 code
+unfolding isCodeCharacter
+code-graphic code a x = x
+
+-- the names
+pub names-are : (q : Instrument) (venue port code : List ℕ) (a b c : Bool) → a ≡ isName (isBetween 33 126) 8 venue → b ≡ isName (isBetween 33 126) 8 port
+    → c ≡ isName (isCodeCharacter q) 9 code → (a && b && c) ≡ areNames q venue port code
+unfolding areNames
+names-are q venue port code a b c x y z = rw (x, y, z)
 
 pub name-is : (f : ℕ → Bool) (room : ℕ) (s : List ℕ) (a : Bool) → a ≡ every f s → (leb 1 (length s) && leb (length s) room && a) ≡ isName f room s
 unfolding isName
@@ -149,7 +160,7 @@ pub name-every : (f : ℕ → Bool) (room : ℕ) (s : List ℕ) → isName f roo
 unfolding isName
 name-every f room s h = search both-r
 
-module _ (venue port code : List ℕ) (h : areNames venue port code ≡ true) where
+module _ (q : Instrument) (venue port code : List ℕ) (h : areNames q venue port code ≡ true) where
   pub venue-name : isName isGraphic 8 venue ≡ true
   unfolding areNames
   venue-name = search both-l
@@ -158,7 +169,7 @@ module _ (venue port code : List ℕ) (h : areNames venue port code ≡ true) wh
   unfolding areNames
   port-name = search (both-l, both-r)
 
-  pub code-name : isName isDigit 9 code ≡ true
+  pub code-name : isName (isCodeCharacter q) 9 code ≡ true
   unfolding areNames
   code-name = search both-r
 
@@ -174,8 +185,8 @@ module _ (venue port code : List ℕ) (h : areNames venue port code ≡ true) wh
   unfolding areNames isName
   code-short = leb-true _ _ (search (both-l, both-r))
 
-module _ (venue port code : List ℕ) (first : ℕ) (mpids modes : List ℕ) (h : areSettings venue port code first mpids modes ≡ true) where
-  pub settings-names : areNames venue port code ≡ true
+module _ (q : Instrument) (venue port code : List ℕ) (first : ℕ) (mpids modes : List ℕ) (h : areSettings q venue port code first mpids modes ≡ true) where
+  pub settings-names : areNames q venue port code ≡ true
   unfolding areSettings
   settings-names = search both-l
 
@@ -244,38 +255,38 @@ modes-few mpids modes h = omega (arith, given-few mpids modes h, given-same mpid
 
 -- ---- the answer and the table afterwards
 
-module _ (t venue port code : List ℕ) (first : ℕ) (mpids modes : List ℕ) where
-  pub answer-short : (length t ≡ 32768 → ⊥) → 9 ≡ openNumber t venue port code first mpids modes
+module _ (q : Instrument) (t venue port code : List ℕ) (first : ℕ) (mpids modes : List ℕ) where
+  pub answer-short : (length t ≡ 32768 → ⊥) → 9 ≡ openNumber q t venue port code first mpids modes
   unfolding openNumber isOpening
   answer-short n = rw (ne-eqb (length t) 32768 n)
 
-  pub table-short : (length t ≡ 32768 → ⊥) → t ≡ opened t venue port code first mpids modes
+  pub table-short : (length t ≡ 32768 → ⊥) → t ≡ opened q t venue port code first mpids modes
   unfolding opened isOpening
   table-short n = rw (ne-eqb (length t) 32768 n)
 
-  pub answer-wrong : (a : Bool) → a ≡ areSettings venue port code first mpids modes → a ≡ false → 9 ≡ openNumber t venue port code first mpids modes
+  pub answer-wrong : (a : Bool) → a ≡ areSettings q venue port code first mpids modes → a ≡ false → 9 ≡ openNumber q t venue port code first mpids modes
   unfolding openNumber isOpening
-  answer-wrong a x z = rw (both-not-r (eqb (length t) 32768) (areSettings venue port code first mpids modes) (sym x ∙ z))
+  answer-wrong a x z = rw (both-not-r (eqb (length t) 32768) (areSettings q venue port code first mpids modes) (sym x ∙ z))
 
-  pub table-wrong : (a : Bool) → a ≡ areSettings venue port code first mpids modes → a ≡ false → t ≡ opened t venue port code first mpids modes
+  pub table-wrong : (a : Bool) → a ≡ areSettings q venue port code first mpids modes → a ≡ false → t ≡ opened q t venue port code first mpids modes
   unfolding opened isOpening
-  table-wrong a x z = rw (both-not-r (eqb (length t) 32768) (areSettings venue port code first mpids modes) (sym x ∙ z))
+  table-wrong a x z = rw (both-not-r (eqb (length t) 32768) (areSettings q venue port code first mpids modes) (sym x ∙ z))
 
-  pub answer-right : length t ≡ 32768 → areSettings venue port code first mpids modes ≡ true → 0 ≡ openNumber t venue port code first mpids modes
+  pub answer-right : length t ≡ 32768 → areSettings q venue port code first mpids modes ≡ true → 0 ≡ openNumber q t venue port code first mpids modes
   unfolding openNumber isOpening
   answer-right l z = rw (eq-eqb (length t) 32768 l, z)
 
-  pub table-right : (u : List ℕ) → length t ≡ 32768 → areSettings venue port code first mpids modes ≡ true
-      → u ≡ freshTable venue port code first mpids modes → u ≡ opened t venue port code first mpids modes
+  pub table-right : (u : List ℕ) → length t ≡ 32768 → areSettings q venue port code first mpids modes ≡ true
+      → u ≡ freshTable q venue port code first mpids modes → u ≡ opened q t venue port code first mpids modes
   unfolding opened isOpening
   table-right u l z e = rw (eq-eqb (length t) 32768 l, z) e
 
 -- ---- the writes in turn
 
-pub settings-are : (venue port code : List ℕ) (first : ℕ) (mpids modes : List ℕ) (a g : Bool) → a ≡ areNames venue port code → g ≡ areGiven mpids modes
-    → (a && leb 1 first && leb first 999999999 && g) ≡ areSettings venue port code first mpids modes
+pub settings-are : (q : Instrument) (venue port code : List ℕ) (first : ℕ) (mpids modes : List ℕ) (a g : Bool) → a ≡ areNames q venue port code → g ≡ areGiven mpids modes
+    → (a && leb 1 first && leb first 999999999 && g) ≡ areSettings q venue port code first mpids modes
 unfolding areSettings
-settings-are venue port code first mpids modes a g x y = rw (x, y)
+settings-are q venue port code first mpids modes a g x y = rw (x, y)
 
 pub eight-small : (n : ℕ) → n ≤ 8 → n < 256
 eight-small n h = omega arith
@@ -288,7 +299,10 @@ pub names-written : (t t1 t2 t3 t4 venue port code : List ℕ) → length t ≡ 
 unfolding namedTable
 names-written t t1 t2 t3 t4 venue port code l a b c d = rw (d, c, b, a, l)
 
-pub fresh-written : (t1 t2 t3 t4 venue port code : List ℕ) (first : ℕ) (mpids modes : List ℕ) → t1 ≡ namedTable venue port code → t2 ≡ putNext t1 first
-    → t3 ≡ putMpids t2 mpids → t4 ≡ putModes t3 modes → t4 ≡ freshTable venue port code first mpids modes
+pub lists-written : (t t1 t2 mpids modes : List ℕ) → t1 ≡ putMpids t mpids → t2 ≡ putModes t1 modes → t2 ≡ putModes (putMpids t mpids) modes
+lists-written t t1 t2 mpids modes a b = rw (b, a)
+
+pub fresh-written : (q : Instrument) (t1 t2 t3 t4 venue port code : List ℕ) (first : ℕ) (mpids modes : List ℕ) → t1 ≡ namedTable venue port code
+    → t2 ≡ putNext t1 first → t3 ≡ putKind t2 q → t4 ≡ putModes (putMpids t3 mpids) modes → t4 ≡ freshTable q venue port code first mpids modes
 unfolding freshTable
-fresh-written t1 t2 t3 t4 venue port code first mpids modes a b c d = rw (d, c, b, a)
+fresh-written q t1 t2 t3 t4 venue port code first mpids modes a b c d = rw (d, c, b, a)

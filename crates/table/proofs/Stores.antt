@@ -2,7 +2,7 @@
 use mathlib.Core.Path.{_≡_, refl, sym, ap, _∙_}
 use mathlib.Core.Bool.{true}
 use mathlib.Core.List.{List, [], _∷_, _++_}
-use Prim.Native.Nat.{ℕ, _+_, _*_, _^_, _≤_, _<_}
+use Prim.Native.Nat.{ℕ, _+_, _*_, _%_, _^_, _≤_, _<_}
 use native.Mathlib.Omega.{arith}
 use lib.Dec.{lit≤, lit<}
 use lib.ListN.{length, getD, length-append}
@@ -14,8 +14,10 @@ use Rattle.matching.specs.Matching.{amounts, terms}
 use Rattle.table.specs.Places.{recordAt}
 use Rattle.table.specs.Heading.{nextOf, workOf, stampOf, decidedOf, putNext, putWork, putDecided}
 use Rattle.table.specs.declared.best.BestLevel.{BestLevel}
+use Rattle.table.specs.declared.record.Marks.{Marks}
 use Rattle.table.specs.Best.{ordersBytes, levelsBytes, totalsBytes, bestRow}
-use Rattle.table.specs.Orders.{clOrdIdAt, accountAt, orderIdAt, capacityAt, classificationAt, orderAt, termBytes, amountBytes, tailBytes, fieldBytes, recordOf, accepted, putId, putTerms, putAmounts}
+use Rattle.table.specs.Orders.{clOrdIdAt, accountAt, orderIdAt, marksAt, orderAt, termBytes, amountBytes, endBytes, tailBytes, fieldBytes, recordOf, accepted, putId, putTerms, putAmounts}
+use Rattle.table.specs.Facts.{InBytes}
 use Rattle.table.proofs.Same.{Same, same-in, same-then, put-below, put-above, text-same, order-same, id-same}
 
 -- the amounts are of their width, and so are the terms
@@ -38,9 +40,9 @@ pub length-terms : (o : Order) → length (termBytes o) ≡ 12
 unfolding termBytes bytesOf
 length-terms o = refl
 
-pub length-fields : (orderId capacity class : ℕ) (o : Order) → length (fieldBytes orderId capacity class o) ≡ 84
-unfolding fieldBytes amountBytes tailBytes termBytes bytesOf
-length-fields orderId capacity class o = refl
+pub length-fields : (orderId : ℕ) (marks : Marks) (o : Order) → length (fieldBytes orderId marks o) ≡ 84
+unfolding fieldBytes amountBytes tailBytes endBytes termBytes bytesOf
+length-fields orderId marks o = refl
 
 -- every number is of its width
 pub record Sized (o : Order) : Type 0 where
@@ -48,6 +50,10 @@ pub record Sized (o : Order) : Type 0 where
   pub amounts : Amounts o
   pub mpid : o .mpid < 256 ^ 4
   pub minqty : o .minqty < 256 ^ 4
+
+-- a number below 256 is its own byte
+byte-is : (n : ℕ) → n < 256 → n % 256 ≡ n
+byte-is n h = omega arith
 
 -- ---- a record that starts at b, after bytes were put at place a of it
 
@@ -129,20 +135,20 @@ module _ (t : List ℕ) (i : ℕ) (xs : List ℕ) (short : length xs ≤ 32) (ro
 abbrev pub putTexts : List ℕ → ℕ → List ℕ → List ℕ → List ℕ
 putTexts t i clOrdId account = putText 10 (putId t i clOrdId) (128 * i + 33) account
 
-module _ (t : List ℕ) (i orderId : ℕ) (clOrdId account : List ℕ) (capacity class : ℕ) (o : Order) (short : length clOrdId ≤ 32) (few : length account ≤ 10)
+module _ (t : List ℕ) (i orderId : ℕ) (clOrdId account : List ℕ) (marks : Marks) (o : Order) (short : length clOrdId ≤ 32) (few : length account ≤ 10)
     (room : recordAt i + 128 ≤ length t) where
   -- it is written in three parts: the ClOrdID, the account, the rest
-  pub accepted-parts : put (putTexts t i clOrdId account) (128 * i + 44) (fieldBytes orderId capacity class o) ≡ accepted t i orderId clOrdId account capacity class o
+  pub accepted-parts : put (putTexts t i clOrdId account) (128 * i + 44) (fieldBytes orderId marks o) ≡ accepted t i orderId clOrdId account marks o
   unfolding accepted recordOf
   accepted-parts =
       let a = length-textBytes 32 clOrdId short in
       let b = length-textBytes 10 account few in
       let p : 128 * i + 33 ≡ 128 * i + length (textBytes 32 clOrdId) = omega arith in
       let q : 128 * i + 44 ≡ 128 * i + 33 + length (textBytes 10 account) = omega arith in
-      ap (λ (k : ℕ). put (putTexts t i clOrdId account) k (fieldBytes orderId capacity class o)) q
-      ∙ put-put (putId t i clOrdId) (128 * i + 33) (textBytes 10 account) (fieldBytes orderId capacity class o)
-      ∙ ap (λ (k : ℕ). put (putId t i clOrdId) k (textBytes 10 account ++ fieldBytes orderId capacity class o)) p
-      ∙ put-put t (128 * i) (textBytes 32 clOrdId) (textBytes 10 account ++ fieldBytes orderId capacity class o)
+      ap (λ (k : ℕ). put (putTexts t i clOrdId account) k (fieldBytes orderId marks o)) q
+      ∙ put-put (putId t i clOrdId) (128 * i + 33) (textBytes 10 account) (fieldBytes orderId marks o)
+      ∙ ap (λ (k : ℕ). put (putId t i clOrdId) k (textBytes 10 account ++ fieldBytes orderId marks o)) p
+      ∙ put-put t (128 * i) (textBytes 32 clOrdId) (textBytes 10 account ++ fieldBytes orderId marks o)
 
   length-first : length (putId t i clOrdId) ≡ length t
   length-first = length-put t (128 * i) (textBytes 32 clOrdId)
@@ -151,29 +157,29 @@ module _ (t : List ℕ) (i orderId : ℕ) (clOrdId account : List ℕ) (capacity
   length-second = length-put (putId t i clOrdId) (128 * i + 33) (textBytes 10 account) ∙ length-first
 
   -- the bytes before the record and those behind it are as they were
-  pub accepted-before : Same (accepted t i orderId clOrdId account capacity class o) t 0 (128 * i)
+  pub accepted-before : Same (accepted t i orderId clOrdId account marks o) t 0 (128 * i)
   unfolding accepted
-  accepted-before = put-below t (128 * i) (recordOf orderId clOrdId account capacity class o) 0 (128 * i) (omega arith)
+  accepted-before = put-below t (128 * i) (recordOf orderId clOrdId account marks o) 0 (128 * i) (omega arith)
 
-  pub length-record : length (recordOf orderId clOrdId account capacity class o) ≡ 128
+  pub length-record : length (recordOf orderId clOrdId account marks o) ≡ 128
   unfolding recordOf
   length-record =
       let a = length-textBytes 32 clOrdId short in
       let b = length-textBytes 10 account few in
-      let c = length-fields orderId capacity class o in
+      let c = length-fields orderId marks o in
       simp length-append (omega arith)
 
-  pub accepted-behind : (e : ℕ) → Same (accepted t i orderId clOrdId account capacity class o) t (128 * i + 128) e
+  pub accepted-behind : (e : ℕ) → Same (accepted t i orderId clOrdId account marks o) t (128 * i + 128) e
   unfolding accepted
-  accepted-behind e = put-above t (128 * i) (recordOf orderId clOrdId account capacity class o) (128 * i + 128) e (omega (arith, length-record))
+  accepted-behind e = put-above t (128 * i) (recordOf orderId clOrdId account marks o) (128 * i + 128) e (omega (arith, length-record))
 
   -- its texts stand as they do before the rest is put
-  pub accepted-texts : Same (accepted t i orderId clOrdId account capacity class o) (putTexts t i clOrdId account) (128 * i) (128 * i + 44)
+  pub accepted-texts : Same (accepted t i orderId clOrdId account marks o) (putTexts t i clOrdId account) (128 * i) (128 * i + 44)
   accepted-texts =
       rw (← accepted-parts)
-      (put-below (putTexts t i clOrdId account) (128 * i + 44) (fieldBytes orderId capacity class o) (128 * i) (128 * i + 44) (omega arith))
+      (put-below (putTexts t i clOrdId account) (128 * i + 44) (fieldBytes orderId marks o) (128 * i) (128 * i + 44) (omega arith))
 
-  pub accepted-id : clOrdIdAt (accepted t i orderId clOrdId account capacity class o) i ≡ clOrdId
+  pub accepted-id : clOrdIdAt (accepted t i orderId clOrdId account marks o) i ≡ clOrdId
   accepted-id =
       let s : Same (putTexts t i clOrdId account) (putId t i clOrdId) (128 * i) (128 * i + 33) =
       put-below (putId t i clOrdId) (128 * i + 33) (textBytes 10 account) (128 * i) (128 * i + 33) (omega arith) in
@@ -181,58 +187,60 @@ module _ (t : List ℕ) (i orderId : ℕ) (clOrdId account : List ℕ) (capacity
       id-same i (same-then (same-in (128 * i) (128 * i + 33) accepted-texts (omega arith) (omega arith)) s) (omega arith)
       ∙ id-got t i clOrdId short room
 
-  pub accepted-account : accountAt (accepted t i orderId clOrdId account capacity class o) i ≡ account
+  pub accepted-account : accountAt (accepted t i orderId clOrdId account marks o) i ≡ account
   accepted-account =
       let z = length-first in
       let n : getD (putTexts t i clOrdId account) (128 * i + 33) 0 ≡ length account = text-put-first 10 (putId t i clOrdId) (128 * i + 33) account (omega arith) few in
       text-same (128 * i + 33) 10 (128 * i + 44) (same-in (128 * i + 33) (128 * i + 44) accepted-texts (omega arith) (omega arith)) (omega arith) (omega arith)
       ∙ text-put 10 (putId t i clOrdId) (128 * i + 33) account (omega arith) few
 
-  -- the order, the capacity and the classification are those that were put
-  field-byte : (k : ℕ) → k < 84 → getD (put (putTexts t i clOrdId account) (128 * i + 44) (fieldBytes orderId capacity class o)) (128 * i + 44 + k) 0 ≡ getD (fieldBytes orderId capacity class o) k 0
+  -- the order and the marks are those that were put
+  field-byte : (k : ℕ) → k < 84 → getD (put (putTexts t i clOrdId account) (128 * i + 44) (fieldBytes orderId marks o)) (128 * i + 44 + k) 0 ≡ getD (fieldBytes orderId marks o) k 0
   field-byte k h =
       let z = length-second in
-      let c = length-fields orderId capacity class o in
-      getD-put-in (putTexts t i clOrdId account) (128 * i + 44) (fieldBytes orderId capacity class o) k (omega arith) (omega arith)
+      let c = length-fields orderId marks o in
+      getD-put-in (putTexts t i clOrdId account) (128 * i + 44) (fieldBytes orderId marks o) k (omega arith) (omega arith)
 
-  field-at : (k q v : ℕ) → getD (fieldBytes orderId capacity class o) k 0 ≡ v → q ≡ 44 + k → k < 84 → getD (accepted t i orderId clOrdId account capacity class o) (128 * i + q) 0 ≡ v
+  field-at : (k q v : ℕ) → getD (fieldBytes orderId marks o) k 0 ≡ v → q ≡ 44 + k → k < 84 → getD (accepted t i orderId clOrdId account marks o) (128 * i + q) 0 ≡ v
   field-at k q v e h l =
       let z : 128 * i + q ≡ 128 * i + 44 + k = omega arith in
       rw (← accepted-parts, z) (field-byte k l ∙ e)
 
-  field-number : (n k q v : ℕ) → leAt n (fieldBytes orderId capacity class o) k ≡ leAt n (bytesOf n v) 0 → q ≡ 44 + k → k + n ≤ 84 → v < 256 ^ n
-      → leAt n (accepted t i orderId clOrdId account capacity class o) (128 * i + q) ≡ v
+  field-number : (n k q v : ℕ) → leAt n (fieldBytes orderId marks o) k ≡ leAt n (bytesOf n v) 0 → q ≡ 44 + k → k + n ≤ 84 → v < 256 ^ n
+      → leAt n (accepted t i orderId clOrdId account marks o) (128 * i + q) ≡ v
   field-number n k q v e h l small =
       let z = length-second in
-      let c = length-fields orderId capacity class o in
+      let c = length-fields orderId marks o in
       rw (← accepted-parts)
-      (number-in n (putTexts t i clOrdId account) (128 * i) 44 (fieldBytes orderId capacity class o) k q v e h (omega arith) (omega arith) small)
+      (number-in n (putTexts t i clOrdId account) (128 * i) 44 (fieldBytes orderId marks o) k q v e h (omega arith) (omega arith) small)
 
-  pub accepted-capacity : capacityAt (accepted t i orderId clOrdId account capacity class o) i ≡ capacity
-  unfolding fieldBytes
-  accepted-capacity = field-at 2 46 capacity refl refl (lit< tt)
+  pub accepted-marks : InBytes marks → marksAt (accepted t i orderId clOrdId account marks o) i ≡ marks
+  unfolding marksAt fieldBytes termBytes amountBytes tailBytes endBytes bytesOf leAt
+  accepted-marks f =
+      λ j. record {
+        capacity = field-at 2 46 (marks .capacity) refl refl (lit< tt) j;
+        class = field-at 3 47 (marks .class) refl refl (lit< tt) j;
+        cash = (field-at 48 92 (marks .cash % 256) refl refl (lit< tt) ∙ byte-is _ (f .cash)) j;
+        margin = (field-at 49 93 (marks .margin % 256) refl refl (lit< tt) ∙ byte-is _ (f .margin)) j;
+      }
 
-  pub accepted-class : classificationAt (accepted t i orderId clOrdId account capacity class o) i ≡ class
-  unfolding fieldBytes
-  accepted-class = field-at 3 47 class refl refl (lit< tt)
-
-  pub accepted-order-id : orderId < 256 ^ 4 → orderIdAt (accepted t i orderId clOrdId account capacity class o) i ≡ orderId
-  unfolding fieldBytes termBytes amountBytes tailBytes bytesOf leAt
+  pub accepted-order-id : orderId < 256 ^ 4 → orderIdAt (accepted t i orderId clOrdId account marks o) i ≡ orderId
+  unfolding fieldBytes termBytes amountBytes tailBytes endBytes bytesOf leAt
   accepted-order-id small = field-number 4 40 84 orderId refl refl (lit≤ tt) small
 
   -- the unused bytes are zero
-  pub accepted-spare : allZero (partAt (accepted t i orderId clOrdId account capacity class o) (128 * i + 92) 36) ≡ true
-  unfolding fieldBytes termBytes amountBytes tailBytes bytesOf partAt allZero
+  pub accepted-spare : allZero (partAt (accepted t i orderId clOrdId account marks o) (128 * i + 94) 34) ≡ true
+  unfolding fieldBytes termBytes amountBytes tailBytes endBytes bytesOf partAt allZero
   accepted-spare =
       let z = length-second in
-      let c = length-fields orderId capacity class o in
-      let q : 128 * i + 92 ≡ 128 * i + 44 + 48 = omega arith in
-      let e : partAt (put (putTexts t i clOrdId account) (128 * i + 44) (fieldBytes orderId capacity class o)) (128 * i + 44 + 48) 36 ≡ partAt (fieldBytes orderId capacity class o) 48 36 =
-      part-in (putTexts t i clOrdId account) (128 * i + 44) (fieldBytes orderId capacity class o) 48 36 (omega arith) (omega arith) in
+      let c = length-fields orderId marks o in
+      let q : 128 * i + 94 ≡ 128 * i + 44 + 50 = omega arith in
+      let e : partAt (put (putTexts t i clOrdId account) (128 * i + 44) (fieldBytes orderId marks o)) (128 * i + 44 + 50) 34 ≡ partAt (fieldBytes orderId marks o) 50 34 =
+      part-in (putTexts t i clOrdId account) (128 * i + 44) (fieldBytes orderId marks o) 50 34 (omega arith) (omega arith) in
       rw (← accepted-parts, q, e)
 
-  pub accepted-order : Sized o → orderAt (accepted t i orderId clOrdId account capacity class o) i ≡ o
-  unfolding orderAt fieldBytes termBytes amountBytes tailBytes bytesOf leAt
+  pub accepted-order : Sized o → orderAt (accepted t i orderId clOrdId account marks o) i ≡ o
+  unfolding orderAt fieldBytes termBytes amountBytes tailBytes endBytes bytesOf leAt
   accepted-order f =
       λ j. record {
         side = field-at 0 44 (o .side) refl refl (lit< tt) j;

@@ -9,6 +9,7 @@ use lib.ListN.{length}
 use Rattle.matching.specs.declared.Order.{Order}
 use Rattle.matching.specs.declared.Event.{Event}
 use Rattle.matching.specs.Matching.{who, happens, workAfter, misses, decidedAfter}
+use Rattle.table.specs.declared.record.Marks.{Marks}
 use Rattle.table.specs.Heading.{nextOf, workOf, decidedOf, modeOf, putNext, putWork, putDecided, endWork}
 use Rattle.table.specs.Orders.{bookOf, applied, withdrawn, replaced, accepted}
 use Rattle.table.specs.Best.{putBest, clearBest}
@@ -43,9 +44,9 @@ stepped t =
 
 -- after a new order, o, is accepted as record k: the number of the report is its OrderID, and it is in work, with the 52 of its
 -- message and no best levels
-unfoldable pub entered : List ℕ → ℕ → List ℕ → List ℕ → ℕ → ℕ → Order → List ℕ → List ℕ
-entered t k clOrdId account capacity class o stamp =
-    clearBest (putWork (numbered (accepted t k (nextOf t) clOrdId account capacity class o) 1) k stamp)
+unfoldable pub entered : List ℕ → ℕ → List ℕ → List ℕ → Marks → Order → List ℕ → List ℕ
+entered t k clOrdId account marks o stamp =
+    clearBest (putWork (numbered (accepted t k (nextOf t) clOrdId account marks o) 1) k stamp)
 
 -- after event e replaces its order: it is in work, with the 52 of its message and no best levels
 unfoldable pub renewed : List ℕ → List ℕ → Event → List ℕ → List ℕ

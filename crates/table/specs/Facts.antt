@@ -9,10 +9,19 @@ use Rattle.octets.specs.Octets.{sameBytes}
 use Rattle.matching.specs.declared.Event.{Event}
 use Rattle.matching.specs.Matching.{who}
 use Rattle.matching.specs.Held.{Held, Ready}
+use Rattle.matching.specs.Quoted.{Quoted}
+use Rattle.table.specs.declared.record.Marks.{Marks}
 use Rattle.table.specs.Places.{tableBytes}
-use Rattle.table.specs.Heading.{nextOf, workOf, decidedOf, isListed}
-use Rattle.table.specs.Orders.{clOrdIdAt, orderIdAt, filled, bookOf}
-use Rattle.table.specs.Market.{every, isPrintable, hasSettings, hasWork, hasSpare, restZero, isRecord, hasDecision, hasBest}
+use Rattle.table.specs.Heading.{nextOf, workOf, instrumentOf, decidedOf, isListed}
+use Rattle.table.specs.Orders.{clOrdIdAt, orderIdAt, orderAt, filled, bookOf}
+use Rattle.table.specs.Market.{every, isPrintable, hasSettings, hasWork, hasKind, restZero, isRecord, hasDecision, hasBest}
+
+-- each mark of an order fits a byte
+pub record InBytes (marks : Marks) : Type 0 where
+  pub capacity : marks .capacity < 256
+  pub class : marks .class < 256
+  pub cash : marks .cash < 256
+  pub margin : marks .margin < 256
 
 -- numbers given to n records, f i to record i, are distinct and below the next number
 pub record FreshNumbers (f : ℕ → ℕ) (next n : ℕ) : Type 0 where
@@ -25,13 +34,14 @@ pub record Market (t : List ℕ) : Type 0 where
   pub settings : hasSettings t ≡ true
   pub next-low : 1 ≤ nextOf t
   pub work : hasWork t ≡ true
-  pub spare : hasSpare t ≡ true
+  pub kind : hasKind t ≡ true
   pub rest : restZero t ≡ true
   pub records : (i : ℕ) → 1 ≤ i → i ≤ filled t → isRecord t i ≡ true
   pub ids : (j k : ℕ) → 1 ≤ j → j < k → k ≤ filled t → sameBytes (clOrdIdAt t j) (clOrdIdAt t k) ≡ false
   pub order-ids : FreshNumbers (orderIdAt t) (nextOf t) (filled t)
   pub decision : hasDecision (bookOf t) (workOf t) (decidedOf t) ≡ true
   pub held : Held (isListed t) (nextOf t) (bookOf t) (workOf t)
+  pub quoted : (i : ℕ) → 1 ≤ i → i ≤ filled t → Quoted (instrumentOf t) (orderAt t i)
   pub best : hasBest t ≡ true
 
 -- a ClOrdID that an order of the table may take: 1 to 32 characters, and none has it

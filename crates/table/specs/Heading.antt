@@ -1,6 +1,6 @@
--- The heading of a table by name: the settings, the next report number, the order in work, the 52 of its message and whether its
--- minimum is decided (document 01, "The table and its calls"; document 02, T-05). Reading any table gives something; writing changes the named bytes alone. Assumes
--- nothing: whether what is read makes sense is said in Market.
+-- The heading of a table by name: the settings, what it trades, the next report number, the order in work, the 52 of its message and
+-- whether its minimum is decided (document 01, "The table and its calls"; document 02, T-05 and T-08). Reading any table gives
+-- something; writing changes the named bytes alone. Assumes nothing: whether what is read makes sense is said in Market.
 use mathlib.Core.Bool.{Bool, cond}
 use mathlib.Core.List.{List, [], _∷_, _++_}
 use Prim.Native.Nat.{ℕ, _+_, _*_}
@@ -8,11 +8,13 @@ use lib.Dec.{eqb, ltb}
 use lib.ListN.{getD}
 use Rattle.octets.specs.Octets.{leAt, bytesOf, put, textAt, textBytes, putText}
 use Rattle.octets.specs.Tests.{firstFrom}
-use Rattle.table.specs.Places.{venueByte, portByte, idRoom, codeByte, codeRoom, nextByte, workByte, stampByte, stampRoom, mpidsByte, modesByte, mostMpids, decidedByte}
+use Rattle.decimal.specs.declared.Instrument.{Instrument}
+use Rattle.decimal.specs.declared.Instrument.the-variants.{Bonds, Equities}
+use Rattle.table.specs.Places.{venueByte, portByte, idRoom, codeByte, codeRoom, nextByte, workByte, stampByte, stampRoom, kindByte, mpidsByte, modesByte, mostMpids, decidedByte}
 
 -- ---- reading
 
--- the venue id, the port id and the bond code
+-- the venue id, the port id, and the code of the bond or the symbol of the share
 abbrev pub venueOf : List ℕ → List ℕ
 venueOf t = textAt t venueByte
 
@@ -32,6 +34,14 @@ workOf t = getD t workByte 0
 
 abbrev pub stampOf : List ℕ → List ℕ
 stampOf t = textAt t stampByte
+
+-- what the market trades: bonds are noted as 0, equities as 1
+abbrev pub kindNumber : Instrument → ℕ
+kindNumber Bonds = 0
+kindNumber Equities = 1
+
+unfoldable pub instrumentOf : List ℕ → Instrument
+instrumentOf t = cond (eqb (getD t kindByte 0) 0) Bonds Equities
 
 -- the decision on its minimum: 0, or 1 once it is made
 abbrev pub decidedOf : List ℕ → ℕ
@@ -71,6 +81,9 @@ putPort t xs = putText idRoom t portByte xs
 
 abbrev pub putCode : List ℕ → List ℕ → List ℕ
 putCode t xs = putText codeRoom t codeByte xs
+
+abbrev pub putKind : List ℕ → Instrument → List ℕ
+putKind t q = put t kindByte (kindNumber q ∷ [])
 
 -- the bytes of a list of MPIDs
 unfoldable pub mpidBytes : List ℕ → List ℕ

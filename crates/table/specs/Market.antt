@@ -1,7 +1,8 @@
--- When a table is a market (document 01, "The table and its calls"; document 02, T-05, T-06, T-09): one definition for each clause, in the
+-- When a table is a market (document 01, "The table and its calls"; document 02, T-05, T-06, T-08, T-09): one definition for each clause, in the
 -- paper's order. The places that the paper leaves to the team are decided here: bytes that nothing uses are zero, and so is the
 -- room behind a text; the order in work is a filled record; while one is in work its 52 is a time, and otherwise zeros; OrderQty,
--- place and OrderID are at least 1. Assumes nothing: any list of bytes is a market or is not.
+-- place and OrderID are at least 1. What depends on what the market trades is asked by the kind that the heading notes. Assumes
+-- nothing: any list of bytes is a market or is not.
 use mathlib.Core.Bool.{Bool, true, not, cond, _&&_, _||_}
 use mathlib.Core.List.{List, [], _∷_}
 use Prim.Native.Nat.{ℕ, suc, _+_, _*_, _-_}
@@ -10,13 +11,17 @@ use lib.ListN.{length, getD, drop}
 use Rattle.octets.specs.Octets.{partAt, textAt, sameBytes, allZero}
 use Rattle.octets.specs.Characters.{byte}
 use Rattle.octets.specs.Tests.{allUpTo}
+use Rattle.decimal.specs.declared.Instrument.{Instrument}
+use Rattle.decimal.specs.declared.Instrument.the-variants.{Bonds, Equities}
+use Rattle.decimal.specs.Instruments.{highest}
 use Rattle.decimal.specs.Reading.{isDigit, isTime}
 use Rattle.matching.specs.declared.Order.{Order}
-use Rattle.matching.specs.Matching.{Book, at, openOf, isOpen, isBuy, isImmediate, minimumOf, crosses, opposedTo}
+use Rattle.matching.specs.Matching.{Book, at, openOf, isOpen, isSideOf, isBuy, isImmediate, minimumOf, crosses, opposedTo}
 use Rattle.matching.specs.Held.{mayMinimum}
-use Rattle.table.specs.Places.{tableBytes, venueByte, portByte, idRoom, codeByte, codeRoom, stampByte, stampRoom, spareByte, mpidsByte, modesByte, mostMpids, bestByte, bestBytes, recordAt, clOrdIdRoom, accountByte, accountRoom, recordEnd, recordSpare}
-use Rattle.table.specs.Heading.{nextOf, workOf, stampOf, decidedOf, mpidAt, modeAt, entries, isListed}
-use Rattle.table.specs.Orders.{clOrdIdAt, orderIdAt, capacityAt, classificationAt, orderAt, filled, bookOf}
+use Rattle.table.specs.declared.record.Marks.{Marks}
+use Rattle.table.specs.Places.{tableBytes, venueByte, portByte, idRoom, codeByte, codeRoom, stampByte, stampRoom, kindByte, mpidsByte, modesByte, mostMpids, bestByte, bestBytes, recordAt, clOrdIdRoom, accountByte, accountRoom, recordEnd, recordSpare}
+use Rattle.table.specs.Heading.{nextOf, workOf, stampOf, kindNumber, instrumentOf, decidedOf, mpidAt, modeAt, entries, isListed}
+use Rattle.table.specs.Orders.{clOrdIdAt, orderIdAt, marksAt, orderAt, filled, bookOf}
 use Rattle.table.specs.Best.{bestDue}
 
 -- ---- texts
@@ -37,6 +42,11 @@ isGraphic x = isBetween 0x21 0x7e x
 abbrev pub isPrintable : ℕ → Bool
 isPrintable x = isBetween 0x20 0x7e x
 
+-- a character of a bond's code, a digit, and of a share's symbol, 21 to 7E hex
+unfoldable pub isCodeCharacter : Instrument → ℕ → Bool
+isCodeCharacter Bonds = isDigit
+isCodeCharacter Equities = isGraphic
+
 -- zeros stand behind the text at place p, up to its room for n characters
 unfoldable pub isPadded : ℕ → List ℕ → ℕ → Bool
 isPadded n t p = allZero (partAt t (p + 1 + getD t p 0) (n - getD t p 0))
@@ -51,9 +61,11 @@ isText f low n t p = leb low (getD t p 0) && leb (getD t p 0) n && every f (text
 unfoldable pub hasLength : List ℕ → Bool
 hasLength t = eqb (length t) tableBytes
 
--- venue and port have 1 to 8 characters, the code has 1 to 9 digits
+-- venue and port have 1 to 8 characters, the code has 1 to 9, such as the market's codes have
 unfoldable pub hasNames : List ℕ → Bool
-hasNames t = isText isGraphic 1 idRoom t venueByte && isText isGraphic 1 idRoom t portByte && isText isDigit 1 codeRoom t codeByte
+hasNames t =
+    isText isGraphic 1 idRoom t venueByte && isText isGraphic 1 idRoom t portByte
+    && isText (isCodeCharacter (instrumentOf t)) 1 codeRoom t codeByte
 
 -- a listed MPID is 1 to 999,999 and its mode 1, 2 or 3; it is not listed before
 unfoldable pub isEntry : List ℕ → ℕ → Bool
@@ -84,9 +96,9 @@ hasStamp t = cond (eqb (workOf t) 0) (allZero (partAt t stampByte (1 + stampRoom
 unfoldable pub hasWork : List ℕ → Bool
 hasWork t = leb (workOf t) (filled t) && hasStamp t
 
--- the byte of the heading that nothing uses is zero; those among the best levels are told with them
-unfoldable pub hasSpare : List ℕ → Bool
-hasSpare t = allZero (partAt t spareByte 1)
+-- what the market trades is noted as 0 or 1
+unfoldable pub hasKind : List ℕ → Bool
+hasKind t = leb (getD t kindByte 0) 1
 
 -- ---- the records
 
@@ -101,22 +113,31 @@ isCapacity c = eqb c (byte "A") || eqb c (byte "P")
 unfoldable pub isClass : ℕ → Bool
 isClass c = eqb c 1 || (leb 3 c && leb c 6)
 
--- each field is in range: the texts, the capacity, the classification, an OrderID, and zeros in the unused bytes
+-- CashMargin and MarginTransactionType: a bond order has neither; an equities order has a CashMargin, 1 to 3, and may have a MarginTransactionType, 1 or 2,
+-- but where CashMargin is 1, cash
+unfoldable pub isCash : Instrument → ℕ → ℕ → Bool
+isCash Bonds cash margin = eqb cash 0 && eqb margin 0
+isCash Equities cash margin = leb 1 cash && leb cash 3 && leb margin 2 && (not (eqb cash 1) || eqb margin 0)
+
+-- the marks of an order are in range
+unfoldable pub isMarked : Instrument → Marks → Bool
+isMarked q marks = isCapacity (marks .capacity) && isClass (marks .class) && isCash q (marks .cash) (marks .margin)
+
+-- each field is in range: the texts, the marks, an OrderID, and zeros in the unused bytes
 unfoldable pub isRecord : List ℕ → ℕ → Bool
 isRecord t i =
     isText isPrintable 1 clOrdIdRoom t (recordAt i)
     && isText isPrintable 0 accountRoom t (recordAt i + accountByte)
-    && isCapacity (capacityAt t i)
-    && isClass (classificationAt t i)
+    && isMarked (instrumentOf t) (marksAt t i)
     && leb 1 (orderIdAt t i)
     && allZero (partAt t (recordAt i + recordEnd) recordSpare)
 
--- side 1 or 2, time in force 0, 3 or 4, MinQty on an IOC alone and at most OrderQty, level 1 to 1,999,999,999 (a yield of at most
--- 999,999.999 in size), OrderQty 1 to 999,999,999, a place
-unfoldable pub isRanged : Order → Bool
-isRanged o =
-    (eqb (o .side) 1 || eqb (o .side) 2) && (eqb (o .tif) 0 || isImmediate o) && mayMinimum o
-    && leb 1 (o .level) && leb (o .level) 1999999999
+-- a side of the market, time in force 0, 3 or 4, MinQty on an IOC alone and at most OrderQty, a level from 1 to the market's highest,
+-- OrderQty 1 to 999,999,999, a place
+unfoldable pub isRanged : Instrument → Order → Bool
+isRanged q o =
+    isSideOf q (o .side) && (eqb (o .tif) 0 || isImmediate o) && mayMinimum o
+    && leb 1 (o .level) && leb (o .level) (highest q)
     && leb 1 (o .qty) && leb (o .qty) 999999999 && leb 1 (o .place)
 
 -- the MPID is 0, for none, or listed
@@ -131,16 +152,15 @@ isWithin o = leb (o .executed + o .decremented + o .canceled) (o .qty)
 unfoldable pub isShut : Order → Bool
 isShut o = eqb (o .canceled) 0 || eqb (openOf o) 0
 
--- the sum of quantity times yield is at most executed × 999,999,999 in size; with levels for yields it is between executed
--- × 1 and executed × 1,999,999,999
-unfoldable pub isPriced : Order → Bool
-isPriced o = leb (o .executed) (o .sum) && leb (o .sum) (o .executed * 1999999999)
+-- the sum of quantity times level is what the executed quantity can come to: between executed × 1 and executed × the highest level
+unfoldable pub isPriced : Instrument → Order → Bool
+isPriced q o = leb (o .executed) (o .sum) && leb (o .sum) (o .executed * highest q)
 
 -- all of this holds of record i
 unfoldable pub isOrder : List ℕ → ℕ → Bool
 isOrder t i =
-    isRecord t i && isRanged (orderAt t i) && isKnown t (orderAt t i .mpid)
-    && isWithin (orderAt t i) && isShut (orderAt t i) && isPriced (orderAt t i)
+    isRecord t i && isRanged (instrumentOf t) (orderAt t i) && isKnown t (orderAt t i .mpid)
+    && isWithin (orderAt t i) && isShut (orderAt t i) && isPriced (instrumentOf t) (orderAt t i)
 
 -- every filled record is an order
 unfoldable pub hasOrders : List ℕ → Bool
@@ -178,11 +198,11 @@ isDone o = not (isImmediate o && isOpen o)
 unfoldable pub noIoc : Book → ℕ → Bool
 noIoc b w = allUpTo (λ k. eqb (suc k) w || isDone (at b (suc k))) (length b)
 
--- o and r are not an open buy and an open sell whose yields meet
+-- o and r are not an open buy and an open sell whose levels meet
 unfoldable pub isClear : Order → Order → Bool
 isClear o r = not (isOpen o && isBuy o && (isOpen r && not (isBuy r)) && crosses (o .level) (r .level))
 
--- apart from the order in work, every open buy yield is above every open sell yield
+-- apart from the order in work, the level of every open buy is above that of every open sell: its yield is, or its price is below
 unfoldable pub noCross : Book → ℕ → Bool
 noCross b w =
     allUpTo (λ i. allUpTo (λ j. eqb (suc i) w || eqb (suc j) w || isClear (at b (suc i)) (at b (suc j))) (length b)) (length b)
@@ -209,6 +229,13 @@ hasBest t = sameBytes (partAt t bestByte bestBytes) (bestDue t)
 
 unfoldable pub isMarket : List ℕ → Bool
 isMarket t =
-    hasLength t && hasSettings t && hasNext t && hasWork t && hasSpare t
+    hasLength t && hasSettings t && hasNext t && hasWork t && hasKind t
     && restZero t && hasOrders t && hasIds t && hasOrderIds t && isBook (bookOf t) (workOf t) (nextOf t)
     && hasDecision (bookOf t) (workOf t) (decidedOf t) && hasBest t
+
+-- it trades bonds, or equities; and it is a market that does
+unfoldable pub isOf : Instrument → List ℕ → Bool
+isOf q t = eqb (getD t kindByte 0) (kindNumber q)
+
+unfoldable pub isMarketOf : Instrument → List ℕ → Bool
+isMarketOf q t = isMarket t && isOf q t

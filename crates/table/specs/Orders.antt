@@ -1,5 +1,5 @@
 -- The orders of a table by name: reading a record, the book that matching works on, and the writes that change a record
--- (document 01, "The table and its calls"; document 02, T-09). Records count from 1. Writing changes the named bytes alone.
+-- (document 01, "The table and its calls"; document 02, T-08 and T-09). Records count from 1. Writing changes the named bytes alone.
 -- Assumes nothing: whether what is read makes sense is said in Market.
 use mathlib.Core.Bool.{Bool, not, cond}
 use mathlib.Core.List.{List, [], _∷_, _++_}
@@ -11,7 +11,8 @@ use Rattle.octets.specs.Tests.{firstFrom}
 use Rattle.matching.specs.declared.Order.{Order}
 use Rattle.matching.specs.declared.Event.{Event}
 use Rattle.matching.specs.Matching.{Book, isOpen, who, change}
-use Rattle.table.specs.Places.{mostOrders, recordAt, clOrdIdRoom, accountByte, accountRoom, sideByte, tifByte, capacityByte, classByte, levelByte, qtyByte, placeByte, mpidByte, sumByte, executedByte, decrementedByte, canceledByte, orderIdByte, minQtyByte, recordSpare}
+use Rattle.table.specs.declared.record.Marks.{Marks}
+use Rattle.table.specs.Places.{mostOrders, recordAt, clOrdIdRoom, accountByte, accountRoom, sideByte, tifByte, capacityByte, classByte, levelByte, qtyByte, placeByte, mpidByte, sumByte, executedByte, decrementedByte, canceledByte, orderIdByte, minQtyByte, cashByte, marginByte, recordSpare}
 
 -- ---- reading
 
@@ -26,14 +27,24 @@ accountAt t i = textAt t (recordAt i + accountByte)
 abbrev pub orderIdAt : List ℕ → ℕ → ℕ
 orderIdAt t i = leAt 4 t (recordAt i + orderIdByte)
 
--- the capacity, a character, and the classification, a number: only reports read them
+-- the capacity, a character, the classification, a number, and CashMargin and MarginTransactionType, numbers, 0 for none: only reports read them
 abbrev pub capacityAt : List ℕ → ℕ → ℕ
 capacityAt t i = getD t (recordAt i + capacityByte) 0
 
 abbrev pub classificationAt : List ℕ → ℕ → ℕ
 classificationAt t i = getD t (recordAt i + classByte) 0
 
--- record i as matching takes it: side 1 buys and 2 sells, time in force 0 is Day, 3 IOC and 4 Fill or Kill, a yield is held as its level
+abbrev pub cashAt : List ℕ → ℕ → ℕ
+cashAt t i = getD t (recordAt i + cashByte) 0
+
+abbrev pub marginAt : List ℕ → ℕ → ℕ
+marginAt t i = getD t (recordAt i + marginByte) 0
+
+unfoldable pub marksAt : List ℕ → ℕ → Marks
+marksAt t i = record { capacity = capacityAt t i; class = classificationAt t i; cash = cashAt t i; margin = marginAt t i }
+
+-- record i as matching takes it: side 1 buys and any other sells, time in force 0 is Day, 3 IOC and 4 Fill or Kill, a yield or a price
+-- is held as its level
 unfoldable pub orderAt : List ℕ → ℕ → Order
 orderAt t i =
     record {
@@ -100,19 +111,23 @@ amountBytes o = bytesOf 8 (o .sum) ++ (bytesOf 4 (o .executed) ++ (bytesOf 4 (o 
 abbrev pub putAmounts : List ℕ → ℕ → Order → List ℕ
 putAmounts t i o = put t (recordAt i + sumByte) (amountBytes o)
 
--- what stands behind the MPID, up to the end of the record: the amounts, the OrderID, MinQty, zeros
-unfoldable pub tailBytes : ℕ → Order → List ℕ
-tailBytes orderId o = amountBytes o ++ (bytesOf 4 orderId ++ (bytesOf 4 (o .minqty) ++ replicate recordSpare 0))
+-- CashMargin, MarginTransactionType, and zeros up to the end of the record
+unfoldable pub endBytes : Marks → List ℕ
+endBytes marks = bytesOf 1 (marks .cash) ++ (bytesOf 1 (marks .margin) ++ replicate recordSpare 0)
+
+-- what stands behind the MPID, up to the end of the record: the amounts, the OrderID, MinQty, the end
+unfoldable pub tailBytes : ℕ → Marks → Order → List ℕ
+tailBytes orderId marks o = amountBytes o ++ (bytesOf 4 orderId ++ (bytesOf 4 (o .minqty) ++ endBytes marks))
 
 -- a record's bytes behind its texts: side, time in force, capacity, classification; the terms; the MPID; the rest
-unfoldable pub fieldBytes : ℕ → ℕ → ℕ → Order → List ℕ
-fieldBytes orderId capacity class o =
-    (o .side ∷ o .tif ∷ capacity ∷ class ∷ []) ++ (termBytes o ++ (bytesOf 4 (o .mpid) ++ tailBytes orderId o))
+unfoldable pub fieldBytes : ℕ → Marks → Order → List ℕ
+fieldBytes orderId marks o =
+    (o .side ∷ o .tif ∷ marks .capacity ∷ marks .class ∷ []) ++ (termBytes o ++ (bytesOf 4 (o .mpid) ++ tailBytes orderId marks o))
 
 -- all bytes of a record
-unfoldable pub recordOf : ℕ → List ℕ → List ℕ → ℕ → ℕ → Order → List ℕ
-recordOf orderId clOrdId account capacity class o =
-    textBytes clOrdIdRoom clOrdId ++ (textBytes accountRoom account ++ fieldBytes orderId capacity class o)
+unfoldable pub recordOf : ℕ → List ℕ → List ℕ → Marks → Order → List ℕ
+recordOf orderId clOrdId account marks o =
+    textBytes clOrdIdRoom clOrdId ++ (textBytes accountRoom account ++ fieldBytes orderId marks o)
 
 -- ---- the table after an event
 
@@ -129,5 +144,5 @@ unfoldable pub replaced : List ℕ → List ℕ → Event → List ℕ
 replaced t clOrdId e = putTerms (putId t (who e) clOrdId) (who e) (change e (orderAt t (who e)))
 
 -- after a new order, o, is accepted as record i with this OrderID: nothing is left of what the record held
-unfoldable pub accepted : List ℕ → ℕ → ℕ → List ℕ → List ℕ → ℕ → ℕ → Order → List ℕ
-accepted t i orderId clOrdId account capacity class o = put t (recordAt i) (recordOf orderId clOrdId account capacity class o)
+unfoldable pub accepted : List ℕ → ℕ → ℕ → List ℕ → List ℕ → Marks → Order → List ℕ
+accepted t i orderId clOrdId account marks o = put t (recordAt i) (recordOf orderId clOrdId account marks o)

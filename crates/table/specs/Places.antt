@@ -31,7 +31,7 @@ portByte = 9
 abbrev pub idRoom : ℕ
 idRoom = 8
 
--- the bond code, a length byte and room for 9 digits
+-- the code of the bond or the symbol of the share, a length byte and room for 9 characters
 abbrev pub codeByte : ℕ
 codeByte = 18
 
@@ -52,9 +52,9 @@ stampByte = 33
 abbrev pub stampRoom : ℕ
 stampRoom = 21
 
--- one unused byte
-abbrev pub spareByte : ℕ
-spareByte = 55
+-- what the market trades, 1 byte: 0 bonds, 1 equities (document 02, T-08)
+abbrev pub kindByte : ℕ
+kindByte = 55
 
 -- the MPIDs, 4 bytes each, and their modes, 1 byte each: 8 of both, the unused ones zero
 abbrev pub mpidsByte : ℕ
@@ -164,9 +164,16 @@ orderIdByte = 84
 abbrev pub minQtyByte : ℕ
 minQtyByte = 88
 
+-- CashMargin and MarginTransactionType as they were sent, 1 byte each, 0 for none (document 02, T-08)
+abbrev pub cashByte : ℕ
+cashByte = 92
+
+abbrev pub marginByte : ℕ
+marginByte = 93
+
 -- the first of the unused bytes up to the end of the record, and how many they are
 abbrev pub recordEnd : ℕ
-recordEnd = 92
+recordEnd = 94
 
 abbrev pub recordSpare : ℕ
-recordSpare = 36
+recordSpare = 34

@@ -1,10 +1,11 @@
-// The heading of a table: the settings as parts of it, the next report number, the order in work.
+// The heading of a table: the settings as parts of it, what it trades, the next report number, the order in work.
 ghost use mathlib.Core.Path.{_≡_};
 ghost use Prim.Native.Nat.{_≤_, _<_};
 ghost use lib.ListN.{length};
 ghost use Rattle.table.specs.Places.{tableBytes};
-ghost use Rattle.table.specs.Heading.{venueOf, portOf, codeOf, nextOf, workOf, stampOf, decidedOf, putNext, putWork, putDecided, endWork};
+ghost use Rattle.table.specs.Heading.{venueOf, portOf, codeOf, nextOf, workOf, stampOf, kindNumber, instrumentOf, decidedOf, putKind, putNext, putWork, putDecided, endWork};
 use crate::places;
+use decimal::Instrument;
 
 // The venue id.
 pub fn venue(t: &[u8]) -> &[u8]
@@ -20,7 +21,7 @@ pub fn port(t: &[u8]) -> &[u8]
     octets::text_at(t, places::PORT)
 }
 
-// The bond code.
+// The code of the bond, or the symbol of the share.
 pub fn code(t: &[u8]) -> &[u8]
     ensures { λ r. ⌜ now r ≡ codeOf (now (t .entry)) ⌝ }
 {
@@ -50,12 +51,41 @@ pub fn work(t: &[u8]) -> usize
     octets::wide(t[places::WORK]) as usize
 }
 
+// What the market trades.
+pub fn instrument(t: &[u8]) -> Instrument
+    requires { ⌜ length (now t) ≡ tableBytes ⌝ }
+    ensures { λ r. ⌜ r ≡ instrumentOf (now (t .entry)) ⌝ }
+{
+    if octets::wide(t[places::KIND]) == 0 {
+        return Instrument::Bonds;
+    }
+    Instrument::Equities
+}
+
 // The decision on the minimum of the order in work: 0, or 1 once it is made.
 pub fn decided(t: &[u8]) -> u64
     requires { ⌜ length (now t) ≡ tableBytes ⌝ }
     ensures { λ r. ⌜ (r ≡ decidedOf (now (t .entry))) × (r < 256) ⌝ }
 {
     octets::wide(t[places::DECIDED])
+}
+
+// How it is noted.
+pub fn kind_number(q: Instrument) -> u8
+    ensures { λ r. ⌜ r ≡ kindNumber q ⌝ }
+{
+    match q {
+        Instrument::Bonds => 0,
+        Instrument::Equities => 1,
+    }
+}
+
+// Notes what the market trades.
+pub fn put_kind(t: &mut [u8], q: Instrument)
+    requires { ⌜ length (now t) ≡ tableBytes ⌝ }
+    ensures { λ _. ⌜ now (t .exit) ≡ putKind (now (t .entry)) q ⌝ }
+{
+    t[places::KIND] = kind_number(q);
 }
 
 // Sets the next report number.

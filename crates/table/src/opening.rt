@@ -3,12 +3,14 @@ ghost use mathlib.Core.Path.{_≡_};
 ghost use mathlib.Core.Bool.{true};
 ghost use Prim.Native.Nat.{ℕ, _+_, _≤_, _<_};
 ghost use lib.ListN.{length, getD};
-ghost use Rattle.table.specs.Places.{tableBytes};
+ghost use Rattle.table.specs.Places.{tableBytes, codeRoom};
 ghost use Rattle.table.specs.Heading.{putMpids, putModes};
-ghost use Rattle.table.specs.Market.{every, isBetween};
+ghost use Rattle.table.specs.Market.{every, isBetween, isCodeCharacter};
 ghost use Rattle.table.specs.Opened.{isName, isNew, isGiven, areGiven, areNames, areSettings, namedTable, freshTable, opened, openNumber};
+use crate::heading::put_kind;
 use crate::heading::put_next;
 use crate::places;
+use decimal::Instrument;
 
 // Whether every byte is from low to high.
 pub fn all_between(s: &[u8], low: u8, high: u8) -> bool
@@ -32,13 +34,23 @@ fn is_name(s: &[u8], room: usize, low: u8, high: u8) -> bool
     (1 <= n) & (n <= room) & all_between(s, low, high)
 }
 
+// Whether a code is one that such a market may have.
+fn is_code(q: Instrument, code: &[u8]) -> bool
+    ensures { λ r. ⌜ r ≡ isName (isCodeCharacter q) codeRoom (now (code .entry)) ⌝ }
+{
+    match q {
+        Instrument::Bonds => is_name(code, places::CODE_ROOM, 48, 57),
+        Instrument::Equities => is_name(code, places::CODE_ROOM, 33, 126),
+    }
+}
+
 // Whether venue, port and code are good.
-fn are_names(venue: &[u8], port: &[u8], code: &[u8]) -> bool
-    ensures { λ r. ⌜ r ≡ areNames (now (venue .entry)) (now (port .entry)) (now (code .entry)) ⌝ }
+fn are_names(q: Instrument, venue: &[u8], port: &[u8], code: &[u8]) -> bool
+    ensures { λ r. ⌜ r ≡ areNames q (now (venue .entry)) (now (port .entry)) (now (code .entry)) ⌝ }
 {
     is_name(venue, places::ID_ROOM, 33, 126)
         & is_name(port, places::ID_ROOM, 33, 126)
-        & is_name(code, places::CODE_ROOM, 48, 57)
+        & is_code(q, code)
 }
 
 // Whether no MPID before entry k is that of entry k.
@@ -111,6 +123,7 @@ fn put_modes(t: &mut [u8], modes: &[u64])
 
 // Whether every setting is good.
 fn are_settings(
+    q: Instrument,
     venue: &[u8],
     port: &[u8],
     code: &[u8],
@@ -118,14 +131,14 @@ fn are_settings(
     mpids: &[u64],
     modes: &[u64],
 ) -> bool
-    ensures { λ r. ⌜ r ≡ areSettings (now (venue .entry)) (now (port .entry)) (now (code .entry)) first (now (mpids .entry)) (now (modes .entry)) ⌝ }
+    ensures { λ r. ⌜ r ≡ areSettings q (now (venue .entry)) (now (port .entry)) (now (code .entry)) first (now (mpids .entry)) (now (modes .entry)) ⌝ }
 {
-    are_names(venue, port, code) & (1 <= first) & (first <= 999999999) & are_given(mpids, modes)
+    are_names(q, venue, port, code) & (1 <= first) & (first <= 999999999) & are_given(mpids, modes)
 }
 
 // Makes the table zero, but for venue, port and code.
-fn write_names(t: &mut [u8], venue: &[u8], port: &[u8], code: &[u8])
-    requires { ⌜ (length (now t) ≡ tableBytes) × areNames (now venue) (now port) (now code) ≡ true ⌝ }
+fn write_names(t: &mut [u8], q: Instrument, venue: &[u8], port: &[u8], code: &[u8])
+    requires { ⌜ (length (now t) ≡ tableBytes) × areNames q (now venue) (now port) (now code) ≡ true ⌝ }
     ensures { λ _. ⌜ now (t .exit) ≡ namedTable (now (venue .entry)) (now (port .entry)) (now (code .entry)) ⌝ }
 {
     octets::clear(t);
@@ -134,9 +147,19 @@ fn write_names(t: &mut [u8], venue: &[u8], port: &[u8], code: &[u8])
     octets::put_text(t, places::CODE, places::CODE_ROOM, code);
 }
 
+// Writes both lists.
+fn write_lists(t: &mut [u8], mpids: &[u64], modes: &[u64])
+    requires { ⌜ (length (now t) ≡ tableBytes) × areGiven (now mpids) (now modes) ≡ true ⌝ }
+    ensures { λ _. ⌜ now (t .exit) ≡ putModes (putMpids (now (t .entry)) (now (mpids .entry))) (now (modes .entry)) ⌝ }
+{
+    put_mpids(t, mpids);
+    put_modes(t, modes);
+}
+
 // Writes the whole table.
 fn write_fresh(
     t: &mut [u8],
+    q: Instrument,
     venue: &[u8],
     port: &[u8],
     code: &[u8],
@@ -144,17 +167,18 @@ fn write_fresh(
     mpids: &[u64],
     modes: &[u64],
 )
-    requires { ⌜ (length (now t) ≡ tableBytes) × areSettings (now venue) (now port) (now code) first (now mpids) (now modes) ≡ true ⌝ }
-    ensures { λ _. ⌜ now (t .exit) ≡ freshTable (now (venue .entry)) (now (port .entry)) (now (code .entry)) first (now (mpids .entry)) (now (modes .entry)) ⌝ }
+    requires { ⌜ (length (now t) ≡ tableBytes) × areSettings q (now venue) (now port) (now code) first (now mpids) (now modes) ≡ true ⌝ }
+    ensures { λ _. ⌜ now (t .exit) ≡ freshTable q (now (venue .entry)) (now (port .entry)) (now (code .entry)) first (now (mpids .entry)) (now (modes .entry)) ⌝ }
 {
-    write_names(t, venue, port, code);
+    write_names(t, q, venue, port, code);
     put_next(t, first);
-    put_mpids(t, mpids);
-    put_modes(t, modes);
+    put_kind(t, q);
+    write_lists(t, mpids, modes);
 }
 
-// Opens a market in the table: 0, or refusal 9 with nothing changed.
+// Opens a market of bonds or of equities in the table: 0, or refusal 9 with nothing changed.
 pub fn open_table(
+    q: Instrument,
     t: &mut [u8],
     venue: &[u8],
     port: &[u8],
@@ -163,14 +187,14 @@ pub fn open_table(
     mpids: &[u64],
     modes: &[u64],
 ) -> u64
-    ensures { λ r. ⌜ (r ≡ openNumber (now (t .entry)) (now (venue .entry)) (now (port .entry)) (now (code .entry)) first (now (mpids .entry)) (now (modes .entry))) × (now (t .exit) ≡ opened (now (t .entry)) (now (venue .entry)) (now (port .entry)) (now (code .entry)) first (now (mpids .entry)) (now (modes .entry))) ⌝ }
+    ensures { λ r. ⌜ (r ≡ openNumber q (now (t .entry)) (now (venue .entry)) (now (port .entry)) (now (code .entry)) first (now (mpids .entry)) (now (modes .entry))) × (now (t .exit) ≡ opened q (now (t .entry)) (now (venue .entry)) (now (port .entry)) (now (code .entry)) first (now (mpids .entry)) (now (modes .entry))) ⌝ }
 {
     if t.len() != places::TABLE {
         return 9;
     }
-    if !are_settings(venue, port, code, first, mpids, modes) {
+    if !are_settings(q, venue, port, code, first, mpids, modes) {
         return 9;
     }
-    write_fresh(t, venue, port, code, first, mpids, modes);
+    write_fresh(t, q, venue, port, code, first, mpids, modes);
     0
 }

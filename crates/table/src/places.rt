@@ -19,7 +19,7 @@ pub const PORT: usize = 9;
 // The room of these two.
 pub const ID_ROOM: usize = 8;
 
-// The bond code, a length byte and room for its digits.
+// The code of the bond or the symbol of the share, a length byte and room for its characters.
 pub const CODE: usize = 18;
 
 pub const CODE_ROOM: usize = 9;
@@ -44,8 +44,8 @@ pub const STAMP_BYTES: usize = 1 + STAMP_ROOM;
 // All bytes of the order in work with its 52.
 pub const WORK_BYTES: usize = 1 + STAMP_BYTES;
 
-// One unused byte.
-pub const SPARE: usize = 55;
+// What the market trades, 1 byte: 0 bonds, 1 equities.
+pub const KIND: usize = 55;
 
 // The MPIDs, 4 bytes each.
 pub const MPIDS: usize = 56;
@@ -127,7 +127,12 @@ pub const ORDER_ID: usize = 84;
 // MinQty as it was sent, 4 bytes.
 pub const MIN_QTY: usize = 88;
 
-// The first of the unused bytes up to the end of the record, and how many they are.
-pub const RECORD_END: usize = 92;
+// CashMargin and MarginTransactionType as they were sent, 1 byte each.
+pub const CASH: usize = 92;
 
-pub const RECORD_SPARE: usize = 36;
+pub const MARGIN: usize = 93;
+
+// The first of the unused bytes up to the end of the record, and how many they are.
+pub const RECORD_END: usize = 94;
+
+pub const RECORD_SPARE: usize = 34;

@@ -6,9 +6,19 @@ ghost use lib.ListN.{length};
 ghost use Rattle.octets.specs.Octets.{leAt, put};
 ghost use Rattle.matching.specs.Matching.{isOpen, isBuy};
 ghost use Rattle.table.specs.Places.{tableBytes};
-ghost use Rattle.table.specs.Orders.{clOrdIdAt, accountAt, orderIdAt, capacityAt, classificationAt, orderAt, termBytes, amountBytes, tailBytes, fieldBytes, putId, putTerms, putAmounts, accepted};
+ghost use Rattle.table.specs.Orders.{clOrdIdAt, accountAt, orderIdAt, capacityAt, classificationAt, marksAt, orderAt, termBytes, amountBytes, endBytes, tailBytes, fieldBytes, putId, putTerms, putAmounts, accepted};
+ghost use Rattle.table.specs.Facts.{InBytes};
 use crate::places;
 use matching::Order;
+
+// The marks of an order, which only reports read: the capacity, a character, the classification, and CashMargin and MarginTransactionType, 0 for
+// none.
+pub struct Marks {
+    pub capacity: u64,
+    pub class: u64,
+    pub cash: u64,
+    pub margin: u64,
+}
 
 // The ClOrdID of record i.
 pub fn clordid(t: &[u8], i: usize) -> &[u8]
@@ -40,6 +50,20 @@ pub fn classification(t: &[u8], i: usize) -> u64
     ensures { λ r. ⌜ (r ≡ classificationAt (now (t .entry)) i) × (r < 256) ⌝ }
 {
     octets::wide(t[places::RECORD * i + places::CLASS])
+}
+
+// The marks of record i.
+pub fn marks_at(t: &[u8], i: usize) -> Marks
+    requires { ⌜ (length (now t) ≡ tableBytes) × (i < 256) ⌝ }
+    ensures { λ r. ⌜ r ≡ marksAt (now (t .entry)) i ⌝ }
+{
+    let b = places::RECORD * i;
+    Marks {
+        capacity: octets::wide(t[b + places::CAPACITY]),
+        class: octets::wide(t[b + places::CLASS]),
+        cash: octets::wide(t[b + places::CASH]),
+        margin: octets::wide(t[b + places::MARGIN]),
+    }
 }
 
 // The number whose four bytes start at place p. The four are added up with no loop between them, so that the compiler reads them as one.
@@ -144,15 +168,25 @@ fn write_amounts(t: &mut [u8], p: usize, o: Order)
     octets::put_le(t, p + 16, 4, o.canceled);
 }
 
-// Writes what stands behind the MPID of an order from place p on: the amounts, the OrderID, MinQty, zeros.
-fn write_tail(t: &mut [u8], p: usize, orderid: u64, o: Order)
+// Writes the end of a record from place p on: CashMargin, MarginTransactionType, zeros.
+fn write_end(t: &mut [u8], p: usize, marks: Marks)
+    requires { ⌜ p + 36 ≤ length (now t) ⌝ }
+    ensures { λ _. ⌜ now (t .exit) ≡ put (now (t .entry)) p (endBytes marks) ⌝ }
+{
+    octets::put_le(t, p, 1, marks.cash);
+    octets::put_le(t, p + 1, 1, marks.margin);
+    octets::put_zeros(t, p + 2, places::RECORD_SPARE);
+}
+
+// Writes what stands behind the MPID of an order from place p on: the amounts, the OrderID, MinQty, the end.
+fn write_tail(t: &mut [u8], p: usize, orderid: u64, marks: Marks, o: Order)
     requires { ⌜ p + 64 ≤ length (now t) ⌝ }
-    ensures { λ _. ⌜ now (t .exit) ≡ put (now (t .entry)) p (tailBytes orderid o) ⌝ }
+    ensures { λ _. ⌜ now (t .exit) ≡ put (now (t .entry)) p (tailBytes orderid marks o) ⌝ }
 {
     write_amounts(t, p, o);
     octets::put_le(t, p + 20, 4, orderid);
     octets::put_le(t, p + 24, 4, o.minqty);
-    octets::put_zeros(t, p + 28, places::RECORD_SPARE);
+    write_end(t, p + 28, marks);
 }
 
 // Writes four bytes from place p on.
@@ -166,15 +200,30 @@ fn write_four(t: &mut [u8], p: usize, a: u8, b: u8, c: u8, d: u8)
     t[p + 3] = d;
 }
 
-// Writes what stands behind the texts of a record from place p on.
-fn write_fields(t: &mut [u8], p: usize, orderid: u64, capacity: u8, class: u8, o: Order)
-    requires { ⌜ (p + 84 ≤ length (now t)) × (o .side < 256) × (o .tif < 256) ⌝ }
-    ensures { λ _. ⌜ now (t .exit) ≡ put (now (t .entry)) p (fieldBytes orderid capacity class o) ⌝ }
+// Writes the first four bytes behind the texts of a record from place p on: side, time in force, capacity, classification.
+fn write_first(t: &mut [u8], p: usize, marks: Marks, o: Order)
+    requires { ⌜ (p + 4 ≤ length (now t)) × (o .side < 256) × (o .tif < 256) × InBytes marks ⌝ }
+    ensures { λ _. ⌜ now (t .exit) ≡ put (now (t .entry)) p (o .side ∷ o .tif ∷ marks .capacity ∷ marks .class ∷ []) ⌝ }
 {
-    write_four(t, p, o.side as u8, o.tif as u8, capacity, class);
+    write_four(
+        t,
+        p,
+        o.side as u8,
+        o.tif as u8,
+        marks.capacity as u8,
+        marks.class as u8,
+    );
+}
+
+// Writes what stands behind the texts of a record from place p on.
+fn write_fields(t: &mut [u8], p: usize, orderid: u64, marks: Marks, o: Order)
+    requires { ⌜ (p + 84 ≤ length (now t)) × (o .side < 256) × (o .tif < 256) × InBytes marks ⌝ }
+    ensures { λ _. ⌜ now (t .exit) ≡ put (now (t .entry)) p (fieldBytes orderid marks o) ⌝ }
+{
+    write_first(t, p, marks, o);
     write_terms(t, p + 4, o);
     octets::put_le(t, p + 16, 4, o.mpid);
-    write_tail(t, p + 20, orderid, o);
+    write_tail(t, p + 20, orderid, marks, o);
 }
 
 // Sets the ClOrdID of record i.
@@ -208,12 +257,11 @@ pub fn accept(
     orderid: u64,
     clordid: &[u8],
     account: &[u8],
-    capacity: u8,
-    class: u8,
+    marks: Marks,
     o: Order,
 )
-    requires { ⌜ (length (now t) ≡ tableBytes) × (i < 256) × (length (now clordid) ≤ 32) × (length (now account) ≤ 10) × (o .side < 256) × (o .tif < 256) ⌝ }
-    ensures { λ _. ⌜ now (t .exit) ≡ accepted (now (t .entry)) i orderid (now (clordid .entry)) (now (account .entry)) capacity class o ⌝ }
+    requires { ⌜ (length (now t) ≡ tableBytes) × (i < 256) × (length (now clordid) ≤ 32) × (length (now account) ≤ 10) × (o .side < 256) × (o .tif < 256) × InBytes marks ⌝ }
+    ensures { λ _. ⌜ now (t .exit) ≡ accepted (now (t .entry)) i orderid (now (clordid .entry)) (now (account .entry)) marks o ⌝ }
 {
     octets::put_text(t, places::RECORD * i, places::CL_ORD_ID_ROOM, clordid);
     octets::put_text(
@@ -222,12 +270,5 @@ pub fn accept(
         places::ACCOUNT_ROOM,
         account,
     );
-    write_fields(
-        t,
-        places::RECORD * i + places::SIDE,
-        orderid,
-        capacity,
-        class,
-        o,
-    );
+    write_fields(t, places::RECORD * i + places::SIDE, orderid, marks, o);
 }

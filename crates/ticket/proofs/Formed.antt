@@ -11,18 +11,19 @@ use borrow.Author.Tests.{eqb-true}
 use Rattle.octets.specs.Octets.{textAt}
 use Rattle.octets.proofs.Bools.{split, both-l, both-r, or-r}
 use Rattle.octets.proofs.Parts.{length-text}
-use Rattle.decimal.specs.Reading.{isDigit, isTime}
+use Rattle.decimal.specs.Reading.{isTime}
 use Rattle.matching.specs.Matching.{at}
 use Rattle.matching.specs.Held.{Sound, In}
-use Rattle.table.specs.Heading.{venueOf, portOf, codeOf, nextOf, isListed}
+use Rattle.matching.specs.Quoted.{Quoted, AllQuoted}
+use Rattle.table.specs.Heading.{venueOf, portOf, codeOf, nextOf, instrumentOf, isListed}
 use Rattle.table.specs.Orders.{orderIdAt, orderAt, filled, bookOf}
-use Rattle.table.specs.Market.{isGraphic, isPrintable, isText, hasNames, hasList, hasSettings}
+use Rattle.table.specs.Market.{isGraphic, isPrintable, isCodeCharacter, isText, hasNames, hasList, hasSettings}
 use Rattle.table.proofs.Same.{filled-few}
 use Rattle.table.proofs.Texts.{text-low, text-high, text-every}
-use Rattle.table.proofs.Naming.{record-id, record-account, record-order-id, record-capacity, record-class}
+use Rattle.table.proofs.Naming.{record-id, record-account, record-order-id, record-marked}
 use Rattle.table.specs.Facts.{FreshNumbers, Market}
 use Rattle.table.proofs.Books.{length-book, at-book}
-use Rattle.table.proofs.Frames.{Formed, framed-self, framed-order-ids, market-formed}
+use Rattle.table.proofs.Frames.{Formed, framed-self, framed-order-ids, market-formed, quoted-book}
 use Rattle.table.proofs.Kept.{listed-small}
 use Rattle.report.specs.declared.Place.{Place}
 use Rattle.ticket.specs.Legible.{Spelt, textBy, Headed, Recorded}
@@ -46,9 +47,9 @@ module _ (t : List ℕ) (m : Formed t) where
   unfolding hasNames
   formed-port = let h = has-names in spelt isGraphic 1 8 t 9 (omega (arith, m .long)) (search (both-l, both-r))
 
-  pub formed-code : Spelt isDigit 1 9 (codeOf t)
+  pub formed-code : Spelt (isCodeCharacter (instrumentOf t)) 1 9 (codeOf t)
   unfolding hasNames
-  formed-code = let h = has-names in spelt isDigit 1 9 t 18 (omega (arith, m .long)) (search both-r)
+  formed-code = let h = has-names in spelt (isCodeCharacter (instrumentOf t)) 1 9 t 18 (omega (arith, m .long)) (search both-r)
 
   -- so the heading of a report with a number and a time
   pub formed-headed : (message : List ℕ) (n : ℕ) (time : Place) → 1 ≤ n → n < 1000000000 → isTime (textBy message t time) ≡ true → Headed t message n time
@@ -63,9 +64,9 @@ module _ (t : List ℕ) (m : Formed t) where
       (λ z. omega (arith, listed-small t x (m .settings) (or-r (eqb x 0) (isListed t x) h z)))
 
   -- a record whose order is in its ranges
-  pub formed-recorded : (k : ℕ) → 1 ≤ k → k ≤ filled t → orderIdAt t k < 1000000000 → Sound (orderAt t k)
+  pub formed-recorded : (k : ℕ) → 1 ≤ k → k ≤ filled t → orderIdAt t k < 1000000000 → Sound (orderAt t k) → Quoted (instrumentOf t) (orderAt t k)
       → (eqb (orderAt t k .mpid) 0 || isListed t (orderAt t k .mpid)) ≡ true → Recorded t k
-  formed-recorded k low high n s o =
+  formed-recorded k low high n s q o =
       record {
         low = low;
         high = omega (arith, filled-few t);
@@ -74,19 +75,20 @@ module _ (t : List ℕ) (m : Formed t) where
         account = spelt isPrintable 0 10 t (128 * k + 33) (omega (arith, m .long, filled-few t)) (record-account t k (m .records k low high));
         orderid-low = record-order-id t k (m .records k low high);
         orderid-high = n;
-        capacity = record-capacity t k (m .records k low high);
-        class = record-class t k (m .records k low high);
+        marked = record-marked t k (m .records k low high);
         sound = s;
+        quoted = q;
         owner = owner-small (orderAt t k .mpid) o;
       }
 
--- ---- a table of a market's form, its OrderIDs numbers of reports, each order of its book in its ranges, with an MPID that is listed
--- or none
+-- ---- a table of a market's form, its OrderIDs numbers of reports, each order of its book in its ranges and in those of what is
+-- traded, with an MPID that is listed or none
 
 pub record Orderly (t : List ℕ) : Type 0 where
   pub formed : Formed t
   pub order-ids : FreshNumbers (orderIdAt t) 1000000000 (filled t)
   pub sound : (k : ℕ) → In (bookOf t) k → Sound (at (bookOf t) k)
+  pub quoted : AllQuoted (instrumentOf t) (bookOf t)
   pub owned : (k : ℕ) → In (bookOf t) k → (eqb (at (bookOf t) k .mpid) 0 || isListed t (at (bookOf t) k .mpid)) ≡ true
 
 pub market-orderly : (t : List ℕ) → Market t → Orderly t
@@ -95,6 +97,7 @@ market-orderly t m =
       formed = market-formed t m;
       order-ids = framed-order-ids t t (m .long) (framed-self t) (nextOf t) 1000000000 (m .held .next-high) (m .order-ids);
       sound = m .held .sound;
+      quoted = quoted-book t (instrumentOf t) (m .quoted);
       owned = m .held .owned;
     }
 
@@ -102,4 +105,4 @@ pub orderly-recorded : (t : List ℕ) → Orderly t → (k : ℕ) → In (bookOf
 orderly-recorded t m k i =
     let l : k ≤ filled t = omega (arith, i .high, length-book t) in
     let e : at (bookOf t) k ≡ orderAt t k = at-book t k (i .low) l in
-    formed-recorded t (m .formed) k (i .low) l (m .order-ids .below k (i .low) l) (rw e at (m .sound k i)) (rw e at (m .owned k i))
+    formed-recorded t (m .formed) k (i .low) l (m .order-ids .below k (i .low) l) (rw e at (m .sound k i)) (rw e at (m .quoted k i)) (rw e at (m .owned k i))

@@ -9,25 +9,27 @@ use lib.Dec.{eqb, lit≤}
 use lib.ListN.{length, getD}
 use Rattle.octets.specs.Octets.{textAt}
 use Rattle.octets.proofs.Bools.{both-l}
+use Rattle.decimal.specs.Instruments.{highest}
 use Rattle.decimal.specs.Reading.{isTime}
 use Rattle.matching.specs.declared.Order.{Order}
 use Rattle.matching.specs.declared.Event.{Event}
 use Rattle.matching.specs.declared.Event.the-variants.{Accepted, Replaced, Withdrawn, Canceled, Decremented, Traded, Killed, Expired}
 use Rattle.matching.specs.Matching.{Book, at, openOf, who, after, play, happens}
-use Rattle.matching.specs.Held.{Sound, In, Ready}
+use Rattle.matching.specs.Held.{Sound, In, Ready, levelOf}
 use Rattle.matching.specs.Happens.{Fit, Fits}
 use Rattle.matching.proofs.Events.{Terms, length-after, play-terms}
 use Rattle.matching.proofs.Steps.{Meeting, trade, newest, oldest, equal, less, more, Pair, Stepped, rests, kills, expires, matched, step-is, step-fits}
 use Rattle.matching.proofs.Sounds.{Worth, Worths, step-worth, play-sound, play-ready}
 use Rattle.matching.proofs.Holding.{step-held}
-use Rattle.table.specs.Heading.{nextOf, workOf, stampOf, modeOf, isListed}
+use Rattle.matching.proofs.Quoting.{Priced, play-quoted, step-priced}
+use Rattle.table.specs.Heading.{nextOf, workOf, stampOf, instrumentOf, modeOf, isListed}
 use Rattle.table.specs.Orders.{filled, bookOf, applied}
 use Rattle.table.specs.Market.{hasWork, isPadded}
 use Rattle.table.specs.Facts.{Market}
 use Rattle.table.specs.Changes.{missesNow, stepEvents}
 use Rattle.table.proofs.Same.{Same, same-in, work-same}
 use Rattle.table.proofs.Books.{length-book}
-use Rattle.table.proofs.Frames.{Framed, framed-formed, framed-filled, framed-listed, framed-order-ids}
+use Rattle.table.proofs.Frames.{Framed, framed-formed, framed-filled, framed-instrument, framed-listed, framed-order-ids, quoted-book}
 use Rattle.table.proofs.Applied.{framed-applied, book-applied, heading-applied}
 use Rattle.table.proofs.Working.{work-some, has-work-kept}
 use Rattle.rows.specs.Rows.{text}
@@ -45,14 +47,13 @@ pub record Working (t : List ℕ) : Type 0 where
 pub market-working : (t : List ℕ) → Market t → 1 ≤ workOf t → Working t
 market-working t m l = record { orderly = market-orderly t m; work = m .work; some = l }
 
--- ---- what a step trades: with an order of the table, at a level in range; the order in work second
+-- ---- what a step trades: with an order of the table, at a level that is not 0; the order in work second
 
 pub record Bargained (size w n i other quantity level : ℕ) : Type 0 where
   pub other-low : 1 ≤ other
   pub other-high : other ≤ size
   pub quantity-high : quantity < 1000000000
   pub level-low : 0 < level
-  pub level-high : level ≤ 1999999999
   pub second : i ≡ w → 2 ≤ n
 
 -- no event of a step is asked for by a message
@@ -79,7 +80,6 @@ meeting-bargains b w r n s z i p l (trade o) = (
     other-high = i .high;
     quantity-high = omega (arith, s .qty-high);
     level-low = z .level-low;
-    level-high = z .level-high;
     second = λ e. absurd (p .apart e);
   },
   (
@@ -88,7 +88,6 @@ meeting-bargains b w r n s z i p l (trade o) = (
       other-high = p .inside .high;
       quantity-high = omega (arith, s .qty-high);
       level-low = z .level-low;
-      level-high = z .level-high;
       second = λ e. omega arith;
     },
     tt,
@@ -114,35 +113,36 @@ module _ (t : List ℕ) (m : Working t) where
   unfolding text textAt
   kept-time = both-l (isTime (stampOf t)) (isPadded 21 t 33) (work-some t (m .work) (λ e. omega (arith, m .some)))
 
-  details : (n : ℕ) (e : Event) → Bargain (filled t) (workOf t) n e → Details t [] n (keptCause t) e
-  details n (Accepted i o) h = tt
-  details n (Replaced i l q p) h = absurd h
-  details n (Withdrawn i q) h = absurd h
-  details n (Canceled i q) h = tt
-  details n (Decremented i q) h = tt
-  details n (Traded i o q l) h =
+  details : (n : ℕ) (e : Event) → Bargain (filled t) (workOf t) n e → levelOf e ≤ highest (instrumentOf t) → Details t [] n (keptCause t) e
+  details n (Accepted i o) h p = tt
+  details n (Replaced i l q p) h z = absurd h
+  details n (Withdrawn i q) h p = absurd h
+  details n (Canceled i q) h p = tt
+  details n (Decremented i q) h p = tt
+  details n (Traded i o q l) h p =
       let r = orderly-recorded t (m .orderly) o (record { low = h .other-low; high = omega (arith, h .other-high, length-book t) }) in
       record {
         other-in = r .high;
         other-owner = r .owner;
         quantity-high = h .quantity-high;
         level-low = h .level-low;
-        level-high = h .level-high;
+        level-high = p;
         second = h .second;
       }
-  details n (Killed i q) h = tt
-  details n (Expired i q) h = tt
+  details n (Killed i q) h p = tt
+  details n (Expired i q) h p = tt
 
-  pub working-legible : (n : ℕ) (e : Event) → In (bookOf t) (who e) → Bargain (filled t) (workOf t) n e → 1 ≤ n → n < 1000000000 → Legible t [] n (keptCause t) e
-  working-legible n e i h low high =
+  pub working-legible : (n : ℕ) (e : Event) → In (bookOf t) (who e) → Bargain (filled t) (workOf t) n e → levelOf e ≤ highest (instrumentOf t) → 1 ≤ n → n < 1000000000
+      → Legible t [] n (keptCause t) e
+  working-legible n e i h p low high =
       record {
         heading = formed-headed t (m .orderly .formed) [] n (keptCause t .time) low high kept-time;
         order = orderly-recorded t (m .orderly) (who e) i;
-        details = details n e h;
+        details = details n e h p;
       }
 
-  -- an event that fits leaves such a table
-  module _ (e : Event) (f : Fit (bookOf t) e) (v : Worth e) where
+  -- an event that fits, at a level of the market, leaves such a table
+  module _ (e : Event) (f : Fit (bookOf t) e) (v : Worth e) (p : levelOf e ≤ highest (instrumentOf t)) where
     ready : Ready (bookOf t) e
     ready = play-ready (e ∷ []) (bookOf t) (f, tt) (v, tt) (m .orderly .sound) .0
 
@@ -161,6 +161,9 @@ module _ (t : List ℕ) (m : Working t) where
     pub applied-work : workOf (applied t e) ≡ workOf t
     applied-work = work-same (same-in 32 33 heading (lit≤ tt) (lit≤ tt))
 
+    pub applied-instrument : instrumentOf (applied t e) ≡ instrumentOf t
+    applied-instrument = framed-instrument t (applied t e) (m .orderly .formed .long) framed
+
     back : (k : ℕ) → In (after (bookOf t) e) k → In (bookOf t) k
     back k j = record { low = j .low; high = rw (length-after (bookOf t) e f) at (j .high) }
 
@@ -173,6 +176,9 @@ module _ (t : List ℕ) (m : Working t) where
           sound = λ k j.
               let i = back k (rw applied-book at j) in
               rw applied-book (play-sound k (e ∷ []) (bookOf t) (f, tt) (v, tt) (m .orderly .sound k i));
+          quoted = λ k j.
+              let i = back k (rw applied-book at j) in
+              rw (applied-book, applied-instrument) (play-quoted (instrumentOf t) k (e ∷ []) (bookOf t) (f, tt) (p, tt) (m .orderly .quoted k i));
           owned = λ k j.
               let i = back k (rw applied-book at j) in
               let x : at (after (bookOf t) e) k .mpid ≡ at (bookOf t) k .mpid = ap (λ (y : Terms). y .mpid) (play-terms k (e ∷ []) (bookOf t) (f, tt)) in
@@ -193,18 +199,19 @@ abbrev pub Legibles : List ℕ → ℕ → List Event → Type 0
 Legibles t n [] = Unit {0}
 Legibles t n (e ∷ es) = Legible (applied t e) [] n (keptCause (applied t e)) e × Legibles (applied t e) (n + 1) es
 
-pub all-legible : (es : List Event) (t : List ℕ) (n : ℕ) → Working t → Fits (bookOf t) es → Worths es → Bargains (filled t) (workOf t) n es → 1 ≤ n
-    → n + length es ≤ 1000000000 → Legibles t n es
-all-legible [] t n m f v h low high = tt
-all-legible (e ∷ es) t n m f v h low high =
-    let u = applied-working t m e (f .0) (v .0) in
-    let b = applied-book t m e (f .0) (v .0) in
-    let z = applied-filled t m e (f .0) (v .0) in
-    let w = applied-work t m e (f .0) (v .0) in
+pub all-legible : (es : List Event) (t : List ℕ) (n : ℕ) → Working t → Fits (bookOf t) es → Worths es → Priced (instrumentOf t) es
+    → Bargains (filled t) (workOf t) n es → 1 ≤ n → n + length es ≤ 1000000000 → Legibles t n es
+all-legible [] t n m f v p h low high = tt
+all-legible (e ∷ es) t n m f v p h low high =
+    let u = applied-working t m e (f .0) (v .0) (p .0) in
+    let b = applied-book t m e (f .0) (v .0) (p .0) in
+    let z = applied-filled t m e (f .0) (v .0) (p .0) in
+    let w = applied-work t m e (f .0) (v .0) (p .0) in
+    let q = applied-instrument t m e (f .0) (v .0) (p .0) in
     let i : In (bookOf (applied t e)) (who e) =
     record { low = f .0 .inside .low; high = omega (arith, length-book (applied t e), length-book t, f .0 .inside .high) } in (
-      working-legible (applied t e) u n e i (rw (z, w) (h .0)) low (omega arith),
-      all-legible es (applied t e) (n + 1) u (rw b (f .1)) (v .1) (rw (z, w) (h .1)) (omega arith) (omega arith),
+      working-legible (applied t e) u n e i (rw (z, w) (h .0)) (rw q (p .0)) low (omega arith),
+      all-legible es (applied t e) (n + 1) u (rw b (f .1)) (v .1) (rw q (p .1)) (rw (z, w) (h .1)) (omega arith) (omega arith),
     )
 
 -- ---- a step of a market
@@ -219,6 +226,7 @@ step-legibles t m l =
     let s = step-is (modeOf t) missed b w in
     let h = step-held (isListed t) (modeOf t) missed (nextOf t) b w i (m .held) in
     all-legible (happens (modeOf t) missed b w) t (nextOf t) (market-working t m l) (step-fits b w _ i s) (step-worth b w _ (m .held .sound) s)
+    (step-priced (instrumentOf t) b w _ (quoted-book t (instrumentOf t) (m .quoted)) s)
     (rw (length-book t) at (step-bargains b w _ (nextOf t) (m .held .sound) i (m .next-low) s)) (m .next-low) (h .next-high)
 
 -- its first event, and its second

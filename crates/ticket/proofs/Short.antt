@@ -13,7 +13,7 @@ use Rattle.octets.proofs.Bools.{split}
 use Rattle.decimal.proofs.Times.{time-short}
 use Rattle.matching.specs.declared.Event.{Event}
 use Rattle.matching.specs.declared.Event.the-variants.{Accepted, Replaced, Withdrawn, Canceled, Decremented, Traded, Killed, Expired}
-use Rattle.table.specs.Heading.{workOf}
+use Rattle.table.specs.Heading.{workOf, instrumentOf}
 use Rattle.table.specs.Orders.{orderAt}
 use Rattle.table.specs.Market.{isPrintable}
 use Rattle.report.specs.declared.Place.{Place}
@@ -69,19 +69,20 @@ module _ (t message : List ℕ) where
         port-in = stored-short _ 1 8 9 (h .port);
       }
 
-  pub shown-in : (i : ℕ) → Recorded t i → ShownIn message t (shownOn t i)
+  pub shown-in : (i : ℕ) → Recorded t i → ShownIn message t (instrumentOf t) (shownOn t i)
   unfolding shownOn
   shown-in i h =
       record {
         orderid-in = h .orderid-high;
         order-in = h .sound;
+        quoted-in = h .quoted;
         mpid-in = h .owner;
         code-in = stored-short _ 1 9 18 (h .code);
         id-in = stored-short _ 1 32 _ (h .clOrdId);
         account-in = or-stored-short _ 0 10 _ (h .account);
       }
 
-  pub fill-in : (n i other quantity level : ℕ) → n < 1000000000 → Dealt t n i other quantity level → FillIn (fillOn t n i other quantity level)
+  pub fill-in : (n i other quantity level : ℕ) → n < 1000000000 → Dealt t n i other quantity level → FillIn (instrumentOf t) (fillOn t n i other quantity level)
   fill-in n i other quantity level m h =
       record {
         quantity-in = h .quantity-high;
@@ -107,7 +108,7 @@ module _ (t message : List ℕ) where
   -- ---- the report of an event
 
   pub event-short : (n : ℕ) (c : Cause) (e : Event) → Legible t message n c e → length (rowBytes message t (rowOf t n c e)) ≤ 489
-  unfolding rowOf
+  unfolding rowOf stampOn
   event-short n c (Accepted i o) h = accepted-short message t _ _ (stamp-in n (c .time) (h .heading)) (shown-in i (h .order))
   event-short n c (Replaced i l q p) h =
       replaced-short message t _ _ _ (stamp-in n (c .time) (h .heading)) (shown-in i (h .order)) (requested-in (c .orig) (h .details))

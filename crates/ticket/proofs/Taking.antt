@@ -13,6 +13,7 @@ use Rattle.octets.specs.Octets.{bytesOf, textBytes, partAt}
 use Rattle.octets.proofs.Bools.{split}
 use Rattle.octets.proofs.Places.{length-bytesOf, length-put}
 use Rattle.octets.proofs.Parts.{length-textBytes}
+use Rattle.decimal.specs.Instruments.{highest}
 use Rattle.decimal.specs.Reading.{isTime}
 use Rattle.decimal.proofs.Times.{time-short}
 use Rattle.matching.specs.declared.Order.{Order}
@@ -20,18 +21,20 @@ use Rattle.matching.specs.declared.Event.{Event}
 use Rattle.matching.specs.declared.Event.the-variants.{Accepted, Replaced, Withdrawn}
 use Rattle.matching.specs.Matching.{at, openOf, who, change}
 use Rattle.matching.specs.Held.{In, Enters, Renews}
+use Rattle.matching.specs.Quoted.{Quoted}
 use Rattle.matching.proofs.Conserved.{takes-low}
+use Rattle.table.specs.declared.record.Marks.{Marks}
 use Rattle.table.specs.Places.{tableBytes}
-use Rattle.table.specs.Heading.{nextOf, workOf, isListed, putNext, putWork}
+use Rattle.table.specs.Heading.{nextOf, workOf, instrumentOf, isListed, putNext, putWork}
 use Rattle.table.specs.Orders.{orderIdAt, orderAt, filled, bookOf, termBytes, amountBytes, recordOf, putId, accepted, replaced, withdrawn}
 use Rattle.table.specs.Best.{bookRow, putBest, clearBest}
-use Rattle.table.specs.Market.{every, isPrintable, isCapacity, isClass}
+use Rattle.table.specs.Market.{every, isPrintable, isMarked}
 use Rattle.table.specs.Facts.{Market, Named}
 use Rattle.table.specs.Changes.{numbered, entered, renewed, taken}
 use Rattle.table.proofs.Same.{same-sym, put-below, work-same, filled-few}
 use Rattle.table.proofs.Stores.{work-got}
 use Rattle.table.proofs.Books.{length-book, at-book}
-use Rattle.table.proofs.Frames.{Framed, framed-long, framed-filled, framed-listed, framed-heading, framed-best, framed-then, framed-formed, framed-order-ids, market-formed}
+use Rattle.table.proofs.Frames.{Framed, framed-long, framed-filled, framed-instrument, framed-listed, framed-heading, framed-best, framed-then, framed-formed, framed-order-ids, market-formed, quoted-book}
 use Rattle.table.proofs.Applied.{book-next, book-work, book-best, framed-amounts}
 use Rattle.table.proofs.Bests.{length-book-row}
 use Rattle.table.proofs.Naming.{named-formed, named-filled}
@@ -77,6 +80,7 @@ orderly-back u v long f b m =
       formed = framed-formed v u (m .long) g (market-formed v m);
       order-ids = framed-order-ids v u (m .long) g (nextOf v) 1000000000 (m .held .next-high) (m .order-ids);
       sound = rw b at (m .held .sound);
+      quoted = rw (b, framed-instrument u v long f) at (quoted-book v (instrumentOf v) (m .quoted));
       owned = rw (b, framed-listed u v long f) at (m .held .owned);
     }
 
@@ -134,33 +138,33 @@ told u message n c e o i low high s d =
     record { heading = formed-headed u (o .formed) message n (c .time) low high s; order = orderly-recorded u o (who e) i; details = d }
 
 -- a new order, as record k: the number of the report is its OrderID
-module _ (t message : List ℕ) (k : ℕ) (clOrdId account : List ℕ) (capacity class : ℕ) (o : Order) (c : Cause) where
-  pub new-legible : Market t → workOf t ≡ 0 → Named t clOrdId → length account ≤ 10 → every isPrintable account ≡ true → isCapacity capacity ≡ true
-      → isClass class ≡ true → Enters (isListed t) (nextOf t) (bookOf t) k o
-      → isTime (textBy message (accepted t k (nextOf t) clOrdId account capacity class o) (c .time)) ≡ true
-      → Legible (accepted t k (nextOf t) clOrdId account capacity class o) message (nextOf t) c (Accepted k o)
+module _ (t message : List ℕ) (k : ℕ) (clOrdId account : List ℕ) (marks : Marks) (o : Order) (c : Cause) where
+  pub new-legible : Market t → workOf t ≡ 0 → Named t clOrdId → length account ≤ 10 → every isPrintable account ≡ true
+      → isMarked (instrumentOf t) marks ≡ true → Quoted (instrumentOf t) o → Enters (isListed t) (nextOf t) (bookOf t) k o
+      → isTime (textBy message (accepted t k (nextOf t) clOrdId account marks o) (c .time)) ≡ true
+      → Legible (accepted t k (nextOf t) clOrdId account marks o) message (nextOf t) c (Accepted k o)
   unfolding entered accepted
   new-legible m idle g few printable a b e s =
-      let u : List ℕ = accepted t k (nextOf t) clOrdId account capacity class o in
-      let long : length u ≡ tableBytes = length-put t (128 * k) (recordOf (nextOf t) clOrdId account capacity class o) ∙ m .long in
+      let u : List ℕ = accepted t k (nextOf t) clOrdId account marks o in
+      let long : length u ≡ tableBytes = length-put t (128 * k) (recordOf (nextOf t) clOrdId account marks o) ∙ m .long in
       let stamp : List ℕ = textBy message u (c .time) in
-      let v = entered-kept t k clOrdId account capacity class o m g few printable a b e stamp idle s in
+      let v = entered-kept t k clOrdId account marks o m g few printable a e stamp b idle s in
       told u message (nextOf t) c (Accepted k o) (orderly-worked u long k stamp (time-short stamp s) v)
       (worked-in u long k stamp (time-short stamp s) (takes-low (bookOf t) k (e .number)) v) (m .next-low) (omega (arith, e .numbered)) s tt
 
 module _ (t message clOrdId : List ℕ) (k : ℕ) (c : Cause) (m : Market t) (idle : workOf t ≡ 0) (i : In (bookOf t) k) (g : Named t clOrdId) where
   -- a replacement
   module _ (l q p : ℕ) where
-    pub replaced-legible : Renews (nextOf t) (bookOf t) k l q p → isTime (textBy message (replaced t clOrdId (Replaced k l q p)) (c .time)) ≡ true
+    pub replaced-legible : Renews (nextOf t) (bookOf t) k l q p → l ≤ highest (instrumentOf t) → isTime (textBy message (replaced t clOrdId (Replaced k l q p)) (c .time)) ≡ true
         → Placed isPrintable 1 32 message (replaced t clOrdId (Replaced k l q p)) (c .orig)
         → Legible (replaced t clOrdId (Replaced k l q p)) message (nextOf t) c (Replaced k l q p)
     unfolding renewed replaced
-    replaced-legible a s d =
+    replaced-legible a h s d =
         let u : List ℕ = replaced t clOrdId (Replaced k l q p) in
         let long : length u ≡ tableBytes =
         length-put (putId t k clOrdId) (128 * k + 48) (termBytes (change (Replaced k l q p) (orderAt t k))) ∙ length-put t (128 * k) (textBytes 32 clOrdId) ∙ m .long in
         let stamp : List ℕ = textBy message u (c .time) in
-        let v = renewed-kept t k clOrdId m idle i g l q p stamp a s in
+        let v = renewed-kept t k clOrdId m idle i g l q p stamp a h s in
         told u message (nextOf t) c (Replaced k l q p) (orderly-worked u long k stamp (time-short stamp s) v)
         (worked-in u long k stamp (time-short stamp s) (i .low) v) (m .next-low) (omega (arith, a .numbered)) s d
 

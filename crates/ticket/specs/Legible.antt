@@ -1,22 +1,26 @@
 -- What a report is written from, in range, so that it is at most 512 bytes and reads back as the report it is (document 01, "The
--- reports" and Read): the heading of the table, the record of the order after the event, the cause, and the fill of a trade; and the
--- same for the three reports of what is refused. It is asked of the table right after the event, before the next number or what is
--- in work changes. Assumes nothing.
+-- reports" and Read; document 02, T-08): the heading of the table, the record of the order after the event, the cause, and the fill of
+-- a trade; and the same for the three reports of what is refused. What depends on what the market trades is asked by what the
+-- heading notes. It is asked of the table right after the event, before the next number or what is in work changes. Assumes nothing.
 use mathlib.Core.Bool.{Bool, true, false, _||_}
 use mathlib.Core.Path.{_≡_}
 use mathlib.Core.List.{List, [], _∷_}
 use Prim.Native.Nat.{ℕ, _≤_, _<_}
 use lib.Dec.{eqb}
 use lib.ListN.{length}
+use Rattle.decimal.specs.declared.Instrument.{Instrument}
+use Rattle.decimal.specs.declared.Instrument.the-variants.{Bonds, Equities}
+use Rattle.decimal.specs.Instruments.{highest}
 use Rattle.decimal.specs.Reading.{isDigit, isTime}
 use Rattle.matching.specs.declared.Event.{Event}
 use Rattle.matching.specs.declared.Event.the-variants.{Accepted, Replaced, Withdrawn, Canceled, Decremented, Traded, Killed, Expired}
-use Rattle.matching.specs.Matching.{who}
+use Rattle.matching.specs.Matching.{who, isSideOf}
 use Rattle.matching.specs.Held.{Sound, Covered}
+use Rattle.matching.specs.Quoted.{Quoted}
 use Rattle.table.specs.Places.{tableBytes}
-use Rattle.table.specs.Heading.{venueOf, portOf, codeOf, workOf}
-use Rattle.table.specs.Orders.{clOrdIdAt, accountAt, orderIdAt, capacityAt, classificationAt, orderAt}
-use Rattle.table.specs.Market.{every, isGraphic, isPrintable, isCapacity, isClass}
+use Rattle.table.specs.Heading.{venueOf, portOf, codeOf, workOf, instrumentOf}
+use Rattle.table.specs.Orders.{clOrdIdAt, accountAt, orderIdAt, marksAt, orderAt}
+use Rattle.table.specs.Market.{every, isGraphic, isPrintable, isCodeCharacter, isMarked}
 use Rattle.report.specs.declared.Place.{Place}
 use Rattle.report.specs.Fields.{valueBytes}
 use Rattle.rows.specs.declared.Refused.{Refused}
@@ -43,6 +47,11 @@ pub record Placed (f : ℕ → Bool) (low high : ℕ) (message t : List ℕ) (p 
   pub most : p .length ≤ high
   pub good : every f (textBy message t p) ≡ true
 
+-- a character of 55 as a message may have it: of a bond's code a digit, of a symbol any from 20 to 7E hex
+unfoldable pub isSymbolCharacter : Instrument → ℕ → Bool
+isSymbolCharacter Bonds = isDigit
+isSymbolCharacter Equities = isPrintable
+
 -- one of these numbers
 abbrev pub isAmong : List ℕ → ℕ → Bool
 isAmong [] n = false
@@ -59,18 +68,18 @@ pub record Headed (t message : List ℕ) (n : ℕ) (time : Place) : Type 0 where
   pub venue : Spelt isGraphic 1 8 (venueOf t)
   pub port : Spelt isGraphic 1 8 (portOf t)
 
--- the bond code and the order of record i
+-- the bond code or symbol, and the order of record i
 pub record Recorded (t : List ℕ) (i : ℕ) : Type 0 where
   pub low : 1 ≤ i
   pub high : i < 256
-  pub code : Spelt isDigit 1 9 (codeOf t)
+  pub code : Spelt (isCodeCharacter (instrumentOf t)) 1 9 (codeOf t)
   pub clOrdId : Spelt isPrintable 1 32 (clOrdIdAt t i)
   pub account : Spelt isPrintable 0 10 (accountAt t i)
   pub orderid-low : 1 ≤ orderIdAt t i
   pub orderid-high : orderIdAt t i < 1000000000
-  pub capacity : isCapacity (capacityAt t i) ≡ true
-  pub class : isClass (classificationAt t i) ≡ true
+  pub marked : isMarked (instrumentOf t) (marksAt t i) ≡ true
   pub sound : Sound (orderAt t i)
+  pub quoted : Quoted (instrumentOf t) (orderAt t i)
   pub owner : orderAt t i .mpid < 1000000
 
 -- a fill of the order of record i against another; the order in work is reported second, so a number stands before its own
@@ -79,7 +88,7 @@ pub record Dealt (t : List ℕ) (n i other quantity level : ℕ) : Type 0 where
   pub other-owner : orderAt t other .mpid < 1000000
   pub quantity-high : quantity < 1000000000
   pub level-low : 0 < level
-  pub level-high : level ≤ 1999999999
+  pub level-high : level ≤ highest (instrumentOf t)
   pub second : i ≡ workOf t → 2 ≤ n
 
 -- what an event adds: the 41 of a replacement or a cancel that was requested, the fill of a trade
@@ -106,9 +115,9 @@ pub record Legible (t message : List ℕ) (n : ℕ) (c : Cause) (e : Event) : Ty
 pub record LegibleRefused (t message : List ℕ) (n : ℕ) (time : Place) (r : Refused) : Type 0 where
   pub heading : Headed t message n time
   pub clOrdId : Placed isPrintable 1 32 message t (r .id)
-  pub code : Placed isDigit 1 9 message t (r .code)
+  pub code : Placed (isSymbolCharacter (instrumentOf t)) 1 9 message t (r .code)
   pub quantity : r .quantity < 1000000000
-  pub side : isAmong (1 ∷ 2 ∷ []) (r .side) ≡ true
+  pub side : isSideOf (instrumentOf t) (r .side) ≡ true
   pub reason : isAmong (0 ∷ 1 ∷ 6 ∷ 99 ∷ []) (r .reason) ≡ true
 
 -- a cancel or a replacement

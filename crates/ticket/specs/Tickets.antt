@@ -1,7 +1,7 @@
--- Which report is written of what happens on a table (document 01, "The reports"; document 02, T-09): the row of each event, and
--- of the order or the change that is rejected. The table is the one after the event, before anything else changes; the number is
--- the report's own. 37 is the OrderID that the record keeps. Texts that the market keeps are named by where they stand in the
--- table. Assumes nothing.
+-- Which report is written of what happens on a table (document 01, "The reports"; document 02, T-08 and T-09): the row of each event,
+-- and of the order or the change that is rejected. The table is the one after the event, before anything else changes; the number
+-- is the report's own. What the market trades is what the heading notes. 37 is the OrderID that the record keeps. Texts that the
+-- market keeps are named by where they stand in the table. Assumes nothing.
 use mathlib.Core.Bool.{Bool, true, false, cond}
 use mathlib.Core.List.{List}
 use mathlib.Core.Path.{_≡_}
@@ -13,8 +13,8 @@ use Rattle.matching.specs.declared.Event.the-variants.{Accepted, Replaced, With
 use Rattle.matching.specs.Matching.{who}
 use Rattle.matching.specs.Held.{Sound}
 use Rattle.table.specs.Places.{tableBytes, recordAt, venueByte, portByte, codeByte, stampByte, accountByte}
-use Rattle.table.specs.Heading.{workOf}
-use Rattle.table.specs.Orders.{orderIdAt, capacityAt, classificationAt, orderAt}
+use Rattle.table.specs.Heading.{workOf, instrumentOf}
+use Rattle.table.specs.Orders.{orderIdAt, capacityAt, classificationAt, cashAt, marginAt, orderAt}
 use Rattle.report.specs.declared.Place.{Place}
 use Rattle.report.specs.declared.Value.{Value}
 use Rattle.report.specs.declared.Value.the-variants.{Absent, Stored}
@@ -41,7 +41,8 @@ orStoredAt t p = cond (eqb (getD t p 0) 0) Absent (storedAt t p)
 
 -- what report number n starts with, caused by a message with this 52
 unfoldable pub stampOn : List ℕ → ℕ → Place → Stamp
-stampOn t n time = record { number = n; time = text time; venue = storedAt t venueByte; port = storedAt t portByte }
+stampOn t n time =
+    record { of = instrumentOf t; number = n; time = text time; venue = storedAt t venueByte; port = storedAt t portByte }
 
 -- the order of record i as it is reported
 unfoldable pub shownOn : List ℕ → ℕ → Shown
@@ -51,6 +52,8 @@ shownOn t i =
       order = orderAt t i;
       capacity = capacityAt t i;
       class = classificationAt t i;
+      cash = cashAt t i;
+      margin = marginAt t i;
       code = storedAt t codeByte;
       id = storedAt t (recordAt i);
       account = orStoredAt t (recordAt i + accountByte);

@@ -52,10 +52,12 @@ pub fn stamp_on(t: &[u8], n: u64, time: Place) -> Stamp
     requires { ⌜ length (now t) ≡ tableBytes ⌝ }
     ensures { λ r. ⌜ r ≡ stampOn (now (t .entry)) n time ⌝ }
 {
+    let of = table::heading::instrument(t);
     let when = rows::text(time);
     let venue = stored_at(t, places::VENUE);
     let port = stored_at(t, places::PORT);
     Stamp {
+        of,
         number: n,
         time: when,
         venue,
@@ -71,7 +73,7 @@ pub fn shown_on(t: &[u8], i: usize) -> Shown
     let capacity = t[places::RECORD * i + places::CAPACITY];
     let orderid = table::record::order_id(t, i);
     let order = table::record::load(t, i);
-    let class = table::record::classification(t, i);
+    let marks = table::record::marks_at(t, i);
     let code = stored_at(t, places::CODE);
     let id = stored_at(t, places::RECORD * i);
     let account = or_stored_at(t, places::RECORD * i + places::ACCOUNT);
@@ -79,7 +81,9 @@ pub fn shown_on(t: &[u8], i: usize) -> Shown
         orderid,
         order,
         capacity,
-        class,
+        class: marks.class,
+        cash: marks.cash,
+        margin: marks.margin,
         code,
         id,
         account,
@@ -157,24 +161,14 @@ pub fn order_of(e: Event) -> u64
     ensures { λ r. ⌜ r ≡ who e ⌝ }
 {
     match e {
-        Event::Accepted { order, entered: _ } => order,
-        Event::Replaced {
-            order,
-            level: _,
-            quantity: _,
-            place: _,
-        } => order,
-        Event::Withdrawn { order, quantity: _ } => order,
-        Event::Canceled { order, quantity: _ } => order,
-        Event::Decremented { order, quantity: _ } => order,
-        Event::Traded {
-            order,
-            other: _,
-            quantity: _,
-            level: _,
-        } => order,
-        Event::Killed { order, quantity: _ } => order,
-        Event::Expired { order, quantity: _ } => order,
+        Event::Accepted { order, .. } => order,
+        Event::Replaced { order, .. } => order,
+        Event::Withdrawn { order, .. } => order,
+        Event::Canceled { order, .. } => order,
+        Event::Decremented { order, .. } => order,
+        Event::Traded { order, .. } => order,
+        Event::Killed { order, .. } => order,
+        Event::Expired { order, .. } => order,
     }
 }
 
@@ -189,41 +183,18 @@ pub fn row_of(t: &[u8], n: u64, c: Cause, e: Event) -> [Field; 36]
     let i = order_of(e) as usize;
     let o = shown_on(t, i);
     match e {
-        Event::Accepted {
-            order: _,
-            entered: _,
-        } => rows::accepted_row(s, o),
-        Event::Replaced {
-            order: _,
-            level: _,
-            quantity: _,
-            place: _,
-        } => rows::replaced_row(s, o, requested(orig)),
-        Event::Withdrawn {
-            order: _,
-            quantity: _,
-        } => rows::canceled_row(s, o, requested(orig)),
-        Event::Canceled {
-            order: _,
-            quantity: _,
-        } => rows::canceled_row(s, o, prevented()),
-        Event::Decremented {
-            order: _,
-            quantity: _,
-        } => rows::replaced_row(s, o, decremented(o)),
+        Event::Accepted { .. } => rows::accepted_row(s, o),
+        Event::Replaced { .. } => rows::replaced_row(s, o, requested(orig)),
+        Event::Withdrawn { .. } => rows::canceled_row(s, o, requested(orig)),
+        Event::Canceled { .. } => rows::canceled_row(s, o, prevented()),
+        Event::Decremented { .. } => rows::replaced_row(s, o, decremented(o)),
         Event::Traded {
-            order: _,
             other,
             quantity,
             level,
+            ..
         } => rows::trade_row(s, o, fill_on(t, n, i, other as usize, quantity, level)),
-        Event::Killed {
-            order: _,
-            quantity: _,
-        } => rows::canceled_row(s, o, expired()),
-        Event::Expired {
-            order: _,
-            quantity: _,
-        } => rows::canceled_row(s, o, expired()),
+        Event::Killed { .. } => rows::canceled_row(s, o, expired()),
+        Event::Expired { .. } => rows::canceled_row(s, o, expired()),
     }
 }

@@ -14,6 +14,7 @@ use borrow.Author.Tests.{eq-eqb, ne-eqb}
 use Rattle.octets.specs.Written.{Room, Wrote}
 use Rattle.octets.proofs.Bools.{split}
 use Rattle.octets.proofs.Runs.{wrote-split, wrote-front}
+use Rattle.decimal.specs.declared.Instrument.{Instrument}
 use Rattle.report.specs.declared.Reading.{Reading}
 use Rattle.report.specs.Frame.{checkSum, trailer}
 use Rattle.report.specs.Reports.{readOf}
@@ -21,14 +22,14 @@ use Rattle.report.proofs.Bytes.{trailer-length}
 use Rattle.trials.specs.Changes.{isRefused, refusal, mended, changed, Sized, refusedTo, refusedAt, refusedIn}
 
 -- ---- one reading
-module _ (s : List ℕ) (x : Reading) (t : Bool) (e : x ≡ readOf s) (f : t ≡ isRefused (x .kind)) where
-  pub refused-yes : t ≡ true → 1 ≡ refusal s
+module _ (q : Instrument) (s : List ℕ) (x : Reading) (t : Bool) (e : x ≡ readOf q s) (f : t ≡ isRefused (x .kind)) where
+  pub refused-yes : t ≡ true → 1 ≡ refusal q s
   unfolding refusal
-  refused-yes y = let z : isRefused (readOf s .kind) ≡ true = rw e at (sym f ∙ y) in rw z
+  refused-yes y = let z : isRefused (readOf q s .kind) ≡ true = rw e at (sym f ∙ y) in rw z
 
-  pub refused-no : t ≡ false → 0 ≡ refusal s
+  pub refused-no : t ≡ false → 0 ≡ refusal q s
   unfolding refusal
-  refused-no y = let z : isRefused (readOf s .kind) ≡ false = rw e at (sym f ∙ y) in rw z
+  refused-no y = let z : isRefused (readOf q s .kind) ≡ false = rw e at (sym f ∙ y) in rw z
 
 -- ---- a mended report
 pub mend-room : (s : List ℕ) (sum : ℕ) → 7 ≤ length s → Room s (length s - 7) (trailer sum)
@@ -51,83 +52,83 @@ mended-length s h =
     omega (arith, length-append (take (length s - 7) s) (trailer (checkSum (take (length s - 7) s))), trailer-length (checkSum (take (length s - 7) s)), mend-cut s h)
 
 -- ---- counts
-refusal-most : (s : List ℕ) → refusal s ≤ 1
+refusal-most : (q : Instrument) (s : List ℕ) → refusal q s ≤ 1
 unfolding refusal
-refusal-most s = split (isRefused (readOf s .kind)) (λ e. rw e (omega arith)) (λ e. rw e (omega arith))
+refusal-most q s = split (isRefused (readOf q s .kind)) (λ e. rw e (omega arith)) (λ e. rw e (omega arith))
 
-pub to-most : (again : Bool) (s : List ℕ) (i b : ℕ) → refusedTo again s i b ≤ 1
+pub to-most : (q : Instrument) (again : Bool) (s : List ℕ) (i b : ℕ) → refusedTo q again s i b ≤ 1
 unfolding refusedTo
-to-most again s i b = split (eqb b (getD s i 0)) (λ e. rw e (omega arith)) (λ e. rw e (refusal-most (changed again s i b)))
+to-most q again s i b = split (eqb b (getD s i 0)) (λ e. rw e (omega arith)) (λ e. rw e (refusal-most q (changed again s i b)))
 
-pub at-most : (again : Bool) (s : List ℕ) (i n : ℕ) → refusedAt again s i n ≤ n
+pub at-most : (q : Instrument) (again : Bool) (s : List ℕ) (i n : ℕ) → refusedAt q again s i n ≤ n
 unfolding refusedAt
-at-most again s i zero = omega arith
-at-most again s i (suc n) = omega (arith, at-most again s i n, to-most again s i n)
+at-most q again s i zero = omega arith
+at-most q again s i (suc n) = omega (arith, at-most q again s i n, to-most q again s i n)
 
-pub in-most : (again : Bool) (s : List ℕ) (n : ℕ) → refusedIn again s n ≤ 256 * n
+pub in-most : (q : Instrument) (again : Bool) (s : List ℕ) (n : ℕ) → refusedIn q again s n ≤ 256 * n
 unfolding refusedIn
-in-most again s zero = omega arith
-in-most again s (suc n) = omega (arith, in-most again s n, at-most again s n 256)
+in-most q again s zero = omega arith
+in-most q again s (suc n) = omega (arith, in-most q again s n, at-most q again s n 256)
 
 -- the same byte, and another
-pub to-same : (again : Bool) (s : List ℕ) (i b w : ℕ) → b ≡ w → w ≡ getD s i 0 → 0 ≡ refusedTo again s i b
+pub to-same : (q : Instrument) (again : Bool) (s : List ℕ) (i b w : ℕ) → b ≡ w → w ≡ getD s i 0 → 0 ≡ refusedTo q again s i b
 unfolding refusedTo
-to-same again s i b w e f = rw (eq-eqb b (getD s i 0) (e ∙ f))
+to-same q again s i b w e f = rw (eq-eqb b (getD s i 0) (e ∙ f))
 
-pub to-other : (again : Bool) (s : List ℕ) (i b w r : ℕ) → (b ≡ w → ⊥) → w ≡ getD s i 0 → r ≡ refusal (changed again s i b) → r ≡ refusedTo again s i b
+pub to-other : (q : Instrument) (again : Bool) (s : List ℕ) (i b w r : ℕ) → (b ≡ w → ⊥) → w ≡ getD s i 0 → r ≡ refusal q (changed again s i b) → r ≡ refusedTo q again s i b
 unfolding refusedTo
-to-other again s i b w r n f e = rw (ne-eqb b (getD s i 0) (λ q. n (q ∙ sym f))) e
+to-other q again s i b w r n f e = rw (ne-eqb b (getD s i 0) (λ z. n (z ∙ sym f))) e
 
 -- one more
-pub at-first : (again : Bool) (s : List ℕ) (i : ℕ) → 0 ≡ refusedAt again s i 0
+pub at-first : (q : Instrument) (again : Bool) (s : List ℕ) (i : ℕ) → 0 ≡ refusedAt q again s i 0
 unfolding refusedAt
-at-first again s i = refl
+at-first q again s i = refl
 
-pub at-on : (again : Bool) (s : List ℕ) (i b k r : ℕ) → k ≡ refusedAt again s i b → r ≡ refusedTo again s i b → k + r ≡ refusedAt again s i (b + 1)
+pub at-on : (q : Instrument) (again : Bool) (s : List ℕ) (i b k r : ℕ) → k ≡ refusedAt q again s i b → r ≡ refusedTo q again s i b → k + r ≡ refusedAt q again s i (b + 1)
 unfolding refusedAt
-at-on again s i b k r e f = rw (add-one b, e, f)
+at-on q again s i b k r e f = rw (add-one b, e, f)
 
-pub in-first : (again : Bool) (s : List ℕ) → 0 ≡ refusedIn again s 0
+pub in-first : (q : Instrument) (again : Bool) (s : List ℕ) → 0 ≡ refusedIn q again s 0
 unfolding refusedIn
-in-first again s = refl
+in-first q again s = refl
 
-pub in-on : (again : Bool) (s : List ℕ) (i k r : ℕ) → k ≡ refusedIn again s i → r ≡ refusedAt again s i 256 → k + r ≡ refusedIn again s (i + 1)
+pub in-on : (q : Instrument) (again : Bool) (s : List ℕ) (i k r : ℕ) → k ≡ refusedIn q again s i → r ≡ refusedAt q again s i 256 → k + r ≡ refusedIn q again s (i + 1)
 unfolding refusedIn
-in-on again s i k r e f = rw (add-one i, e, f)
+in-on q again s i k r e f = rw (add-one i, e, f)
 
 -- the sums stay small, and the loops end
-pub at-few : (again : Bool) (s : List ℕ) (i b k r : ℕ) → k ≤ b → r ≡ refusedTo again s i b → k + r ≤ b + 1
-at-few again s i b k r h e = omega (arith, to-most again s i b)
+pub at-few : (q : Instrument) (again : Bool) (s : List ℕ) (i b k r : ℕ) → k ≤ b → r ≡ refusedTo q again s i b → k + r ≤ b + 1
+at-few q again s i b k r h e = omega (arith, to-most q again s i b)
 
-pub at-fits : (again : Bool) (s : List ℕ) (i b k r : ℕ) → b < 256 → k ≤ b → r ≡ refusedTo again s i b → Fits w64 (k + r)
-at-fits again s i b k r l h e = omega (arith, to-most again s i b)
+pub at-fits : (q : Instrument) (again : Bool) (s : List ℕ) (i b k r : ℕ) → b < 256 → k ≤ b → r ≡ refusedTo q again s i b → Fits w64 (k + r)
+at-fits q again s i b k r l h e = omega (arith, to-most q again s i b)
 
-pub at-end : (again : Bool) (s : List ℕ) (i b k : ℕ) → b ≤ 256 → 256 ≤ b → k ≡ refusedAt again s i b → k ≡ refusedAt again s i 256
-at-end again s i b k h l e = e ∙ ap (refusedAt again s i) (omega arith)
+pub at-end : (q : Instrument) (again : Bool) (s : List ℕ) (i b k : ℕ) → b ≤ 256 → 256 ≤ b → k ≡ refusedAt q again s i b → k ≡ refusedAt q again s i 256
+at-end q again s i b k h l e = e ∙ ap (refusedAt q again s i) (omega arith)
 
-pub in-few : (again : Bool) (s : List ℕ) (i k r : ℕ) → k ≤ 256 * i → r ≡ refusedAt again s i 256 → k + r ≤ 256 * (i + 1)
-in-few again s i k r h e = omega (arith, at-most again s i 256)
+pub in-few : (q : Instrument) (again : Bool) (s : List ℕ) (i k r : ℕ) → k ≤ 256 * i → r ≡ refusedAt q again s i 256 → k + r ≤ 256 * (i + 1)
+in-few q again s i k r h e = omega (arith, at-most q again s i 256)
 
-pub in-fits : (again : Bool) (s : List ℕ) (i k r n : ℕ) → i < n → n ≤ length s → Sized s → k ≤ 256 * i → r ≡ refusedAt again s i 256 → Fits w64 (k + r)
-in-fits again s i k r n l m z h e = omega (arith, at-most again s i 256)
+pub in-fits : (q : Instrument) (again : Bool) (s : List ℕ) (i k r n : ℕ) → i < n → n ≤ length s → Sized s → k ≤ 256 * i → r ≡ refusedAt q again s i 256 → Fits w64 (k + r)
+in-fits q again s i k r n l m z h e = omega (arith, at-most q again s i 256)
 
-pub in-end : (again : Bool) (s : List ℕ) (i n k : ℕ) → i ≤ n → n ≤ i → k ≡ refusedIn again s i → k ≡ refusedIn again s n
-in-end again s i n k h l e = e ∙ ap (refusedIn again s) (omega arith)
+pub in-end : (q : Instrument) (again : Bool) (s : List ℕ) (i n k : ℕ) → i ≤ n → n ≤ i → k ≡ refusedIn q again s i → k ≡ refusedIn q again s n
+in-end q again s i n k h l e = e ∙ ap (refusedIn q again s) (omega arith)
 
 -- ---- a copy of the bytes, at the start of an area: what is counted of the copy is counted of the bytes
 module _ {area s after : List ℕ} {n : ℕ} (w : Wrote area 0 s n after) (r : Room area 0 s) where
-  pub copy-same : (again : Bool) (i b k : ℕ) → k ≡ refusal (changed again (take n after) i b) → k ≡ refusal (changed again s i b)
-  copy-same again i b k f = f ∙ ap (λ (u : List ℕ). refusal (changed again u i b)) (wrote-front w r)
+  pub copy-same : (q : Instrument) (again : Bool) (i b k : ℕ) → k ≡ refusal q (changed again (take n after) i b) → k ≡ refusal q (changed again s i b)
+  copy-same q again i b k f = f ∙ ap (λ (u : List ℕ). refusal q (changed again u i b)) (wrote-front w r)
 
 -- ---- a byte set, and 10 made true where that is asked
-module _ (again : Bool) (s u : List ℕ) (i b r : ℕ) (f : r ≡ refusal u) where
-  pub now-again : again ≡ true → u ≡ mended (set s i b) → r ≡ refusal (changed again s i b)
+module _ (q : Instrument) (again : Bool) (s u : List ℕ) (i b r : ℕ) (f : r ≡ refusal q u) where
+  pub now-again : again ≡ true → u ≡ mended (set s i b) → r ≡ refusal q (changed again s i b)
   unfolding changed
-  now-again a e = rw a (f ∙ ap refusal e)
+  now-again a e = rw a (f ∙ ap (refusal q) e)
 
-  pub now-plain : again ≡ false → u ≡ set s i b → r ≡ refusal (changed again s i b)
+  pub now-plain : again ≡ false → u ≡ set s i b → r ≡ refusal q (changed again s i b)
   unfolding changed
-  now-plain a e = rw a (f ∙ ap refusal e)
+  now-plain a e = rw a (f ∙ ap (refusal q) e)
 
 pub now-length : (s u : List ℕ) (i b : ℕ) → 7 ≤ length s → u ≡ mended (set s i b) → length u ≡ length s
 now-length s u i b h e = ap length e ∙ mended-length (set s i b) (simp length-set h) ∙ length-set s i b

@@ -3,6 +3,8 @@ use mathlib.Core.Path.{_≡_}
 use mathlib.Core.List.{List}
 use Prim.Native.Nat.{ℕ, _+_, _*_, _≤_, _<_}
 use lib.ListN.{length}
+use Rattle.decimal.specs.declared.Instrument.{Instrument}
+use Rattle.decimal.specs.Instruments.{highest}
 use Rattle.matching.specs.Held.{Sound}
 use Rattle.report.specs.declared.Field.{Field}
 use Rattle.report.specs.Fields.{rowBytes}
@@ -11,21 +13,22 @@ use Rattle.rows.specs.declared.Shown.{Shown}
 use Rattle.rows.specs.declared.Ground.{Ground}
 use Rattle.rows.specs.Ranges.{StampIn, ShownIn, GroundIn}
 
--- the start of a report
-pub record StampFine (s : Stamp) : Type 0 where
+-- the start of a report of a market
+pub record StampFine (q : Instrument) (s : Stamp) : Type 0 where
+  pub of-is : s .of ≡ q
   pub stamp-in : (m t : List ℕ) → StampIn m t s
 
 -- how much of an order of qty has executed, was decremented and was canceled, and the sum of quantity times level of what has executed:
--- no more than there is, all of it once something is canceled, and a sum that levels 1 to 1,999,999,999 come to
-pub record AmountsFine (qty executed decremented canceled sum : ℕ) : Type 0 where
+-- no more than there is, all of it once something is canceled, and a sum that levels from 1 to the market's highest come to
+pub record AmountsFine (q : Instrument) (qty executed decremented canceled sum : ℕ) : Type 0 where
   pub covered : executed + decremented + canceled ≤ qty
   pub dead : 0 < canceled → executed + decremented + canceled ≡ qty
   pub sum-low : executed ≤ sum
-  pub sum-high : sum ≤ executed * 1_999_999_999
+  pub sum-high : sum ≤ executed * highest q
 
--- an order
-pub record ShownFine (o : Shown) : Type 0 where
-  pub shown-in : (m t : List ℕ) → ShownIn m t o
+-- an order of a market
+pub record ShownFine (q : Instrument) (o : Shown) : Type 0 where
+  pub shown-in : (m t : List ℕ) → ShownIn m t q o
   pub sound : Sound (o .order)
 
 -- why it was replaced or canceled

@@ -5,6 +5,7 @@ use crate::messages;
 use crate::openings;
 use crate::samples;
 use crate::tables;
+use decimal::Instrument;
 use octets::part_at;
 ghost use Prim.Native.Nat.{_≤_};
 ghost use lib.ListN.{length};
@@ -38,79 +39,106 @@ pub fn soh(s: &mut [u8]) {
     }
 }
 
-// The section that a heading names: 1 messages, 2 tables, 3 samples, 4 changed reports, 5 opened markets, 6 to 8 tables with another
-// order in work, 0 none.
-fn section_of(s: &[u8]) -> u64 {
-    if octets::same(s, b"== messages") {
+// What is tried of the lines behind a heading: the section, and the market of bonds or of equities.
+struct Trial {
+    section: u64,
+    of: Instrument,
+}
+
+// The section of a name: 1 messages, 2 tables, 3 samples, 4 changed reports, 5 opened markets, 6 to 8 tables with another order in work,
+// 0 none.
+fn section_of(name: &[u8]) -> u64 {
+    if octets::same(name, b" messages") {
         return 1;
     }
-    if octets::same(s, b"== tables") {
+    if octets::same(name, b" tables") {
         return 2;
     }
-    if octets::same(s, b"== samples") {
+    if octets::same(name, b" samples") {
         return 3;
     }
-    if octets::same(s, b"== changed reports") {
+    if octets::same(name, b" changed reports") {
         return 4;
     }
-    if octets::same(s, b"== opened markets") {
+    if octets::same(name, b" opened markets") {
         return 5;
     }
-    if octets::same(s, b"== tables with a MinQty") {
+    if octets::same(name, b" tables with a MinQty") {
         return 6;
     }
-    if octets::same(s, b"== tables with a Fill or Kill") {
+    if octets::same(name, b" tables with a Fill or Kill") {
         return 7;
     }
-    if octets::same(s, b"== tables with nothing in work") {
+    if octets::same(name, b" tables with nothing in work") {
         return 8;
     }
     0
 }
 
+// What a heading names: what stands behind `== equities:` is of equities, and what stands behind another `==` of bonds.
+fn named(s: &[u8]) -> Trial {
+    if octets::same(part_at(s, 0, 12), b"== equities:") {
+        return Trial {
+            section: section_of(part_at(s, 12, s.len())),
+            of: Instrument::Equities,
+        };
+    }
+    Trial {
+        section: section_of(part_at(s, 2, s.len())),
+        of: Instrument::Bonds,
+    }
+}
+
 // Begins a section; samples and opened markets are written at once.
-fn begin(s: &[u8]) -> u64 {
+fn begin(s: &[u8]) -> Trial {
     io::write_all(1, s);
     io::write_all(1, b"\n");
-    let section = section_of(s);
+    let trial = named(s);
+    let section = trial.section;
+    let of = trial.of;
     if section == 3 {
-        samples::all();
+        samples::all(of);
     }
     if section == 5 {
-        openings::all();
+        openings::all(of);
     }
-    section
+    trial
 }
 
 // Tries a line of a section.
-fn trial(s: &[u8], section: u64) {
+fn try_line(s: &[u8], trial: Trial) {
+    let section = trial.section;
+    let of = trial.of;
     match section {
-        1 => messages::line(s),
-        2 => tables::line(s, section),
-        4 => changed::line(s),
-        6 => tables::line(s, section),
-        7 => tables::line(s, section),
-        8 => tables::line(s, section),
+        1 => messages::line(of, s),
+        2 => tables::line(of, s, section),
+        4 => changed::line(of, s),
+        6 => tables::line(of, s, section),
+        7 => tables::line(of, s, section),
+        8 => tables::line(of, s, section),
         _ => {}
     }
 }
 
-// Takes a line, and gives the section that the next one is in.
-fn line(s: &[u8], section: u64) -> u64 {
+// Takes a line, and gives what is tried of the next one.
+fn line(s: &[u8], trial: Trial) -> Trial {
     if octets::same(part_at(s, 0, 2), b"==") {
         return begin(s);
     }
-    trial(s, section);
-    section
+    try_line(s, trial);
+    trial
 }
 
 // The lines, one after another.
 pub fn lines(s: &[u8]) {
     let mut at = 0;
-    let mut section = 0;
+    let mut trial = Trial {
+        section: 0,
+        of: Instrument::Bonds,
+    };
     while at < s.len() {
         let e = line_end(s, at);
-        section = line(&s[at..e], section);
+        trial = line(&s[at..e], trial);
         at = e + 1;
     }
 }

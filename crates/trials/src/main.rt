@@ -5,6 +5,7 @@ mod lines;
 mod messages;
 mod openings;
 mod samples;
+mod shares;
 mod tables;
 
 // Puts SOH for each `|`, then goes over the lines.

@@ -1,5 +1,6 @@
-// Messages: what each asks of the market that has venue V and port P. A line that starts with `#` says what those after it are for, and
-// is written as it is.
+// Messages: what each asks of the market of bonds, or of equities, that has venue V and port P. A line that starts with `#` says what
+// those after it are for, and is written as it is.
+use decimal::Instrument;
 use fix::frame::Part;
 use octets::part::part_at;
 use request::Asked;
@@ -30,6 +31,7 @@ fn refused(s: &[u8], r: Refusal) {
     text(b" 52=", s, r.time);
 }
 
+// The numbers of a new order, 544 and 8214 where there is a 544.
 fn terms(t: Terms) {
     number(b" 38=", t.quantity);
     number(b" level=", t.level);
@@ -39,6 +41,10 @@ fn terms(t: Terms) {
     number(b" 109=", t.mpid);
     number(b" 110=", t.minqty);
     number(b" 8060=", t.class);
+    if 0 < t.cash {
+        number(b" 544=", t.cash);
+        number(b" 8214=", t.margin);
+    }
 }
 
 fn enters(s: &[u8], o: NewOrder) {
@@ -68,8 +74,8 @@ fn cancels(s: &[u8], o: Cancellation) {
 }
 
 // Writes what a message asks.
-fn answer(s: &[u8]) {
-    match asked(b"V", b"P", s) {
+fn answer(q: Instrument, s: &[u8]) {
+    match asked(q, b"V", b"P", s) {
         Asked::Garbled => {
             io::write_all(1, b"garbled");
         }
@@ -81,15 +87,15 @@ fn answer(s: &[u8]) {
 }
 
 // Writes a heading, or what a message asks, and a line end.
-pub fn line(s: &[u8]) {
+pub fn line(q: Instrument, s: &[u8]) {
     if 0 < s.len() {
         if s[0] == b'#' {
             io::write_all(1, s);
         } else {
-            answer(s);
+            answer(q, s);
         }
     } else {
-        answer(s);
+        answer(q, s);
     }
     io::write_all(1, b"\n");
 }

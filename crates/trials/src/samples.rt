@@ -1,8 +1,12 @@
-// Samples: one report of every kind and variant, a line each, with `|` for SOH. docs/SAMPLES.md says what each line is.
+// Samples of bonds: one report of every kind and variant, a line each, with `|` for SOH. docs/SAMPLES.md says what each line is.
 ghost use Prim.Native.Nat.{_^_, _≤_, _<_};
+ghost use Rattle.decimal.specs.declared.Instrument.the-variants.{Bonds};
 ghost use Rattle.matching.specs.Held.{Sound};
+ghost use Rattle.matching.specs.Quoted.{Quoted};
 ghost use Rattle.rows.specs.Ranges.{FillIn, RefusedIn, UnchangedIn, FaultyIn};
 ghost use Rattle.trials.specs.Fine.{StampFine, AmountsFine, ShownFine, GroundFine, RowFine};
+use crate::shares;
+use decimal::Instrument;
 use matching::Order;
 use report::Field;
 use report::Place;
@@ -48,11 +52,12 @@ fn print(row: [Field; 36])
 }
 
 // The start of a report: venue V, port P, and the 52 that the table keeps.
-fn stamp(number: u64) -> Stamp
+pub fn stamp(q: Instrument, number: u64) -> Stamp
     requires { ⌜ number < 10 ^ 9 ⌝ }
-    ensures { λ r. ⌜ StampFine r ⌝ }
+    ensures { λ r. ⌜ StampFine q r ⌝ }
 {
     Stamp {
+        of: q,
         number,
         time: Value::Stored { from: 5, len: 17 },
         venue: Value::Stored { from: 0, len: 1 },
@@ -61,11 +66,12 @@ fn stamp(number: u64) -> Stamp
 }
 
 // The same, with the 52 of the message.
-fn stamp_sent(number: u64) -> Stamp
+pub fn stamp_sent(q: Instrument, number: u64) -> Stamp
     requires { ⌜ number < 10 ^ 9 ⌝ }
-    ensures { λ r. ⌜ StampFine r ⌝ }
+    ensures { λ r. ⌜ StampFine q r ⌝ }
 {
     Stamp {
+        of: q,
         number,
         time: Value::Sent { from: 0, len: 17 },
         venue: Value::Stored { from: 0, len: 1 },
@@ -75,14 +81,16 @@ fn stamp_sent(number: u64) -> Stamp
 
 // An order of the client, BUY-1, with its account. Its OrderID is the number of the report that accepted it.
 fn known(orderid: u64, order: Order) -> Shown
-    requires { ⌜ (orderid < 10 ^ 9) × Sound order × (order .mpid < 10 ^ 6) ⌝ }
-    ensures { λ r. ⌜ ShownFine r ⌝ }
+    requires { ⌜ (orderid < 10 ^ 9) × Sound order × (order .mpid < 10 ^ 6) × Quoted Bonds order ⌝ }
+    ensures { λ r. ⌜ ShownFine Bonds r ⌝ }
 {
     Shown {
         orderid,
         order,
         capacity: b'A',
         class: 1,
+        cash: 0,
+        margin: 0,
         code: Value::Stored { from: 2, len: 3 },
         id: Value::Stored { from: 22, len: 5 },
         account: Value::Stored { from: 27, len: 5 },
@@ -91,14 +99,16 @@ fn known(orderid: u64, order: Order) -> Shown
 
 // Order 1 under its new ClOrdID, BUY-2.
 fn renamed(order: Order) -> Shown
-    requires { ⌜ Sound order × (order .mpid < 10 ^ 6) ⌝ }
-    ensures { λ r. ⌜ ShownFine r ⌝ }
+    requires { ⌜ Sound order × (order .mpid < 10 ^ 6) × Quoted Bonds order ⌝ }
+    ensures { λ r. ⌜ ShownFine Bonds r ⌝ }
 {
     Shown {
         orderid: 1,
         order,
         capacity: b'A',
         class: 1,
+        cash: 0,
+        margin: 0,
         code: Value::Stored { from: 2, len: 3 },
         id: Value::Stored { from: 32, len: 5 },
         account: Value::Stored { from: 27, len: 5 },
@@ -107,14 +117,16 @@ fn renamed(order: Order) -> Shown
 
 // Order 2, with no account.
 fn bare(order: Order) -> Shown
-    requires { ⌜ Sound order × (order .mpid < 10 ^ 6) ⌝ }
-    ensures { λ r. ⌜ ShownFine r ⌝ }
+    requires { ⌜ Sound order × (order .mpid < 10 ^ 6) × Quoted Bonds order ⌝ }
+    ensures { λ r. ⌜ ShownFine Bonds r ⌝ }
 {
     Shown {
         orderid: 2,
         order,
         capacity: b'P',
         class: 6,
+        cash: 0,
+        margin: 0,
         code: Value::Stored { from: 2, len: 3 },
         id: Value::Stored { from: 22, len: 5 },
         account: Value::Absent,
@@ -123,8 +135,8 @@ fn bare(order: Order) -> Shown
 
 // A buy of 1,200 at 0.100 for MPID 10, of which so much has executed, was decremented, was canceled.
 fn buy(executed: u64, decremented: u64, canceled: u64, sum: u64) -> Order
-    requires { ⌜ AmountsFine 1200 executed decremented canceled sum ⌝ }
-    ensures { λ r. ⌜ Sound r × (r .mpid < 10 ^ 6) ⌝ }
+    requires { ⌜ AmountsFine Bonds 1200 executed decremented canceled sum ⌝ }
+    ensures { λ r. ⌜ Sound r × (r .mpid < 10 ^ 6) × Quoted Bonds r ⌝ }
 {
     Order {
         side: 1,
@@ -143,7 +155,7 @@ fn buy(executed: u64, decremented: u64, canceled: u64, sum: u64) -> Order
 
 // The same buy as an IOC with a MinQty of 300, of which nothing has executed.
 fn least() -> Order
-    ensures { λ r. ⌜ Sound r × (r .mpid < 10 ^ 6) ⌝ }
+    ensures { λ r. ⌜ Sound r × (r .mpid < 10 ^ 6) × Quoted Bonds r ⌝ }
 {
     Order {
         side: 1,
@@ -162,7 +174,7 @@ fn least() -> Order
 
 // The same buy as a Fill or Kill, canceled whole.
 fn kill() -> Order
-    ensures { λ r. ⌜ Sound r × (r .mpid < 10 ^ 6) ⌝ }
+    ensures { λ r. ⌜ Sound r × (r .mpid < 10 ^ 6) × Quoted Bonds r ⌝ }
 {
     Order {
         side: 1,
@@ -181,8 +193,8 @@ fn kill() -> Order
 
 // A sell of 500 with no MPID, IOC, of which so much has executed and was canceled.
 fn sell(level: u64, executed: u64, canceled: u64, sum: u64) -> Order
-    requires { ⌜ (0 < level) × (level ≤ 1999999999) × AmountsFine 500 executed 0 canceled sum ⌝ }
-    ensures { λ r. ⌜ Sound r × (r .mpid < 10 ^ 6) ⌝ }
+    requires { ⌜ (0 < level) × (level ≤ 1999999999) × AmountsFine Bonds 500 executed 0 canceled sum ⌝ }
+    ensures { λ r. ⌜ Sound r × (r .mpid < 10 ^ 6) × Quoted Bonds r ⌝ }
 {
     Order {
         side: 2,
@@ -199,50 +211,50 @@ fn sell(level: u64, executed: u64, canceled: u64, sum: u64) -> Order
     }
 }
 
-fn accepted(s: Stamp, o: Shown)
-    requires { ⌜ StampFine s × ShownFine o ⌝ }
+pub fn accepted(q: Instrument, s: Stamp, o: Shown)
+    requires { ⌜ StampFine q s × ShownFine q o ⌝ }
 {
     print(rows::accepted_row(s, o));
 }
 
-fn replaced(s: Stamp, o: Shown, w: Ground)
-    requires { ⌜ StampFine s × ShownFine o × GroundFine w ⌝ }
+pub fn replaced(q: Instrument, s: Stamp, o: Shown, w: Ground)
+    requires { ⌜ StampFine q s × ShownFine q o × GroundFine w ⌝ }
 {
     print(rows::replaced_row(s, o, w));
 }
 
-fn canceled(s: Stamp, o: Shown, w: Ground)
-    requires { ⌜ StampFine s × ShownFine o × GroundFine w ⌝ }
+pub fn canceled(q: Instrument, s: Stamp, o: Shown, w: Ground)
+    requires { ⌜ StampFine q s × ShownFine q o × GroundFine w ⌝ }
 {
     print(rows::canceled_row(s, o, w));
 }
 
-fn trade(s: Stamp, o: Shown, f: Fill)
-    requires { ⌜ StampFine s × ShownFine o × FillIn f ⌝ }
+pub fn trade(q: Instrument, s: Stamp, o: Shown, f: Fill)
+    requires { ⌜ StampFine q s × ShownFine q o × FillIn q f ⌝ }
 {
     print(rows::trade_row(s, o, f));
 }
 
-fn rejected(s: Stamp, q: Refused)
-    requires { ⌜ StampFine s × RefusedIn q ⌝ }
+pub fn rejected(q: Instrument, s: Stamp, r: Refused)
+    requires { ⌜ StampFine q s × RefusedIn r ⌝ }
 {
-    print(rows::rejected_row(s, q));
+    print(rows::rejected_row(s, r));
 }
 
-fn unchanged(s: Stamp, u: Unchanged)
-    requires { ⌜ StampFine s × UnchangedIn u ⌝ }
+pub fn unchanged(q: Instrument, s: Stamp, u: Unchanged)
+    requires { ⌜ StampFine q s × UnchangedIn u ⌝ }
 {
     print(rows::cancel_reject_row(s, u));
 }
 
-fn faulty(s: Stamp, f: Faulty)
-    requires { ⌜ StampFine s × FaultyIn f ⌝ }
+pub fn faulty(q: Instrument, s: Stamp, f: Faulty)
+    requires { ⌜ StampFine q s × FaultyIn f ⌝ }
 {
     print(rows::session_reject_row(s, f));
 }
 
 // A request's 41.
-fn requested() -> Ground
+pub fn requested() -> Ground
     ensures { λ r. ⌜ GroundFine r ⌝ }
 {
     Ground {
@@ -251,7 +263,7 @@ fn requested() -> Ground
     }
 }
 
-fn prevented() -> Ground
+pub fn prevented() -> Ground
     ensures { λ r. ⌜ GroundFine r ⌝ }
 {
     Ground {
@@ -269,7 +281,7 @@ fn decremented() -> Ground
     }
 }
 
-fn expired() -> Ground
+pub fn expired() -> Ground
     ensures { λ r. ⌜ GroundFine r ⌝ }
 {
     Ground {
@@ -280,16 +292,19 @@ fn expired() -> Ground
 
 // Orders that enter the book and are replaced.
 fn book_samples() {
-    accepted(stamp_sent(1), known(1, buy(0, 0, 0, 0)));
-    accepted(stamp_sent(2), bare(sell(999_999_995, 0, 0, 0)));
-    replaced(stamp_sent(3), renamed(buy(0, 0, 0, 0)), requested());
+    let q = Instrument::Bonds;
+    accepted(q, stamp_sent(q, 1), known(1, buy(0, 0, 0, 0)));
+    accepted(q, stamp_sent(q, 2), bare(sell(999_999_995, 0, 0, 0)));
+    replaced(q, stamp_sent(q, 3), renamed(buy(0, 0, 0, 0)), requested());
     replaced(
-        stamp_sent(4),
+        q,
+        stamp_sent(q, 4),
         renamed(buy(300, 0, 0, 300_000_030_200)),
         requested(),
     );
     replaced(
-        stamp(5),
+        q,
+        stamp(q, 5),
         known(1, buy(300, 200, 0, 300_000_030_200)),
         decremented(),
     );
@@ -297,18 +312,22 @@ fn book_samples() {
 
 // Orders that leave it: as requested, by prevention, and an IOC's rest.
 fn cancel_samples() {
+    let q = Instrument::Bonds;
     canceled(
-        stamp_sent(6),
+        q,
+        stamp_sent(q, 6),
         renamed(buy(300, 0, 900, 300_000_030_200)),
         requested(),
     );
     canceled(
-        stamp(7),
+        q,
+        stamp(q, 7),
         known(1, buy(300, 0, 900, 300_000_030_200)),
         prevented(),
     );
     canceled(
-        stamp(8),
+        q,
+        stamp(q, 8),
         bare(sell(999_999_995, 300, 200, 299_999_998_500)),
         expired(),
     );
@@ -316,8 +335,10 @@ fn cancel_samples() {
 
 // A trade of the resting order and of the one in work, and the one in work's at a yield below zero.
 fn trade_samples() {
+    let q = Instrument::Bonds;
     trade(
-        stamp(9),
+        q,
+        stamp(q, 9),
         known(1, buy(300, 0, 0, 300_000_030_200)),
         Fill {
             quantity: 200,
@@ -328,7 +349,8 @@ fn trade_samples() {
         },
     );
     trade(
-        stamp(10),
+        q,
+        stamp(q, 10),
         bare(sell(1_000_000_105, 200, 0, 200_000_020_000)),
         Fill {
             quantity: 200,
@@ -339,7 +361,8 @@ fn trade_samples() {
         },
     );
     trade(
-        stamp(12),
+        q,
+        stamp(q, 12),
         bare(sell(999_999_995, 500, 0, 499_999_997_500)),
         Fill {
             quantity: 500,
@@ -353,6 +376,7 @@ fn trade_samples() {
 
 // What is refused: a new order whose 38 was 00042, a cancel of an unknown order, a replacement of a known one, a message.
 fn refusal_samples() {
+    let q = Instrument::Bonds;
     let id = Place {
         sent: true,
         start: 17,
@@ -374,7 +398,8 @@ fn refusal_samples() {
         length: 1,
     };
     rejected(
-        stamp_sent(13),
+        q,
+        stamp_sent(q, 13),
         Refused {
             id,
             quantity: 42,
@@ -384,7 +409,8 @@ fn refusal_samples() {
         },
     );
     unchanged(
-        stamp_sent(14),
+        q,
+        stamp_sent(q, 14),
         Unchanged {
             id,
             orderid: 0,
@@ -395,7 +421,8 @@ fn refusal_samples() {
         },
     );
     unchanged(
-        stamp_sent(15),
+        q,
+        stamp_sent(q, 15),
         Unchanged {
             id,
             orderid: 1,
@@ -406,7 +433,8 @@ fn refusal_samples() {
         },
     );
     faulty(
-        stamp_sent(16),
+        q,
+        stamp_sent(q, 16),
         Faulty {
             sequence: 7,
             tag: 38,
@@ -418,15 +446,24 @@ fn refusal_samples() {
 
 // Orders that trade at once at least so much or nothing: one with a minimum enters, and one is killed, with the largest number.
 fn minimum_samples() {
-    accepted(stamp_sent(17), known(17, least()));
-    canceled(stamp(999_999_999), known(18, kill()), expired());
+    let q = Instrument::Bonds;
+    accepted(q, stamp_sent(q, 17), known(17, least()));
+    canceled(q, stamp(q, 999_999_999), known(18, kill()), expired());
 }
 
-// All samples.
-pub fn all() {
+// All samples of bonds.
+fn all_bonds() {
     book_samples();
     cancel_samples();
     trade_samples();
     refusal_samples();
     minimum_samples();
+}
+
+// All samples of a market.
+pub fn all(q: Instrument) {
+    match q {
+        Instrument::Bonds => all_bonds(),
+        Instrument::Equities => shares::all(),
+    }
 }

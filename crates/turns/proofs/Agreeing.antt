@@ -23,7 +23,7 @@ use Rattle.turns.proofs.Stepping.{step-work, step-book, step-modes, ste
 use Rattle.turns.proofs.Taking.{stops-still, worked-on}
 
 -- one step of matching's run, of an order in work, and none where there is none
-run-one : (modes : ℕ → ℕ) (missed : Bool) (n : ℕ) (b : Book) (w : ℕ) → 1 ≤ w
+pub run-one : (modes : ℕ → ℕ) (missed : Bool) (n : ℕ) (b : Book) (w : ℕ) → 1 ≤ w
     → run modes missed (suc n) b w
     ≡ (let rest = run modes false n (bookAfter modes missed b w) (workAfter missed b w) in
     record { book = rest .book; work = rest .work; events = happens modes missed b w ++ rest .events; steps = suc (rest .steps) })

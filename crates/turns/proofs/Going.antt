@@ -14,9 +14,11 @@ use mir.Val.{Fits}
 use Rattle.octets.specs.Octets.{put}
 use Rattle.octets.proofs.Places.{put-put, length-put}
 use Rattle.octets.proofs.Runs.{wrote-rest}
+use Rattle.decimal.specs.declared.Instrument.{Instrument}
 use Rattle.table.specs.Heading.{nextOf, workOf}
-use Rattle.table.specs.Market.{isMarket}
+use Rattle.table.specs.Market.{isMarketOf}
 use Rattle.table.specs.Facts.{Market}
+use Rattle.table.proofs.Instruments.{of-market}
 use Rattle.table.proofs.Facts.{market-facts}
 use Rattle.table.proofs.Kept.{stepped-kept}
 use Rattle.calls.specs.declared.RunAnswer.{RunAnswer}
@@ -175,36 +177,36 @@ spent-walked t₀ area₀ budget t area at reports taken g l =
 -- ---- Run
 
 -- what Run leaves
-pub record Leaves (t area : List ℕ) (budget : ℕ) (r : RunAnswer) (after written : List ℕ) : Type 0 where
-  pub answer : r ≡ ran t (length area) budget .answer
-  pub table : after ≡ ran t (length area) budget .table
-  pub bytes-in : written ≡ areaAfter area (ran t (length area) budget .reports)
+pub record Leaves (q : Instrument) (t area : List ℕ) (budget : ℕ) (r : RunAnswer) (after written : List ℕ) : Type 0 where
+  pub answer : r ≡ ran q t (length area) budget .answer
+  pub table : after ≡ ran q t (length area) budget .table
+  pub bytes-in : written ≡ areaAfter area (ran q t (length area) budget .reports)
 
-module _ (t area : List ℕ) (budget : ℕ) where
-  pub run-no-room : length area < 1024 → Leaves t area budget answer.NoRoom t area
+module _ (q : Instrument) (t area : List ℕ) (budget : ℕ) where
+  pub run-no-room : length area < 1024 → Leaves q t area budget answer.NoRoom t area
   unfolding ran joined put
   run-no-room h =
       let e = lt-ltb (length area) 1024 h in
       record { answer = rw e; table = rw e; bytes-in = rw e }
 
-  module _ (l : 1024 ≤ length area) (f : Bool) (p : f ≡ isMarket t) where
-    pub run-no-market : not f ≡ true → Leaves t area budget answer.NoMarket t area
+  module _ (l : 1024 ≤ length area) (f : Bool) (p : f ≡ isMarketOf q t) where
+    pub run-no-market : not f ≡ true → Leaves q t area budget answer.NoMarket t area
     unfolding ran joined put
     run-no-market h =
-        let e : not (isMarket t) ≡ true = rw (← p) h in
+        let e : not (isMarketOf q t) ≡ true = rw (← p) h in
         let d = le-ltb (length area) 1024 l in
         record { answer = rw (d, e); table = rw (d, e); bytes-in = rw (d, e) }
 
     pub run-market : not f ≡ false → Market t
-    run-market h = market-facts t (sym p ∙ yes f h)
+    run-market h = market-facts t (of-market q t (sym p ∙ yes f h))
       where
         yes : (b : Bool) → not b ≡ false → b ≡ true
         yes true e = refl
         yes false e = sym e
 
-    pub run-walked : not f ≡ false → (r : RunAnswer) (u written : List ℕ) → Walked t area budget r u written → Leaves t area budget r u written
+    pub run-walked : not f ≡ false → (r : RunAnswer) (u written : List ℕ) → Walked t area budget r u written → Leaves q t area budget r u written
     unfolding ran
     run-walked h r u written w =
-        let e : not (isMarket t) ≡ false = rw (← p) h in
+        let e : not (isMarketOf q t) ≡ false = rw (← p) h in
         let d = le-ltb (length area) 1024 l in
         record { answer = rw (d, e) (w .answer); table = rw (d, e) (w .table); bytes-in = rw (d, e) (w .bytes-in) }

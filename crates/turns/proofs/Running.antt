@@ -11,10 +11,12 @@ use Rattle.octets.specs.Octets.{put}
 use Rattle.octets.specs.Written.{Room, Wrote}
 use Rattle.octets.proofs.Bools.{split}
 use Rattle.octets.proofs.Runs.{wrote-split}
+use Rattle.decimal.specs.declared.Instrument.{Instrument}
 use Rattle.table.specs.Heading.{nextOf}
-use Rattle.table.specs.Market.{isMarket}
+use Rattle.table.specs.Market.{isMarketOf}
 use Rattle.table.specs.Facts.{Market}
 use Rattle.table.specs.Changes.{stepped}
+use Rattle.table.proofs.Instruments.{of-market, market-instrument, instrument-market}
 use Rattle.table.proofs.Facts.{market-facts, facts-market}
 use Rattle.table.proofs.Kept.{stepped-kept}
 use Rattle.calls.specs.Told.{joined, areaAfter, roomAsked}
@@ -22,7 +24,7 @@ use Rattle.calls.specs.Run.{stepReports, stops, worked, ran, runSteps}
 use Rattle.turns.specs.Turns.{Busy}
 use Rattle.turns.proofs.Joins.{joined-append}
 use Rattle.turns.proofs.Stepping.{step-next, step-short, step-count}
-use Rattle.turns.proofs.Taking.{goes-busy, goes-room, worked-kept, worked-few}
+use Rattle.turns.proofs.Taking.{goes-busy, goes-room, worked-kept, worked-instrument, worked-few}
 
 -- ---- steps
 
@@ -72,47 +74,52 @@ worked-fits (suc n) t room m =
 
 -- ---- the call
 
--- Run, whatever it answers, leaves a market a market
-pub ran-kept : (t : List ℕ) (room budget : ℕ) → isMarket t ≡ true → isMarket (ran t room budget .table) ≡ true
+-- Run, whatever it answers, leaves a market a market that trades the same
+pub ran-kept : (q : Instrument) (t : List ℕ) (room budget : ℕ) → isMarketOf q t ≡ true → isMarketOf q (ran q t room budget .table) ≡ true
 unfolding ran
-ran-kept t room budget m =
+ran-kept q t room budget m =
     split (ltb room roomAsked)
     (λ e. rw e m)
-    (λ e. rw (e, m) (facts-market (worked budget t room .table) (worked-kept budget t room (market-facts t m))))
+    (λ e.
+    let f = market-facts t (of-market q t m) in
+    let u : List ℕ = worked budget t room .table in
+    let g = worked-kept budget t room f in
+    rw (e, m) (instrument-market q u (facts-market u g) (g .kind) (worked-instrument budget t room f ∙ market-instrument q t m)))
 
-pub ran-next : (t : List ℕ) (room budget : ℕ) → isMarket t ≡ true → nextOf (ran t room budget .table) ≡ nextOf t + length (ran t room budget .reports)
+pub ran-next : (q : Instrument) (t : List ℕ) (room budget : ℕ) → isMarketOf q t ≡ true
+    → nextOf (ran q t room budget .table) ≡ nextOf t + length (ran q t room budget .reports)
 unfolding ran
-ran-next t room budget m =
+ran-next q t room budget m =
     split (ltb room roomAsked)
     (λ e. rw e (omega arith))
-    (λ e. rw (e, m) (worked-next budget t room (market-facts t m)))
+    (λ e. rw (e, m) (worked-next budget t room (market-facts t (of-market q t m))))
 
-pub ran-fits : (t : List ℕ) (room budget : ℕ) → length (joined (ran t room budget .reports)) ≤ room
+pub ran-fits : (q : Instrument) (t : List ℕ) (room budget : ℕ) → length (joined (ran q t room budget .reports)) ≤ room
 unfolding ran joined
-ran-fits t room budget =
+ran-fits q t room budget =
     split (ltb room roomAsked)
     (λ e. rw e (omega arith))
     (λ e.
-    split (isMarket t)
-    (λ m. rw (e, m) (worked-fits budget t room (market-facts t m)))
+    split (isMarketOf q t)
+    (λ m. rw (e, m) (worked-fits budget t room (market-facts t (of-market q t m))))
     (λ m. rw (e, m) (omega arith)))
 
-pub ran-few : (t : List ℕ) (room budget : ℕ) → runSteps (ran t room budget .answer) ≤ budget
+pub ran-few : (q : Instrument) (t : List ℕ) (room budget : ℕ) → runSteps (ran q t room budget .answer) ≤ budget
 unfolding ran
-ran-few t room budget =
+ran-few q t room budget =
     split (ltb room roomAsked)
     (λ e. rw e (omega arith))
     (λ e.
-    split (isMarket t)
+    split (isMarketOf q t)
     (λ m. rw (e, m) (worked-few budget t room))
     (λ m. rw (e, m) (omega arith)))
 
 -- so the area is the reports and, behind them, what it was
-pub ran-area : (t area : List ℕ) (budget : ℕ)
-    → let rs = joined (ran t (length area) budget .reports) in
-    areaAfter area (ran t (length area) budget .reports) ≡ rs ++ drop (length rs) area
-ran-area t area budget =
-    let rs = joined (ran t (length area) budget .reports) in
-    let h : Room area 0 rs = record { fits = omega (arith, ran-fits t (length area) budget) } in
+pub ran-area : (q : Instrument) (t area : List ℕ) (budget : ℕ)
+    → let rs = joined (ran q t (length area) budget .reports) in
+    areaAfter area (ran q t (length area) budget .reports) ≡ rs ++ drop (length rs) area
+ran-area q t area budget =
+    let rs = joined (ran q t (length area) budget .reports) in
+    let h : Room area 0 rs = record { fits = omega (arith, ran-fits q t (length area) budget) } in
     let w : Wrote area 0 rs (0 + length rs) (put area 0 rs) = record { place = refl; bytes-in = refl } in
     wrote-split h w ∙ ap (λ (k : ℕ). rs ++ drop k area) (zero-add (length rs))

@@ -9,10 +9,10 @@ use lib.Dec.{eqb, ltb}
 use lib.ListN.{length, length-append}
 use borrow.Author.Tests.{eqb-false, ltb-false}
 use Rattle.octets.proofs.Bools.{split, neither-l, neither-r}
-use Rattle.table.specs.Heading.{workOf}
+use Rattle.table.specs.Heading.{workOf, instrumentOf}
 use Rattle.table.specs.Facts.{Market}
 use Rattle.table.specs.Changes.{stepped}
-use Rattle.table.proofs.Kept.{stepped-kept}
+use Rattle.table.proofs.Kept.{stepped-kept, stepped-instrument}
 use Rattle.calls.specs.Told.{joined, roomAsked}
 use Rattle.calls.specs.Run.{stepReports, stops, still, oneMore, worked}
 use Rattle.turns.specs.Runs.{GoesOn}
@@ -44,6 +44,18 @@ worked-kept (suc n) t room m =
     split (stops t room)
     (λ e. rw e m)
     (λ e. rw e (worked-kept n (stepped t) (room - length (joined (stepReports t))) (stepped-kept t m (goes-busy t room e))))
+
+-- that trades the same
+pub worked-instrument : (n : ℕ) (t : List ℕ) (room : ℕ) → Market t → instrumentOf (worked n t room .table) ≡ instrumentOf t
+unfolding worked
+worked-instrument zero t room m = refl
+worked-instrument (suc n) t room m =
+    split (stops t room)
+    (λ e. rw e)
+    (λ e.
+    let l = goes-busy t room e in
+    rw e
+    (worked-instrument n (stepped t) (room - length (joined (stepReports t))) (stepped-kept t m l) ∙ stepped-instrument t m l))
 
 -- no more steps than the budget
 pub worked-few : (n : ℕ) (t : List ℕ) (room : ℕ) → worked n t room .steps ≤ n

@@ -1,14 +1,15 @@
--- What holds of Run, for every table, every length of the report area and every budget of steps. Each statement is in the words
+-- What holds of Run, on a market of bonds as of equities, for every table, every length of the report area and every budget of steps. Each statement is in the words
 -- of the definitions; the proofs lead to the laws.
 use mathlib.Core.Path.{_≡_}
 use mathlib.Core.Bool.{true}
 use mathlib.Core.List.{List, _++_}
 use Prim.Native.Nat.{ℕ, _+_, _-_, _*_, _≤_}
 use lib.ListN.{length, drop}
+use Rattle.decimal.specs.declared.Instrument.{Instrument}
 use Rattle.matching.specs.Matching.{metBy, run}
 use Rattle.table.specs.Heading.{nextOf, workOf, modeOf}
 use Rattle.table.specs.Orders.{bookOf}
-use Rattle.table.specs.Market.{isMarket}
+use Rattle.table.specs.Market.{isMarket, isMarketOf}
 use Rattle.table.specs.Changes.{missesNow}
 use Rattle.table.proofs.Facts.{market-facts}
 use Rattle.calls.specs.Told.{joined, areaAfter}
@@ -18,26 +19,26 @@ use Rattle.turns.proofs.Taking.{worked-on}
 use Rattle.turns.proofs.Running.{ran-kept, ran-next, ran-fits, ran-area, ran-few}
 use Rattle.turns.proofs.Agreeing.{agrees, work-ends}
 
--- Run on a market leaves a market, whatever it answers
-pub run-keeps : (t : List ℕ) (room budget : ℕ) → isMarket t ≡ true → isMarket (ran t room budget .table) ≡ true
+-- Run on a market leaves a market that trades the same, whatever it answers
+pub run-keeps : (q : Instrument) (t : List ℕ) (room budget : ℕ) → isMarketOf q t ≡ true → isMarketOf q (ran q t room budget .table) ≡ true
 run-keeps = ran-kept
 
 -- it takes no more steps than its budget
-pub within-budget : (t : List ℕ) (room budget : ℕ) → runSteps (ran t room budget .answer) ≤ budget
+pub within-budget : (q : Instrument) (t : List ℕ) (room budget : ℕ) → runSteps (ran q t room budget .answer) ≤ budget
 within-budget = ran-few
 
 -- each report of it takes a number
-pub run-numbers : (t : List ℕ) (room budget : ℕ) → isMarket t ≡ true
-    → nextOf (ran t room budget .table) ≡ nextOf t + length (ran t room budget .reports)
+pub run-numbers : (q : Instrument) (t : List ℕ) (room budget : ℕ) → isMarketOf q t ≡ true
+    → nextOf (ran q t room budget .table) ≡ nextOf t + length (ran q t room budget .reports)
 run-numbers = ran-next
 
 -- its reports fit the report area: afterwards it holds them, and behind them what it held
-pub reports-fit : (t : List ℕ) (room budget : ℕ) → length (joined (ran t room budget .reports)) ≤ room
+pub reports-fit : (q : Instrument) (t : List ℕ) (room budget : ℕ) → length (joined (ran q t room budget .reports)) ≤ room
 reports-fit = ran-fits
 
-pub area-after : (t area : List ℕ) (budget : ℕ)
-    → let written = joined (ran t (length area) budget .reports) in
-    areaAfter area (ran t (length area) budget .reports) ≡ written ++ drop (length written) area
+pub area-after : (q : Instrument) (t area : List ℕ) (budget : ℕ)
+    → let written = joined (ran q t (length area) budget .reports) in
+    areaAfter area (ran q t (length area) budget .reports) ≡ written ++ drop (length written) area
 area-after = ran-area
 
 -- m steps and then n, with the room that the first have left, are the same as m + n steps

@@ -7,8 +7,9 @@ ghost use Rattle.calls.specs.Told.{areaAfter};
 ghost use Rattle.calls.specs.Run.{stops, ran};
 ghost use Rattle.turns.specs.Turns.{Walked};
 use crate::step::step;
-use audit::is_market;
+use audit::is_market_of;
 use calls::RunAnswer;
+use decimal::Instrument;
 use table::heading::work;
 
 // Whether no step is taken: nothing is in work, or fewer than 1,024 bytes are free.
@@ -48,16 +49,17 @@ fn steps(table: &mut [u8], area: &mut [u8], budget: u64) -> RunAnswer
     }
 }
 
-// Steps of the order in work, at most as many as the budget. Refused if the area is below 1,024 bytes, or the table is no market.
-pub fn run(table: &mut [u8], area: &mut [u8], budget: u64) -> RunAnswer
-    ensures { λ r. ⌜ r ≡ ran (now (table .entry)) (length (now (area .entry))) budget .answer ⌝ }
-    ensures { λ r. ⌜ now (table .exit) ≡ ran (now (table .entry)) (length (now (area .entry))) budget .table ⌝ }
-    ensures { λ r. ⌜ now (area .exit) ≡ areaAfter (now (area .entry)) (ran (now (table .entry)) (length (now (area .entry))) budget .reports) ⌝ }
+// Steps of the order in work, at most as many as the budget, on a market of bonds or of equities. Refused if the area is below 1,024
+// bytes, or the table is no such market.
+pub fn run(q: Instrument, table: &mut [u8], area: &mut [u8], budget: u64) -> RunAnswer
+    ensures { λ r. ⌜ r ≡ ran q (now (table .entry)) (length (now (area .entry))) budget .answer ⌝ }
+    ensures { λ r. ⌜ now (table .exit) ≡ ran q (now (table .entry)) (length (now (area .entry))) budget .table ⌝ }
+    ensures { λ r. ⌜ now (area .exit) ≡ areaAfter (now (area .entry)) (ran q (now (table .entry)) (length (now (area .entry))) budget .reports) ⌝ }
 {
     if area.len() < 1024 {
         return RunAnswer::NoRoom;
     }
-    if !is_market(table) {
+    if !is_market_of(q, table) {
         return RunAnswer::NoMarket;
     }
     steps(table, area, budget)

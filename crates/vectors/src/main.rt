@@ -1,4 +1,4 @@
-// Does the commands of tests/vectors (the form is told there) on a market and writes the answer to each, line by line.
+// Does the commands of tests/vectors (the form is told there) on a market of bonds or of equities and writes the answer to each, line by line.
 mod say;
 mod text;
 
@@ -10,13 +10,14 @@ use crate::text::marks;
 use crate::text::next;
 use crate::text::number;
 use crate::text::part;
-use kamurjesh::kamurjesh_copy;
-use kamurjesh::kamurjesh_copy_read;
+use decimal::Instrument;
+use kamurjesh::both::copy_of;
+use kamurjesh::both::copy_read_of;
+use kamurjesh::both::open_of;
+use kamurjesh::both::read_of;
+use kamurjesh::both::run_of;
+use kamurjesh::both::submit_of;
 use kamurjesh::kamurjesh_field;
-use kamurjesh::kamurjesh_open;
-use kamurjesh::kamurjesh_read;
-use kamurjesh::kamurjesh_run;
-use kamurjesh::kamurjesh_submit;
 use kamurjesh::numbers::depth_number;
 use kamurjesh::numbers::level_in;
 use market::DepthAnswer;
@@ -57,12 +58,20 @@ fn entries(s: &[u8], mpids: &mut [u64], modes: &mut [u64]) -> usize {
 }
 
 // Open, with the names and the list of the command.
-fn open_named(table: &mut [u8], venue: &[u8], port: &[u8], code: &[u8], s: &[u8]) -> u64 {
+fn open_named(
+    q: Instrument,
+    table: &mut [u8],
+    venue: &[u8],
+    port: &[u8],
+    code: &[u8],
+    s: &[u8],
+) -> u64 {
     let mut mpids = [0u64; 16];
     let mut modes = [0u64; 16];
     let n = entries(s, &mut mpids, &mut modes);
     let number = number(part(s, 3));
-    kamurjesh_open(
+    open_of(
+        q,
         table,
         venue,
         port,
@@ -74,7 +83,7 @@ fn open_named(table: &mut [u8], venue: &[u8], port: &[u8], code: &[u8], s: &[u8]
 }
 
 // Open.
-fn open(table: &mut [u8], s: &[u8]) {
+fn open(q: Instrument, table: &mut [u8], s: &[u8]) {
     let mut venue = [0u8; 64];
     let mut port = [0u8; 64];
     let mut code = [0u8; 64];
@@ -83,18 +92,18 @@ fn open(table: &mut [u8], s: &[u8]) {
     let c = bytes_of(part(s, 2), &mut code);
     let venue_id = part_at(&venue, 0, v);
     let port_id = part_at(&port, 0, p);
-    let refusal = open_named(table, venue_id, port_id, part_at(&code, 0, c), s);
+    let refusal = open_named(q, table, venue_id, port_id, part_at(&code, 0, c), s);
     say::word(b"o");
     say::number(refusal);
     say::word(b"\n");
 }
 
 // Submit, with as much of the area as the command lends.
-fn submit_in(table: &mut [u8], message: &[u8], area: &mut [u8], lent: u64) {
+fn submit_in(q: Instrument, table: &mut [u8], message: &[u8], area: &mut [u8], lent: u64) {
     let mut len = 0;
     let from = 0;
     let room = at_most(lent, area.len());
-    let refusal = kamurjesh_submit(table, message, &mut area[from..room], &mut len);
+    let refusal = submit_of(q, table, message, &mut area[from..room], &mut len);
     say::word(b"s");
     say::number(refusal);
     say::number(len);
@@ -102,22 +111,23 @@ fn submit_in(table: &mut [u8], message: &[u8], area: &mut [u8], lent: u64) {
 }
 
 // Submit.
-fn submit(table: &mut [u8], s: &[u8]) {
+fn submit(q: Instrument, table: &mut [u8], s: &[u8]) {
     let mut message = [0u8; 8192];
     let mut area = io::large_buffer();
     let n = bytes_of(part(s, 1), &mut message);
     let lent = number(part(s, 0));
-    submit_in(table, part_at(&message, 0, n), &mut area, lent);
+    submit_in(q, table, part_at(&message, 0, n), &mut area, lent);
 }
 
 // Run, with as much of the area as the command lends.
-fn run_in(table: &mut [u8], area: &mut [u8], lent: u64, budget: u64) {
+fn run_in(q: Instrument, table: &mut [u8], area: &mut [u8], lent: u64, budget: u64) {
     let mut bytes = 0;
     let mut reports = 0;
     let mut steps = 0;
     let from = 0;
     let room = at_most(lent, area.len());
-    let refusal = kamurjesh_run(
+    let refusal = run_of(
+        q,
         table,
         &mut area[from..room],
         budget,
@@ -134,15 +144,15 @@ fn run_in(table: &mut [u8], area: &mut [u8], lent: u64, budget: u64) {
 }
 
 // Run.
-fn run(table: &mut [u8], s: &[u8]) {
+fn run(q: Instrument, table: &mut [u8], s: &[u8]) {
     let mut area = io::large_buffer();
     let lent = number(part(s, 0));
     let budget = number(part(s, 1));
-    run_in(table, &mut area, lent, budget);
+    run_in(q, table, &mut area, lent, budget);
 }
 
 // Depth's level.
-fn level(d: Depth) {
+fn level(q: Instrument, d: Depth) {
     match d {
         Depth::Level {
             level,
@@ -150,7 +160,7 @@ fn level(d: Depth) {
             orders,
         } => {
             say::number(1);
-            say::yield_of(level);
+            say::quote(q, level);
             say::number(total);
             say::number(orders);
         }
@@ -159,22 +169,22 @@ fn level(d: Depth) {
 }
 
 // An answer with a level, or without one.
-fn answered(answer: DepthAnswer) {
+fn answered(q: Instrument, answer: DepthAnswer) {
     say::number(depth_number(answer));
-    level(level_in(answer));
+    level(q, level_in(answer));
     say::word(b"\n");
 }
 
 // Depth.
-fn depths(table: &[u8], s: &[u8]) {
+fn depths(q: Instrument, table: &[u8], s: &[u8]) {
     say::word(b"d");
-    answered(depth(table, number(part(s, 0)), number(part(s, 1))));
+    answered(q, depth(q, table, number(part(s, 0)), number(part(s, 1))));
 }
 
 // The best level of a side, from the heading.
-fn tops(table: &[u8], s: &[u8]) {
+fn tops(q: Instrument, table: &[u8], s: &[u8]) {
     say::word(b"t");
-    answered(top(table, number(part(s, 0))));
+    answered(q, top(q, table, number(part(s, 0))));
 }
 
 // A byte put into the table: the one that was there is said.
@@ -223,29 +233,29 @@ fn read_as(report: &[u8], refusal: u64, kind: u64) {
 }
 
 // Read.
-fn read(s: &[u8]) {
+fn read(q: Instrument, s: &[u8]) {
     let mut bytes = [0u8; 8192];
     let mut kind = 0;
     let n = bytes_of(part(s, 0), &mut bytes);
     let report = part_at(&bytes, 0, n);
-    let refusal = kamurjesh_read(report, &mut kind);
+    let refusal = read_of(q, report, &mut kind);
     say::word(b"x");
     read_as(report, refusal, kind);
 }
 
 // Reading a copy.
-fn read_copy(s: &[u8]) {
+fn read_copy(q: Instrument, s: &[u8]) {
     let mut bytes = [0u8; 8192];
     let mut kind = 0;
     let n = bytes_of(part(s, 0), &mut bytes);
     let copy = part_at(&bytes, 0, n);
-    let refusal = kamurjesh_copy_read(copy, &mut kind);
+    let refusal = copy_read_of(q, copy, &mut kind);
     say::word(b"y");
     read_as(copy, refusal, kind);
 }
 
 // A report handed to a feed, with as much of the area as the command lends.
-fn copy_in(report: &[u8], port: &[u8], group: &[u8], area: &mut [u8], s: &[u8]) {
+fn copy_in(q: Instrument, report: &[u8], port: &[u8], group: &[u8], area: &mut [u8], s: &[u8]) {
     let mut len = 0;
     let mut after = 0;
     let from = 0;
@@ -253,7 +263,8 @@ fn copy_in(report: &[u8], port: &[u8], group: &[u8], area: &mut [u8], s: &[u8]) 
     let shows = number(part(s, 1));
     let first = number(part(s, 4));
     let room = at_most(number(part(s, 5)), area.len());
-    let refusal = kamurjesh_copy(
+    let refusal = copy_of(
+        q,
         report,
         subscription,
         shows,
@@ -272,7 +283,7 @@ fn copy_in(report: &[u8], port: &[u8], group: &[u8], area: &mut [u8], s: &[u8]) 
 }
 
 // A copy. Of an identifier that is much too long, as much as is too long.
-fn copy(s: &[u8]) {
+fn copy(q: Instrument, s: &[u8]) {
     let mut port = [0u8; 64];
     let mut group = [0u8; 64];
     let mut report = [0u8; 8192];
@@ -282,6 +293,7 @@ fn copy(s: &[u8]) {
     let n = bytes_of(part(s, 6), &mut report);
     let bytes = part_at(&report, 0, n);
     copy_in(
+        q,
         bytes,
         part_at(&port, 0, p),
         part_at(&group, 0, g),
@@ -290,49 +302,66 @@ fn copy(s: &[u8]) {
     );
 }
 
-// One command.
-fn command(table: &mut [u8], letter: u8, s: &[u8]) {
+// One command to a market of bonds or of equities.
+fn command(q: Instrument, table: &mut [u8], letter: u8, s: &[u8]) {
     if letter == b'o' {
-        return open(table, s);
+        return open(q, table, s);
     }
     if letter == b's' {
-        return submit(table, s);
+        return submit(q, table, s);
     }
     if letter == b'r' {
-        return run(table, s);
+        return run(q, table, s);
     }
     if letter == b'd' {
-        return depths(table, s);
+        return depths(q, table, s);
     }
     if letter == b't' {
-        return tops(table, s);
+        return tops(q, table, s);
     }
     if letter == b'b' {
         return put_byte(table, s);
     }
     if letter == b'x' {
-        return read(s);
+        return read(q, s);
     }
     if letter == b'c' {
-        return copy(s);
+        return copy(q, s);
     }
     if letter == b'y' {
-        return read_copy(s);
+        return read_copy(q, s);
     }
 }
 
-// One line: a comment is said back.
-fn line(table: &mut [u8], s: &[u8]) {
+// What the calls from here on are of.
+fn chosen(q: Instrument, s: &[u8]) -> Instrument {
+    if octets::same(s, b"0") {
+        say::word(b"q 0\n");
+        return Instrument::Bonds;
+    }
+    if octets::same(s, b"1") {
+        say::word(b"q 1\n");
+        return Instrument::Equities;
+    }
+    q
+}
+
+// One line: a comment is said back. What the calls behind it are of is given back.
+fn line(q: Instrument, table: &mut [u8], s: &[u8]) -> Instrument {
     if s.len() == 0 {
-        return;
+        return q;
     }
     let letter = s[0];
     if letter == b'#' {
         say::word(s);
         say::word(b"\n");
-    } else {
-        command(table, letter, part_at(s, 2, s.len()));
+        return q;
     }
+    if letter == b'q' {
+        return chosen(q, part_at(s, 2, s.len()));
+    }
+    command(q, table, letter, part_at(s, 2, s.len()));
+    q
 }
 
 // What was read: a line of so many bytes, and whether the input goes on.
@@ -370,18 +399,27 @@ fn read_line(buffer: &mut [u8]) -> Got {
     Got { len: i, more: true }
 }
 
-// Reads a line and answers it; whether the input goes on.
-fn turn(table: &mut [u8], buffer: &mut [u8]) -> bool {
-    let got = read_line(buffer);
-    line(table, part_at(buffer, 0, got.len));
-    got.more
+// What the calls behind a line are of, and whether the input goes on.
+struct Onward {
+    of: Instrument,
+    more: bool,
 }
 
-// The lines, one after another, at most a million.
+// Reads a line and answers it.
+fn turn(q: Instrument, table: &mut [u8], buffer: &mut [u8]) -> Onward {
+    let got = read_line(buffer);
+    let of = line(q, table, part_at(buffer, 0, got.len));
+    Onward { of, more: got.more }
+}
+
+// The lines, one after another, at most a million. The calls are of bonds at the start.
 fn lines(table: &mut [u8], buffer: &mut [u8]) {
+    let mut of = Instrument::Bonds;
     let mut k: u64 = 0;
     while k < 1000000 {
-        if !turn(table, buffer) {
+        let t = turn(of, table, buffer);
+        of = t.of;
+        if !t.more {
             return;
         }
         k += 1;

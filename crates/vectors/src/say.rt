@@ -1,6 +1,8 @@
 // What is written to standard output: words, numbers, and bytes in the form of a transcript.
 ghost use Prim.Native.Nat.{_≤_};
 ghost use lib.ListN.{length};
+use decimal::EVEN;
+use decimal::Instrument;
 
 // A word.
 pub fn word(s: &[u8]) {
@@ -13,13 +15,21 @@ pub fn number(n: u64) {
     io::print_decimal(1, n);
 }
 
-// A space and a yield in thousandths, from its level.
-pub fn yield_of(level: u64) {
-    if level < 1000000000 {
+// A space and a number that may be below zero: how far v lies above zero, where that is the other.
+fn signed(v: u64, zero: u64) {
+    if v < zero {
         io::write_all(1, b" -");
-        io::print_decimal(1, 1000000000 - level);
+        io::print_decimal(1, zero - v);
     } else {
-        number(level - 1000000000);
+        number(v - zero);
+    }
+}
+
+// A space and a yield in thousandths or a price in tenths, from its level.
+pub fn quote(q: Instrument, level: u64) {
+    match q {
+        Instrument::Bonds => signed(level, EVEN),
+        Instrument::Equities => signed(EVEN, level),
     }
 }
 

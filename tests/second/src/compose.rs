@@ -194,3 +194,31 @@ pub fn replace(orig_cl_ord_id: &str, cl_ord_id: &str, side: &str, quantity: &str
     ];
     Draft::of(&[&header("G")[..], &body].concat())
 }
+
+/// The symbol of composed messages for an equities market.
+pub const SYMBOL: &str = "7203";
+
+/// A D for venue V, port P and symbol 7203: a Day buy of 100 at 100.0 for cash, without account and MPID.
+pub fn new_share_order(cl_ord_id: &str) -> Draft {
+    new_order(cl_ord_id).with("44", "100").with("55", SYMBOL).inserting("8060", "544", "1")
+}
+
+/// The same of one side, quantity and price.
+pub fn share_order(cl_ord_id: &str, side: &str, quantity: &str, at: &str) -> Draft {
+    new_share_order(cl_ord_id).with("54", side).with("38", quantity).with("44", at)
+}
+
+/// The same with an MPID.
+pub fn share_order_of(mpid: &str, cl_ord_id: &str, side: &str, quantity: &str, at: &str) -> Draft {
+    share_order(cl_ord_id, side, quantity, at).inserting("544", "109", mpid)
+}
+
+/// An F for venue V, port P and symbol 7203.
+pub fn share_cancel(orig_cl_ord_id: &str, cl_ord_id: &str, side: &str) -> Draft {
+    cancel(orig_cl_ord_id, cl_ord_id, side).with("55", SYMBOL)
+}
+
+/// A G for venue V, port P and symbol 7203.
+pub fn share_replace(orig_cl_ord_id: &str, cl_ord_id: &str, side: &str, quantity: &str, at: &str) -> Draft {
+    replace(orig_cl_ord_id, cl_ord_id, side, quantity, at).with("55", SYMBOL)
+}

@@ -1,16 +1,14 @@
 //! Drop copies: a feed is handed one written report at a time and writes a copy of it for a back office (T-01 of
-//! document 02; document 000, sections 3, 5.1, 7.2 and 7.5.1 to 7.5.4). Nothing is kept between calls: the feed's next
+//! document 02; documents 000 and 003, sections 3, 4.2, 5.1, 7.2 and 7.5.1 to 7.5.4). Nothing is kept between calls: the feed's next
 //! number goes in and comes out.
 
 use std::collections::BTreeMap;
 
+use crate::instrument::Instrument;
 use crate::market::{Refusal, FREE};
 use crate::read::{read, Kind, Report};
 use crate::report::{enclosed, push};
 use crate::shape::is_id_character;
-
-/// The longest 109 of a copy.
-pub const LONGEST_CLIENT_ID: usize = 30;
 
 /// The number that a feed may write last.
 pub const LAST_COPY_NUMBER: u64 = 999_999_999;
@@ -38,22 +36,22 @@ pub struct Copied {
     pub next_after: u64,
 }
 
-/// Hands `report` to a feed with an area of so many bytes.
-pub fn copy(feed: &Feed, area: usize, report: &[u8]) -> Copied {
-    match copy_checked(feed, area, report) {
+/// Hands `report`, of a bond market or of an equities market, to a feed with an area of so many bytes.
+pub fn copy(instrument: Instrument, feed: &Feed, area: usize, report: &[u8]) -> Copied {
+    match copy_checked(instrument, feed, area, report) {
         Ok(copied) => copied,
         Err(refusal) => Copied { number: refusal.number(), ..Copied::default() },
     }
 }
 
 /// The same, with the refusals, in their order, given as errors.
-fn copy_checked(feed: &Feed, area: usize, report: &[u8]) -> Result<Copied, Refusal> {
+fn copy_checked(instrument: Instrument, feed: &Feed, area: usize, report: &[u8]) -> Result<Copied, Refusal> {
     if area < FREE {
         return Err(Refusal::AreaTooSmall);
     }
-    let report = read(report).ok_or(Refusal::NotAReport)?;
+    let report = read(instrument, report).ok_or(Refusal::NotAReport)?;
     let is_wanted = is_wanted(feed.subscription, report.kind).ok_or(Refusal::FeedSettingWrong)?;
-    let client_id = client_id(feed).ok_or(Refusal::FeedSettingWrong)?;
+    let client_id = client_id(instrument, feed).ok_or(Refusal::FeedSettingWrong)?;
     if !(1..=LAST_COPY_NUMBER).contains(&feed.next) {
         return Err(Refusal::NumbersSpent);
     }
@@ -74,7 +72,7 @@ fn is_wanted(subscription: u64, kind: Kind) -> Option<bool> {
 }
 
 /// The text of 109: the identifiers that the feed shows, if they are good. What is not shown is not looked at.
-fn client_id(feed: &Feed) -> Option<Vec<u8>> {
+fn client_id(instrument: Instrument, feed: &Feed) -> Option<Vec<u8>> {
     let shown: Vec<&[u8]> = match feed.shows {
         1 => vec![&feed.port],
         2 => vec![&feed.group],
@@ -83,7 +81,7 @@ fn client_id(feed: &Feed) -> Option<Vec<u8>> {
     };
     let is_identifier = |id: &&[u8]| !id.is_empty() && id.iter().all(|&byte| is_id_character(byte));
     let text = shown.join(&b'-');
-    (shown.iter().all(is_identifier) && text.len() <= LONGEST_CLIENT_ID).then_some(text)
+    (shown.iter().all(is_identifier) && text.len() <= instrument.longest_client_id()).then_some(text)
 }
 
 /// The copy: 17 and 34 are the feed's number, 109 its identifiers, 797 is Y; a Fill or Kill shows as an IOC whose 110

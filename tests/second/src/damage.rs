@@ -5,11 +5,15 @@
 //! that too must be told apart.
 
 use crate::compose::{summed_again, Draft};
+use crate::instrument::Instrument;
 use crate::message::SOH;
 use crate::random::Random;
 
 /// A message made from a good one by one kind of damage, or two.
-pub fn damaged(random: &mut Random, draft: &Draft) -> Vec<u8> {
+pub fn damaged(random: &mut Random, instrument: Instrument, draft: &Draft) -> Vec<u8> {
+    if instrument == Instrument::Equities && random.percent(30) {
+        return odd_share_field(random, draft.clone()).bytes();
+    }
     match random.below(10) {
         0 => damaged_bytes(random, &draft.bytes()),
         1 => {
@@ -21,6 +25,34 @@ pub fn damaged(random: &mut Random, draft: &Draft) -> Vec<u8> {
             damaged_bytes(random, &once.bytes())
         }
         _ => damaged_draft(random, draft.clone()).bytes(),
+    }
+}
+
+/// A field that only an equities market has, or has in another shape, with a value at its limits; there already or not.
+fn odd_share_field(random: &mut Random, draft: Draft) -> Draft {
+    let (tag, values): (&str, &[&str]) = random.pick(&[
+        (
+            "44",
+            &[
+                "0", "0.0", "-0", "-1", "-0.1", "00000000", "00000000.0", "99999999.9", "100000000", "000000001", "1.",
+                ".5", "1.23", "0.10", "+1", " 1", "1.x", "12345678.9", "123456789.0", "1.2.3", ".",
+            ][..],
+        ),
+        ("54", &["1", "2", "5", "6", "3", "4", "7", "8", "0", "55", "S"]),
+        ("55", &["A", "A B", " ", "123456789", "1234567890", "a=b|;", "0", "~~~~~~~~~"]),
+        ("544", &["1", "2", "3", "0", "4", "11", "C", "", " "]),
+        ("544", &["1", "1", "2"]),
+        ("8214", &["1", "2", "0", "3", "12", "", "N"]),
+        ("8214", &["1", "2"]),
+    ]);
+    let value = random.pick(values);
+    if random.percent(15) {
+        return draft.without(tag);
+    }
+    if draft.position(tag).is_some() {
+        draft.with(tag, value)
+    } else {
+        with_field(random, draft, tag.as_bytes(), value.as_bytes())
     }
 }
 
@@ -342,10 +374,13 @@ fn changed_and_summed(random: &mut Random, mut bytes: Vec<u8>) -> Vec<u8> {
 }
 
 /// A report made from a good one by one kind of damage.
-pub fn damaged_report(random: &mut Random, report: &[u8]) -> Vec<u8> {
+pub fn damaged_report(random: &mut Random, instrument: Instrument, report: &[u8]) -> Vec<u8> {
     let Some(draft) = Draft::from_bytes(report) else {
         return damaged_bytes(random, report);
     };
+    if instrument == Instrument::Equities && random.percent(40) {
+        return odd_share_report(random, draft).bytes();
+    }
     match random.below(12) {
         0 => damaged_bytes(random, report),
         1 => changed_and_summed(random, report.to_vec()),
@@ -374,7 +409,7 @@ fn reordered_report(random: &mut Random, mut draft: Draft) -> Draft {
 }
 
 /// A field more that such a report may or may not have, where its tag belongs.
-fn with_field_ascending(random: &mut Random, mut draft: Draft) -> Draft {
+fn with_field_ascending(random: &mut Random, draft: Draft) -> Draft {
     let (tag, value) = random.pick(&[
         ("1", "acct"),
         ("31", "0.100"),
@@ -388,11 +423,51 @@ fn with_field_ascending(random: &mut Random, mut draft: Draft) -> Draft {
         ("378", "99"),
         ("797", "Y"),
     ]);
+    with_ascending(draft, tag, value)
+}
+
+/// A field more, where its tag belongs.
+fn with_ascending(mut draft: Draft, tag: &str, value: &str) -> Draft {
     let number = |text: &[u8]| String::from_utf8_lossy(text).parse::<u32>().unwrap_or(0);
     let body = draft.fields.iter().skip(REPORT_HEADER);
     let at = REPORT_HEADER + body.take_while(|field| number(&field.0) < number(tag.as_bytes())).count();
     draft.fields.insert(at.min(draft.fields.len()), (tag.as_bytes().to_vec(), value.as_bytes().to_vec()));
     draft
+}
+
+/// A field that only a report of an equities market has, or has in another shape, with a value at its limits; or a field
+/// that only a bond market's report has.
+fn odd_share_report(random: &mut Random, draft: Draft) -> Draft {
+    const PRICES: &[&str] = &[
+        "0.0", "-0.0", "-0.1", "99999999.9", "100000000.0", "0.10", "00.1", ".1", "1", "1.", "12345678.9", "0.100",
+        "-0.005",
+    ];
+    let (tag, values): (&str, &[&str]) = random.pick(&[
+        ("44", PRICES),
+        ("31", PRICES),
+        (
+            "6",
+            &[
+                "0.0000", "-0.0000", "-0.0001", "99999999.9999", "100000000.0000", "0.000000", "0.000", "00.0000",
+                "1.00000", "0", "7.1234",
+            ],
+        ),
+        ("50", &["DAY", "DJGB", "NGHT", "DAYX", "day", "DA", "DAYY"]),
+        ("54", &["1", "2", "5", "6", "3", "4", "7", "55"]),
+        ("55", &["A", "A B", " ", "ABCDEFGHI", "ABCDEFGHIJ", "=;|~"]),
+        ("544", &["1", "2", "3", "0", "4", "01"]),
+        ("8214", &["1", "2", "0", "3", "01"]),
+        ("109", &["20-characters-20-cha", "21-characters-21-char", "a b"]),
+        ("423", &["9", "9", "2"]),
+        ("375", &["0", "10"]),
+        ("382", &["1"]),
+    ]);
+    let value = random.pick(values);
+    match draft.position(tag) {
+        Some(_) if random.percent(12) => draft.without(tag),
+        Some(_) => draft.with(tag, value),
+        None => with_ascending(draft, tag, value),
+    }
 }
 
 /// A field with a value at the limits of what a report may say, or empty.

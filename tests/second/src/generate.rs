@@ -9,16 +9,22 @@ use std::collections::VecDeque;
 use crate::compose::Draft;
 use crate::copy::{copy, Feed};
 use crate::damage::{damaged, damaged_report, HEADER};
+use crate::instrument::Instrument;
 use crate::market::{Market, Participant, LAST_SUBMIT_NUMBER};
 use crate::order::{Order, Side};
 use crate::random::Random;
-use crate::report::{split_reports, yield_text};
+use crate::report::{quote_text, split_reports};
 use crate::table::{RECORD, TABLE};
 use crate::transcript::{Command, Desk, LONGEST_LINE};
 
-/// The command lines for a seed, with `count` messages submitted.
-pub fn generate(seed: u64, count: u64) -> Vec<String> {
-    let mut generator = Generator::new(seed);
+/// The command lines for a seed, with `count` messages submitted to bond markets and as many to equities markets.
+pub fn generate_both(seed: u64, count: u64) -> Vec<String> {
+    [Instrument::Bonds, Instrument::Equities].map(|instrument| generate(instrument, seed, count)).concat()
+}
+
+/// The command lines for a seed, with `count` messages submitted to markets of one kind.
+pub fn generate(instrument: Instrument, seed: u64, count: u64) -> Vec<String> {
+    let mut generator = Generator::new(instrument, seed);
     while generator.messages < count {
         generator.open_market(count - generator.messages);
         let last = (generator.messages + generator.profile.messages).min(count);
@@ -35,6 +41,7 @@ pub fn generate(seed: u64, count: u64) -> Vec<String> {
 struct Profile {
     name: &'static str,
     yields: &'static [&'static str],
+    prices: &'static [&'static str],
     quantities: &'static [&'static str],
     /// Messages that are submitted to it.
     messages: u64,
@@ -56,6 +63,12 @@ const WIDE: &[&str] =
     &["-999999.999", "999999.999", "-1", "1", "0", "12.5", "-12.5", "100000", "-0.001", "0.001", "3.14", "-2.718"];
 const APART: &[&str] = &["0.5", "0.6", "0.7", "0.8", "0.50", "0.75"];
 const DEEP: &[&str] = &["0.100", "0.1", "0.100", "0.101"];
+const TIGHT_PRICES: &[&str] = &["99.9", "100", "100.0", "00100.0", "100.1", "100.2", "100", "100.1"];
+const LOW_PRICES: &[&str] = &["0", "0.0", "0.1", "0.2", "00", "0.3", "1", "0.1"];
+const WIDE_PRICES: &[&str] =
+    &["99999999.9", "0", "0.1", "1", "12.5", "100000", "12345678.9", "99999999", "3.1", "00000001", "2718.2"];
+const APART_PRICES: &[&str] = &["0.5", "0.6", "0.7", "0.8", "0.5", "5"];
+const DEEP_PRICES: &[&str] = &["100", "100.0", "0100", "99.9"];
 const SMALL: &[&str] = &["1", "2", "3", "5", "7", "10", "10", "20", "0005"];
 const ROUND: &[&str] = &["100", "200", "500", "1200", "200", "100", "50", "000000100"];
 const LARGE: &[&str] = &["999999999", "999999999", "999999998", "500000000", "1", "2", "499999999"];
@@ -64,6 +77,7 @@ const PROFILES: &[Profile] = &[
     Profile {
         name: "close yields, round quantities",
         yields: TIGHT,
+        prices: TIGHT_PRICES,
         quantities: ROUND,
         messages: 120,
         damage: 42,
@@ -76,6 +90,7 @@ const PROFILES: &[Profile] = &[
     Profile {
         name: "yields around zero, small quantities",
         yields: AROUND_ZERO,
+        prices: LOW_PRICES,
         quantities: SMALL,
         messages: 120,
         damage: 42,
@@ -88,6 +103,7 @@ const PROFILES: &[Profile] = &[
     Profile {
         name: "wide yields, large quantities",
         yields: WIDE,
+        prices: WIDE_PRICES,
         quantities: LARGE,
         messages: 100,
         damage: 42,
@@ -100,6 +116,7 @@ const PROFILES: &[Profile] = &[
     Profile {
         name: "deep levels",
         yields: DEEP,
+        prices: DEEP_PRICES,
         quantities: LARGE,
         messages: 90,
         damage: 30,
@@ -112,6 +129,7 @@ const PROFILES: &[Profile] = &[
     Profile {
         name: "turns within a level",
         yields: DEEP,
+        prices: DEEP_PRICES,
         quantities: ROUND,
         messages: 100,
         damage: 15,
@@ -124,6 +142,7 @@ const PROFILES: &[Profile] = &[
     Profile {
         name: "minimums",
         yields: DEEP,
+        prices: DEEP_PRICES,
         quantities: ROUND,
         messages: 100,
         damage: 15,
@@ -136,6 +155,7 @@ const PROFILES: &[Profile] = &[
     Profile {
         name: "numbers that run out",
         yields: TIGHT,
+        prices: TIGHT_PRICES,
         quantities: SMALL,
         messages: 40,
         damage: 35,
@@ -148,6 +168,7 @@ const PROFILES: &[Profile] = &[
     Profile {
         name: "numbers that have run out",
         yields: TIGHT,
+        prices: TIGHT_PRICES,
         quantities: SMALL,
         messages: 6,
         damage: 40,
@@ -164,6 +185,7 @@ const PROFILES: &[Profile] = &[
 const FULL: Profile = Profile {
     name: "a full table",
     yields: APART,
+    prices: APART_PRICES,
     quantities: SMALL,
     messages: 560,
     damage: 8,
@@ -176,6 +198,7 @@ const FULL: Profile = Profile {
 const DAY: Profile = Profile {
     name: "a whole day",
     yields: TIGHT,
+    prices: TIGHT_PRICES,
     quantities: ROUND,
     messages: 600,
     damage: 10,
@@ -201,6 +224,7 @@ fn keep_last(kept: &mut VecDeque<Vec<u8>>, more: impl IntoIterator<Item = Vec<u8
 }
 
 struct Generator {
+    instrument: Instrument,
     random: Random,
     desk: Desk,
     lines: Vec<String>,
@@ -216,8 +240,9 @@ struct Generator {
 }
 
 impl Generator {
-    fn new(seed: u64) -> Generator {
-        Generator {
+    fn new(instrument: Instrument, seed: u64) -> Generator {
+        let mut generator = Generator {
+            instrument,
             random: Random::new(seed),
             desk: Desk::new(),
             lines: vec![format!("# generated from seed {seed}")],
@@ -230,7 +255,9 @@ impl Generator {
             used_ids: Vec::new(),
             ids: 0,
             seconds: 0,
-        }
+        };
+        generator.say(&Command::Calls { of: instrument });
+        generator
     }
 
     fn market(&self) -> &Market {
@@ -286,7 +313,11 @@ impl Generator {
         let first_number = self.random.between(least, least + more);
         let (venue, port) =
             self.random.pick(&[("V", "P"), ("JNX", "PORT1"), ("12345678", "87654321"), ("X", "X"), ("a=b", "|;\\~")]);
-        let code = self.random.pick(&["350", "000000000", "7", "123456789", "0350"]);
+        let codes = match self.instrument {
+            Instrument::Bonds => ["350", "000000000", "7", "123456789", "0350"],
+            Instrument::Equities => ["7203", "285A", "ABCDEFGHI", "=;|~", "00001"],
+        };
+        let code = self.random.pick(&codes);
         let participants = self.participants();
         Command::Open {
             venue: venue.as_bytes().to_vec(),
@@ -316,7 +347,7 @@ impl Generator {
                 2 => venue[0] = self.random.pick(&[0x20, 0x7f, 0x01, 0x00, 0xff]),
                 3 => code.clear(),
                 4 => *code = b"1234567890".to_vec(),
-                5 => code[0] = b'x',
+                5 => code[0] = if self.instrument == Instrument::Bonds { b'x' } else { b' ' },
                 6 => *first_number = self.random.pick(&[0, 1_000_000_000, u64::MAX]),
                 7 => participants.push(participants[0]),
                 _ => {
@@ -328,7 +359,7 @@ impl Generator {
         open
     }
 
-    /// Brings the work to its end and looks at the whole book.
+    /// Brings the work to its end, looks at the whole book, and makes the other market's calls on this one.
     fn finish_market(&mut self) {
         while self.is_in_work() {
             self.run();
@@ -339,6 +370,12 @@ impl Generator {
             }
             self.say(&Command::Top { side });
         }
+        self.say(&Command::Calls { of: self.instrument.other() });
+        self.say(&Command::Submit { area: 1024, message: Vec::new() });
+        self.say(&Command::Run { area: 1024, budget: 1 });
+        self.say(&Command::Depth { side: 1, k: 0 });
+        self.say(&Command::Top { side: 2 });
+        self.say(&Command::Calls { of: self.instrument });
     }
 
     /// One call, or a few that belong together.
@@ -456,7 +493,7 @@ impl Generator {
         if self.random.percent(whole) {
             report
         } else {
-            damaged_report(&mut self.random, &report)
+            damaged_report(&mut self.random, self.instrument, &report)
         }
     }
 
@@ -464,8 +501,10 @@ impl Generator {
     fn feed(&mut self, subscription: u64) -> Feed {
         const IDS: [&str; 8] =
             ["P", "PORT1", "port-with-14-c", "a-port-of-15-ch", "|;\\=#", "x-29-characters-x-29-charact!", "~", "10"];
-        let (port, group) = (self.random.pick(&IDS), self.random.pick(&IDS));
-        let shows = if port.len() + group.len() < 30 { self.random.between(1, 3) } else { self.random.between(1, 2) };
+        let most = self.instrument.longest_client_id();
+        let short = |id: &'static str| &id[..id.len().min(most - 1)];
+        let (port, group) = (short(self.random.pick(&IDS)), short(self.random.pick(&IDS)));
+        let shows = if port.len() + group.len() < most { self.random.between(1, 3) } else { self.random.between(1, 2) };
         let next = self.random.pick(&[1, 1, 1, 98, 999_999_990]);
         Feed { subscription, shows, port: port.as_bytes().to_vec(), group: group.as_bytes().to_vec(), next }
     }
@@ -481,7 +520,7 @@ impl Generator {
         }
         let area = if self.random.percent(95) { 1024 } else { self.random.pick(&[0, 1023, 1025, 65_536]) };
         let report = self.report_to_read(80);
-        let copied = copy(&feed, area, &report);
+        let copied = copy(self.instrument, &feed, area, &report);
         if copied.number == 0 && !is_odd {
             self.feeds[which].next = copied.next_after;
         }
@@ -493,15 +532,14 @@ impl Generator {
 
     /// One setting at its limits, mostly just outside.
     fn make_odd(&mut self, feed: &mut Feed) {
-        const IDS: [&[u8]; 8] = [
-            b"", b" ", b"a b", b"\x7f", b"x\x01", b"\xff", b"thirty-characters-30-thirty-ch",
-            b"31-characters-31-characters-31!",
-        ];
+        let most = self.instrument.longest_client_id();
+        let long = b"31-characters-31-characters-31!";
+        let ids: [&[u8]; 8] = [b"", b" ", b"a b", b"\x7f", b"x\x01", b"\xff", &long[..most], &long[..=most]];
         match self.random.below(5) {
             0 => feed.subscription = self.random.pick(&[0, 3, 258, u64::MAX]),
             1 => feed.shows = self.random.pick(&[0, 4, 1, 2, 3, 257, u64::MAX]),
-            2 => feed.port = self.random.pick(&IDS).to_vec(),
-            3 => feed.group = self.random.pick(&IDS).to_vec(),
+            2 => feed.port = self.random.pick(&ids).to_vec(),
+            3 => feed.group = self.random.pick(&ids).to_vec(),
             _ => feed.next = self.random.pick(&[0, 1, 999_999_999, 1_000_000_000, u64::MAX]),
         }
     }
@@ -516,7 +554,7 @@ impl Generator {
             if self.random.percent(35) {
                 copy
             } else {
-                damaged_report(&mut self.random, &copy)
+                damaged_report(&mut self.random, self.instrument, &copy)
             }
         };
         self.say(&Command::ReadCopy { copy });
@@ -525,8 +563,11 @@ impl Generator {
     /// Submit of a message, good or damaged.
     fn submit(&mut self) {
         let draft = self.good_message();
-        let message =
-            if self.random.percent(self.profile.damage) { damaged(&mut self.random, &draft) } else { draft.bytes() };
+        let message = if self.random.percent(self.profile.damage) {
+            damaged(&mut self.random, self.instrument, &draft)
+        } else {
+            draft.bytes()
+        };
         let area = match self.random.below(100) {
             0..=89 => 1024,
             90..=94 => self.random.between(1025, 5000) as usize,
@@ -578,8 +619,8 @@ impl Generator {
     fn new_order(&mut self) -> Draft {
         let mut draft = self.header("D");
         let id = self.new_id();
-        let side = if self.random.percent(self.profile.sells) { "2" } else { "1" };
-        let (quantity, at) = (self.random.pick(self.profile.quantities), self.yield_for(side));
+        let side = if self.random.percent(self.profile.sells) { self.sell() } else { "1" };
+        let (quantity, at) = (self.random.pick(self.profile.quantities), self.quote_for(side));
         if self.random.percent(20) {
             Self::add(&mut draft, "1", self.random.pick(&["A", "acct", "0123456789", "a b"]).as_bytes());
         }
@@ -601,6 +642,7 @@ impl Generator {
             Self::add(&mut draft, "109", mpid.as_bytes());
         }
         Self::add(&mut draft, "8060", self.random.pick(&["1", "3", "4", "5", "6"]).as_bytes());
+        let draft = if self.instrument == Instrument::Equities { self.with_margin(draft) } else { draft };
         if is_ioc && self.random.percent(60) {
             let draft = if self.random.percent(60) { self.sweeping(draft) } else { draft };
             self.with_minimum(draft)
@@ -609,12 +651,41 @@ impl Generator {
         }
     }
 
-    /// The order turned against the side that has more open orders: at the yield of one of them, of about as much as
+    /// A side that sells: bonds have one, equities three.
+    fn sell(&mut self) -> &'static str {
+        match self.instrument {
+            Instrument::Bonds => "2",
+            Instrument::Equities => self.random.pick(&["2", "2", "5", "6"]),
+        }
+    }
+
+    /// The order with its 544, and with an 8214 where it may have one; seldom with one that it may not have.
+    fn with_margin(&mut self, draft: Draft) -> Draft {
+        let (cash, margin) = self.random.pick(&[
+            ("1", ""),
+            ("1", ""),
+            ("2", ""),
+            ("3", ""),
+            ("2", "1"),
+            ("2", "2"),
+            ("3", "1"),
+            ("3", "2"),
+        ]);
+        let margin = if self.random.percent(2) { "1" } else { margin };
+        let draft = draft.with("544", cash);
+        if margin.is_empty() {
+            draft
+        } else {
+            draft.with("8214", margin)
+        }
+    }
+
+    /// The order turned against the side that has more open orders: at the quote of one of them, of about as much as
     /// they have open, and mostly of an MPID that is among the later half of them.
     fn sweeping(&mut self, draft: Draft) -> Draft {
         let open = |side| -> Vec<Order> {
             let orders = self.market().orders().iter();
-            orders.filter(|order| order.side == side && order.open() > 0).cloned().collect()
+            orders.filter(|order| order.side.stands_with(side) && order.open() > 0).cloned().collect()
         };
         let (buys, sells) = (open(Side::Buy), open(Side::Sell));
         let mut met = if buys.len() > sells.len() { buys } else { sells };
@@ -622,8 +693,8 @@ impl Generator {
         let Some(first) = met.first() else { return draft };
         let total: u64 = met.iter().map(Order::open).sum();
         let quantity = (total * self.random.between(20, 130) / 100).clamp(1, 999_999_999);
-        let at = yield_text(self.random.pick(&met).yield_thousandths);
-        let side = if first.side == Side::Buy { "2" } else { "1" };
+        let at = quote_text(self.instrument, self.random.pick(&met).quote);
+        let side = if first.side.is_buy() { self.sell() } else { "1" };
         let mpid = self.random.pick(&met[met.len() / 2..]).mpid;
         let draft = draft.with("54", side).with("38", &quantity.to_string()).with("44", &at);
         match mpid {
@@ -673,10 +744,14 @@ impl Generator {
         market.orders()[record - 1].executed
     }
 
-    /// A yield of the profile. In a market that is to fill up, buys mostly stay above sells.
-    fn yield_for(&mut self, side: &str) -> String {
-        let at = self.random.pick(self.profile.yields);
-        if self.profile.name == FULL.name && side == "1" && self.random.percent(98) {
+    /// A quote of the profile. In a market that is to fill up, buys and sells mostly stay apart.
+    fn quote_for(&mut self, side: &str) -> String {
+        let (quotes, is_far) = match self.instrument {
+            Instrument::Bonds => (self.profile.yields, side == "1"),
+            Instrument::Equities => (self.profile.prices, side != "1"),
+        };
+        let at = self.random.pick(quotes);
+        if self.profile.name == FULL.name && is_far && self.random.percent(98) {
             return format!("1{at}");
         }
         at.to_string()
@@ -743,12 +818,14 @@ impl Generator {
         }
     }
 
-    /// The order's side, seldom the other.
+    /// The order's side, seldom another.
     fn side_of(&mut self, order: &Order) -> Side {
         if self.random.percent(96) {
             order.side
-        } else {
+        } else if self.instrument == Instrument::Bonds {
             order.side.opposite()
+        } else {
+            self.random.pick(&[Side::Buy, Side::Sell, Side::SellShort, Side::SellShortExempt])
         }
     }
 
@@ -763,7 +840,7 @@ impl Generator {
     fn order_to_replace(&mut self) -> Order {
         let orders = self.market().orders();
         let open: Vec<&Order> = orders.iter().filter(|order| order.open() > 0).collect();
-        let level = |order: &Order| (order.side, order.yield_thousandths);
+        let level = |order: &Order| (order.side.is_buy(), order.quote);
         let shares = |order: &Order| open.iter().filter(|other| level(other) == level(order)).count() > 1;
         let crowded: Vec<Order> = open.iter().filter(|order| shares(order)).map(|&order| order.clone()).collect();
         if !crowded.is_empty() && self.random.percent(60) {
@@ -793,18 +870,18 @@ impl Generator {
         draft
     }
 
-    /// New OrderQty and yield: often the same yield with a quantity that keeps the place, sometimes with one just above
+    /// New OrderQty and quote: often the same quote with a quantity that keeps the place, sometimes with one just above
     /// the one in force, else any.
     fn new_terms(&mut self, order: &Order) -> (String, String) {
-        let same_yield = yield_text(order.yield_thousandths);
+        let same_quote = quote_text(self.instrument, order.quote);
         match self.random.below(100) {
             0..=44 => {
                 let least = (order.executed + order.decremented + 1).min(order.order_qty);
-                (self.random.between(least, order.order_qty).to_string(), same_yield)
+                (self.random.between(least, order.order_qty).to_string(), same_quote)
             }
-            45..=57 => ((order.order_qty + 1).min(999_999_999).to_string(), same_yield),
+            45..=57 => ((order.order_qty + 1).min(999_999_999).to_string(), same_quote),
             _ => {
-                let at = self.yield_for(if order.side == Side::Buy { "1" } else { "2" });
+                let at = self.quote_for(if order.side.is_buy() { "1" } else { "2" });
                 (self.new_quantity(order), at)
             }
         }

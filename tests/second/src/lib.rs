@@ -1,14 +1,17 @@
-//! The rehearsal bond market, written a second time from its paper (document 01); where the paper is open, as
+//! The rehearsal markets, written a second time from their papers (documents 01 and 02); where the paper is open, as
 //! docs/DECISIONS.md says. It is meant for comparison with the proved market: both are given the same commands, and
 //! their answers must be the same bytes. It shares no code with that market.
 //!
-//! Read in this order: `shape` (digits, yields, times), `message` (what is garbled), `session` (what a good message
-//! asks, or why it gets a Session Reject), `order`, `matching` (one step), `report` (what is written), `market` (the
+//! Read in this order: `shape` (digits, yields, prices, times), `instrument` (in what the bond market and the equities
+//! market differ), `message` (what is garbled), `session` (what a good message asks, or why it gets a Session Reject),
+//! `order`, `matching` (one step), `report` (what is written), `market` (the
 //! calls), `table` (its bytes), `read` (reports and drop copies read back), `copy` (drop copies written). Above them
 //! stand `transcript` (command files), `compose`, `damage` and `generate` (messages made for comparison), `script`,
 //! `points` (the hand-written walk through the paper) and `samples` (messages published by others).
 
 pub mod shape;
+
+pub mod instrument;
 
 pub mod message;
 

@@ -24,7 +24,7 @@ fn output(words: &[&str]) -> Result<String, String> {
     match words {
         ["transcript"] => transcript::transcript(&read_in()?),
         ["generate", seed, count] => {
-            let lines = generate::generate(number(seed)?, number(count)?);
+            let lines = generate::generate_both(number(seed)?, number(count)?);
             Ok(lines.iter().map(|line| format!("{line}\n")).collect())
         }
         ["commands"] => Ok(vectors::commands()),

@@ -3,12 +3,13 @@
 //! The state is held in plain structs, which `table` lays out in bytes. A `Market` exists only once Open has taken its
 //! settings, or as what a table says that is a market.
 
+use crate::instrument::Instrument;
 use crate::matching::{falls_short, next_outcome, Mode, Outcome};
 use crate::message::{self, Message};
 use crate::order::{Order, Side};
 use crate::report::{self, CancelCause, CancelReject, Execution, Heading, Refused, RejectedOrder, Restatement};
 use crate::session::{self, Change, NewOrder, Replacement, Request, SessionReject};
-use crate::shape::{is_digits, is_id_character};
+use crate::shape::is_id_character;
 
 /// A report area must have this many bytes free before anything is written into it.
 pub const FREE: usize = 1024;
@@ -65,10 +66,10 @@ pub struct Ran {
     pub steps: u64,
 }
 
-/// One level of the book.
+/// One level of the book; its quote is a yield in thousandths or a price in tenths.
 #[derive(Clone, Copy, Debug, PartialEq, Eq)]
 pub struct Level {
-    pub yield_thousandths: i64,
+    pub quote: i64,
     pub total: u64,
     pub orders: u64,
 }
@@ -82,9 +83,10 @@ pub(crate) struct Work {
     pub(crate) is_decided: bool,
 }
 
-/// One bond, one FIX port, up to 255 orders at a time. Record numbers are places in `orders`, counted from 1.
+/// One bond or one share, one FIX port, up to 255 orders at a time. Record numbers are places in `orders`, counted from 1.
 #[derive(Clone, Debug, PartialEq, Eq)]
 pub struct Market {
+    pub(crate) instrument: Instrument,
     pub(crate) venue: Vec<u8>,
     pub(crate) port: Vec<u8>,
     pub(crate) code: Vec<u8>,
@@ -97,6 +99,7 @@ pub struct Market {
 impl Market {
     /// Open: a market without orders, or refusal 9 if a setting is wrong.
     pub fn open(
+        instrument: Instrument,
         venue: &[u8],
         port: &[u8],
         code: &[u8],
@@ -104,12 +107,15 @@ impl Market {
         participants: &[Participant],
     ) -> Result<Market, Refusal> {
         let modes = known_modes(participants).ok_or(Refusal::SettingWrong)?;
-        let good =
-            is_comp_id(venue) && is_comp_id(port) && is_digits(code, 9) && (1..=999_999_999).contains(&first_number);
+        let good = is_comp_id(venue)
+            && is_comp_id(port)
+            && instrument.is_code(code)
+            && (1..=999_999_999).contains(&first_number);
         if !good {
             return Err(Refusal::SettingWrong);
         }
         Ok(Market {
+            instrument,
             venue: venue.to_vec(),
             port: port.to_vec(),
             code: code.to_vec(),
@@ -145,7 +151,7 @@ impl Market {
 
     /// Submit of a message that is not garbled: whatever comes of it, one report is written.
     fn submit_readable(&mut self, message: &Message) -> Submitted {
-        let (number, report) = match session::request(message, &self.port, &self.venue) {
+        let (number, report) = match session::request(self.instrument, message, &self.port, &self.venue) {
             Err(reject) => (Refusal::SessionRejected.number(), self.session_reject(message, reject)),
             Ok(Request::New(order)) => match self.why_not_new(&order) {
                 Some(reason) => (Refusal::OrderRejected.number(), self.rejected(message, &order, reason)),
@@ -177,7 +183,7 @@ impl Market {
         ran
     }
 
-    /// Depth: the k-th level of a side, counted from the best, or none.
+    /// Depth: the k-th level of a side, counted from the best, or none. Side 2 takes in every sell.
     pub fn depth(&self, side: u64, k: u64) -> Result<Option<Level>, Refusal> {
         if self.work.is_some() {
             return Err(Refusal::OrderInWork);
@@ -191,21 +197,27 @@ impl Market {
         Ok(usize::try_from(k).ok().and_then(|k| levels.get(k).copied()))
     }
 
-    /// The levels of a side, best first.
+    /// The levels of the orders that stand with a side, best first.
     pub(crate) fn levels(&self, side: Side) -> Vec<Level> {
-        let mut open: Vec<&Order> = self.orders.iter().filter(|order| order.side == side && order.open() > 0).collect();
+        let mut open: Vec<&Order> =
+            self.orders.iter().filter(|order| order.side.stands_with(side) && order.open() > 0).collect();
         open.sort_by_key(|order| order.rank());
         let mut levels: Vec<Level> = Vec::new();
         for order in open {
             match levels.last_mut() {
-                Some(level) if level.yield_thousandths == order.yield_thousandths => {
+                Some(level) if level.quote == order.quote => {
                     level.total += order.open();
                     level.orders += 1;
                 }
-                _ => levels.push(Level { yield_thousandths: order.yield_thousandths, total: order.open(), orders: 1 }),
+                _ => levels.push(Level { quote: order.quote, total: order.open(), orders: 1 }),
             }
         }
         levels
+    }
+
+    /// What it trades.
+    pub fn instrument(&self) -> Instrument {
+        self.instrument
     }
 
     /// All orders that have a record, dead ones too.
@@ -301,6 +313,7 @@ impl Market {
     /// Takes a new order: it is in work. A dead one may have to go for it.
     fn accept(&mut self, message: &Message, new: &NewOrder) -> Vec<u8> {
         let order = Order {
+            instrument: self.instrument,
             order_id: self.next_number,
             cl_ord_id: new.cl_ord_id.to_vec(),
             account: new.account.map(<[u8]>::to_vec),
@@ -309,7 +322,9 @@ impl Market {
             time_in_force: new.time_in_force,
             capacity: new.capacity,
             classification: new.classification,
-            yield_thousandths: new.yield_thousandths,
+            cash: new.cash,
+            margin: new.margin,
+            quote: new.quote,
             order_qty: new.order_qty,
             min_qty: new.min_qty,
             executed: 0,
@@ -347,7 +362,7 @@ impl Market {
         if !new.keeps_place(order) {
             order.place = self.next_number;
         }
-        order.yield_thousandths = new.yield_thousandths;
+        order.quote = new.quote;
         order.order_qty = new.order_qty;
         self.put_in_work(position, message.sending_time);
         self.write_replaced(message.sending_time, position, orig, None)
@@ -477,8 +492,14 @@ impl Market {
 
     /// Writes one report with the next number, which it uses up.
     fn write(&mut self, time: &[u8], report: impl FnOnce(&Market, Heading) -> Vec<u8>) -> Vec<u8> {
-        let heading =
-            Heading { venue: &self.venue, port: &self.port, code: &self.code, number: self.next_number, time };
+        let heading = Heading {
+            instrument: self.instrument,
+            venue: &self.venue,
+            port: &self.port,
+            code: &self.code,
+            number: self.next_number,
+            time,
+        };
         let bytes = report(self, heading);
         self.next_number += 1;
         bytes
@@ -491,9 +512,9 @@ impl Replacement {
         self.order_qty > order.executed + order.decremented
     }
 
-    /// Whether `order` keeps its place under these terms: the same yield, and an OrderQty not above the one in force.
+    /// Whether `order` keeps its place under these terms: the same quote, and an OrderQty not above the one in force.
     fn keeps_place(self, order: &Order) -> bool {
-        self.yield_thousandths == order.yield_thousandths && self.order_qty <= order.order_qty
+        self.quote == order.quote && self.order_qty <= order.order_qty
     }
 }
 

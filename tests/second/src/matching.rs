@@ -87,7 +87,7 @@ pub fn would_trade(orders: &[Order], in_work: usize, mode_of: impl Fn(u64) -> Mo
 /// The open opposite orders that the order in work meets, best first.
 fn all_met(orders: &[Order], in_work: usize) -> Vec<usize> {
     let working = &orders[in_work];
-    let is_met = |order: &Order| order.side == working.side.opposite() && order.open() > 0 && working.meets(order);
+    let is_met = |order: &Order| order.side.stands_against(working.side) && order.open() > 0 && working.meets(order);
     let mut met: Vec<usize> = (0..orders.len()).filter(|&index| is_met(&orders[index])).collect();
     met.sort_by_key(|&index| orders[index].rank());
     met
@@ -103,10 +103,10 @@ fn shared_mpid(one: &Order, other: &Order) -> Option<u64> {
     one.mpid.filter(|_| one.mpid == other.mpid)
 }
 
-/// The smaller open quantity, at the resting yield.
+/// The smaller open quantity, at the resting quote.
 fn trade(orders: &[Order], in_work: usize, resting: usize) -> Outcome {
     let quantity = orders[in_work].open().min(orders[resting].open());
-    Outcome::Trade { resting, quantity, at: orders[resting].yield_thousandths }
+    Outcome::Trade { resting, quantity, at: orders[resting].quote }
 }
 
 /// What the mode does where an MPID would trade with itself.

@@ -3,6 +3,7 @@
 //! Nothing here asks the writer. A kind is a row of slots: the tags in the order in which they stand, which of them
 //! may be absent, and the shape and range of each value. But for 9 and 10, no field is compared with another.
 
+use crate::instrument::Instrument;
 use crate::message::{split_fields, sum, three_digits, Field};
 use crate::report::LONGEST_REPORT;
 use crate::shape::{is_character, is_digits, is_id_character, is_time};
@@ -40,8 +41,10 @@ enum Shape {
     OneOf(&'static [&'static str]),
     /// A number without needless zeros, from the first to the second.
     Number(u64, u64),
-    /// A number with this many decimals and 1 to 6 whole digits, a minus only if it is not zero.
-    Fixed(usize),
+    /// A quote of this market: a yield or a price.
+    Quote(Instrument),
+    /// An average of them, with three decimals more.
+    Average(Instrument),
     /// 1 to so many characters, 20 to 7E hex.
     Text(usize),
     /// 1 to so many characters, 21 to 7E hex.
@@ -71,37 +74,14 @@ const fn may_have(tag: u32, shape: Shape) -> Slot {
 
 const QUANTITY: Shape = Shape::Number(0, 999_999_999);
 const REPORT_NUMBER: Shape = Shape::Number(1, 999_999_999);
-const AVERAGE: Shape = Shape::Fixed(6);
-const YIELD: Shape = Shape::Fixed(3);
 const CL_ORD_ID: Shape = Shape::Text(32);
 const COMP_ID: Shape = Shape::Id(8);
 
-const ACCOUNT: Slot = may_have(1, Shape::Text(10));
-const AVG_PX: Slot = needs(6, AVERAGE);
 const ID: Slot = needs(11, CL_ORD_ID);
-const CUM_QTY: Slot = needs(14, QUANTITY);
 const EXEC_ID: Slot = needs(17, REPORT_NUMBER);
 const EXEC_TRANS_TYPE: Slot = needs(20, Shape::OneOf(&["0"]));
-const LAST_PX: Slot = needs(31, YIELD);
-const LAST_SHARES: Slot = needs(32, QUANTITY);
-const ORDER_ID: Slot = needs(37, REPORT_NUMBER);
 const ORDER_QTY: Slot = needs(38, QUANTITY);
-const ORD_TYPE: Slot = needs(40, Shape::OneOf(&["2"]));
-const PRICE: Slot = needs(44, YIELD);
-const CAPACITY: Slot = needs(47, Shape::OneOf(&["A", "P"]));
-const SIDE: Slot = needs(54, Shape::OneOf(&["1", "2"]));
-const SYMBOL: Slot = needs(55, Shape::Code);
-const TIME_IN_FORCE: Slot = needs(59, Shape::OneOf(&["0", "3", "4"]));
-const TRANSACT_TIME: Slot = needs(60, Shape::Time);
-const CLIENT_ID: Slot = may_have(109, Shape::Number(1, 999_999));
-const MIN_QTY: Slot = may_have(110, QUANTITY);
-/// 59, 109 and 797 of a drop copy, which shows a Fill or Kill as an IOC.
-const TIME_IN_FORCE_OF_COPY: Slot = needs(59, Shape::OneOf(&["0", "3"]));
-const IDENTIFIERS: Slot = needs(109, Shape::Id(30));
 const COPY_MSG_INDICATOR: Slot = needs(797, Shape::OneOf(&["Y"]));
-const LEAVES_QTY: Slot = needs(151, QUANTITY);
-const PRICE_TYPE: Slot = needs(423, Shape::OneOf(&["9"]));
-const CLASSIFICATION: Slot = needs(8060, Shape::OneOf(&["1", "3", "4", "5", "6"]));
 
 const fn status(values: &'static [&'static str]) -> Slot {
     needs(39, Shape::OneOf(values))
@@ -111,178 +91,166 @@ const fn exec_type(values: &'static [&'static str]) -> Slot {
     needs(150, Shape::OneOf(values))
 }
 
+/// 54 and 55, which stand on every report about an order or its rejection.
+fn side_and_symbol(instrument: Instrument) -> [Slot; 2] {
+    match instrument {
+        Instrument::Bonds => [needs(54, Shape::OneOf(&["1", "2"])), needs(55, Shape::Code)],
+        Instrument::Equities => [needs(54, Shape::OneOf(&["1", "2", "5", "6"])), needs(55, Shape::Text(9))],
+    }
+}
+
 /// Between 9 and the body.
-const HEADER: &[Slot] = &[
-    needs(35, Shape::OneOf(&["3", "8", "9"])),
-    needs(34, REPORT_NUMBER),
-    needs(49, COMP_ID),
-    needs(50, Shape::OneOf(&["DJGB"])),
-    needs(52, Shape::Time),
-    needs(56, COMP_ID),
-];
-
-const ACCEPTED: &[Slot] = &[
-    ACCOUNT,
-    AVG_PX,
-    ID,
-    CUM_QTY,
-    EXEC_ID,
-    EXEC_TRANS_TYPE,
-    ORDER_ID,
-    ORDER_QTY,
-    status(&["0"]),
-    ORD_TYPE,
-    PRICE,
-    CAPACITY,
-    SIDE,
-    SYMBOL,
-    TIME_IN_FORCE,
-    TRANSACT_TIME,
-    CLIENT_ID,
-    MIN_QTY,
-    exec_type(&["0"]),
-    LEAVES_QTY,
-    PRICE_TYPE,
-    CLASSIFICATION,
-];
-
-const REPLACED: &[Slot] = &[
-    ACCOUNT,
-    AVG_PX,
-    ID,
-    CUM_QTY,
-    EXEC_ID,
-    EXEC_TRANS_TYPE,
-    ORDER_ID,
-    ORDER_QTY,
-    status(&["1", "5"]),
-    ORD_TYPE,
-    needs(41, CL_ORD_ID),
-    PRICE,
-    CAPACITY,
-    SIDE,
-    SYMBOL,
-    TIME_IN_FORCE,
-    TRANSACT_TIME,
-    CLIENT_ID,
-    MIN_QTY,
-    exec_type(&["5"]),
-    LEAVES_QTY,
-    may_have(378, Shape::OneOf(&["100"])),
-    PRICE_TYPE,
-    CLASSIFICATION,
-];
-
-/// One of 41 and 378 stands, not both: `has_one_cause` asks that.
-const CANCELED: &[Slot] = &[
-    ACCOUNT,
-    AVG_PX,
-    ID,
-    CUM_QTY,
-    EXEC_ID,
-    EXEC_TRANS_TYPE,
-    ORDER_ID,
-    ORDER_QTY,
-    status(&["4"]),
-    ORD_TYPE,
-    may_have(41, CL_ORD_ID),
-    PRICE,
-    CAPACITY,
-    SIDE,
-    SYMBOL,
-    TIME_IN_FORCE,
-    TRANSACT_TIME,
-    CLIENT_ID,
-    MIN_QTY,
-    exec_type(&["4"]),
-    LEAVES_QTY,
-    may_have(378, Shape::OneOf(&["99", "100"])),
-    PRICE_TYPE,
-    CLASSIFICATION,
-];
-
-const TRADE: &[Slot] = &[
-    ACCOUNT,
-    AVG_PX,
-    ID,
-    CUM_QTY,
-    EXEC_ID,
-    EXEC_TRANS_TYPE,
-    LAST_PX,
-    LAST_SHARES,
-    ORDER_ID,
-    ORDER_QTY,
-    status(&["1", "2"]),
-    ORD_TYPE,
-    PRICE,
-    CAPACITY,
-    SIDE,
-    SYMBOL,
-    TIME_IN_FORCE,
-    TRANSACT_TIME,
-    CLIENT_ID,
-    MIN_QTY,
-    exec_type(&["1", "2"]),
-    LEAVES_QTY,
-    needs(375, Shape::Number(0, 999_999)),
-    needs(382, Shape::OneOf(&["1"])),
-    PRICE_TYPE,
-    needs(851, Shape::OneOf(&["1", "2"])),
-    needs(880, REPORT_NUMBER),
-    CLASSIFICATION,
-];
-
-const REJECTED: &[Slot] = &[
-    AVG_PX,
-    ID,
-    needs(14, Shape::OneOf(&["0"])),
-    EXEC_ID,
-    EXEC_TRANS_TYPE,
-    needs(37, Shape::OneOf(&["NONE"])),
-    ORDER_QTY,
-    status(&["8"]),
-    SIDE,
-    SYMBOL,
-    needs(103, Shape::OneOf(&["0", "1", "6", "99"])),
-    exec_type(&["8"]),
-    needs(151, Shape::OneOf(&["0"])),
-];
-
-const CANCEL_REJECT: &[Slot] = &[
-    ID,
-    needs(37, Shape::NumberOrNone),
-    status(&["0", "1", "2", "4", "8"]),
-    needs(41, CL_ORD_ID),
-    needs(102, Shape::OneOf(&["0", "1", "2"])),
-    needs(434, Shape::OneOf(&["1", "2"])),
-];
-
-const SESSION_REJECT: &[Slot] = &[
-    needs(45, REPORT_NUMBER),
-    needs(371, Shape::Number(1, 9999)),
-    needs(372, Shape::Text(2)),
-    needs(373, Shape::OneOf(&["1", "2", "3", "4", "5", "6", "9", "11"])),
-];
-
-/// Reads `bytes` as one report; `None` is refusal 11.
-pub fn read(bytes: &[u8]) -> Option<Report<'_>> {
-    read_by(bytes, |kind| Some(row_of(kind).to_vec()))
+fn header(instrument: Instrument) -> [Slot; 6] {
+    let group: &[&str] = match instrument {
+        Instrument::Bonds => &["DJGB"],
+        Instrument::Equities => &["DAY"],
+    };
+    [
+        needs(35, Shape::OneOf(&["3", "8", "9"])),
+        needs(34, REPORT_NUMBER),
+        needs(49, COMP_ID),
+        needs(50, Shape::OneOf(group)),
+        needs(52, Shape::Time),
+        needs(56, COMP_ID),
+    ]
 }
 
-/// Reads `bytes` as one drop copy; `None` is refusal 11.
-pub fn read_copy(bytes: &[u8]) -> Option<Report<'_>> {
-    read_by(bytes, row_of_copy)
+/// What all reports about an order have, but for 39 and 150: sections 7.5.1 to 7.5.4 of documents 000 and 003.
+fn of_order(instrument: Instrument) -> Vec<Slot> {
+    let common = [
+        may_have(1, Shape::Text(10)),
+        needs(6, Shape::Average(instrument)),
+        ID,
+        needs(14, QUANTITY),
+        EXEC_ID,
+        EXEC_TRANS_TYPE,
+        needs(37, REPORT_NUMBER),
+        ORDER_QTY,
+        needs(40, Shape::OneOf(&["2"])),
+        needs(44, Shape::Quote(instrument)),
+        needs(47, Shape::OneOf(&["A", "P"])),
+        needs(59, Shape::OneOf(&["0", "3", "4"])),
+        needs(60, Shape::Time),
+        may_have(109, Shape::Number(1, 999_999)),
+        may_have(110, QUANTITY),
+        needs(151, QUANTITY),
+        needs(8060, Shape::OneOf(&["1", "3", "4", "5", "6"])),
+    ];
+    let own: &[Slot] = match instrument {
+        Instrument::Bonds => &[needs(423, Shape::OneOf(&["9"]))],
+        Instrument::Equities => {
+            &[needs(544, Shape::OneOf(&["1", "2", "3"])), may_have(8214, Shape::OneOf(&["1", "2"]))]
+        }
+    };
+    [&common[..], own, &side_and_symbol(instrument)].concat()
 }
+
+/// What a Trade has besides.
+fn of_trade(instrument: Instrument) -> Vec<Slot> {
+    let common = [
+        needs(31, Shape::Quote(instrument)),
+        needs(32, QUANTITY),
+        needs(851, Shape::OneOf(&["1", "2"])),
+        needs(880, REPORT_NUMBER),
+    ];
+    let own: &[Slot] = match instrument {
+        Instrument::Bonds => &[needs(375, Shape::Number(0, 999_999)), needs(382, Shape::OneOf(&["1"]))],
+        Instrument::Equities => &[],
+    };
+    [&common[..], own].concat()
+}
+
+/// What Rejected has.
+fn of_rejected(instrument: Instrument) -> Vec<Slot> {
+    let common = [
+        needs(6, Shape::Average(instrument)),
+        ID,
+        needs(14, Shape::OneOf(&["0"])),
+        EXEC_ID,
+        EXEC_TRANS_TYPE,
+        needs(37, Shape::OneOf(&["NONE"])),
+        ORDER_QTY,
+        status(&["8"]),
+        needs(103, Shape::OneOf(&["0", "1", "6", "99"])),
+        exec_type(&["8"]),
+        needs(151, Shape::OneOf(&["0"])),
+    ];
+    [&common[..], &side_and_symbol(instrument)].concat()
+}
+
+/// What Cancel reject has.
+fn of_cancel_reject() -> Vec<Slot> {
+    vec![
+        ID,
+        needs(37, Shape::NumberOrNone),
+        status(&["0", "1", "2", "4", "8"]),
+        needs(41, CL_ORD_ID),
+        needs(102, Shape::OneOf(&["0", "1", "2"])),
+        needs(434, Shape::OneOf(&["1", "2"])),
+    ]
+}
+
+/// What Session Reject has.
+fn of_session_reject() -> Vec<Slot> {
+    vec![
+        needs(45, REPORT_NUMBER),
+        needs(371, Shape::Number(1, 9999)),
+        needs(372, Shape::Text(2)),
+        needs(373, Shape::OneOf(&["1", "2", "3", "4", "5", "6", "9", "11"])),
+    ]
+}
+
+/// The body of a kind of report, tags ascending. Of 41 and 378, one stands on a Canceled, not both: `has_one_cause` asks
+/// that.
+fn row_of(instrument: Instrument, kind: Kind) -> Vec<Slot> {
+    let own = match kind {
+        Kind::Accepted => vec![status(&["0"]), exec_type(&["0"])],
+        Kind::Replaced => {
+            vec![status(&["1", "5"]), needs(41, CL_ORD_ID), exec_type(&["5"]), may_have(378, Shape::OneOf(&["100"]))]
+        }
+        Kind::Canceled => vec![
+            status(&["4"]),
+            may_have(41, CL_ORD_ID),
+            exec_type(&["4"]),
+            may_have(378, Shape::OneOf(&["99", "100"])),
+        ],
+        Kind::Trade => [&[status(&["1", "2"]), exec_type(&["1", "2"])], &of_trade(instrument)[..]].concat(),
+        Kind::Rejected => return ascending(of_rejected(instrument)),
+        Kind::CancelReject => return of_cancel_reject(),
+        Kind::SessionReject => return of_session_reject(),
+    };
+    ascending([of_order(instrument), own].concat())
+}
+
+fn ascending(mut row: Vec<Slot>) -> Vec<Slot> {
+    row.sort_by_key(|slot| slot.tag);
+    row
+}
+
+/// Reads `bytes` as one report of a market; `None` is refusal 11.
+pub fn read(instrument: Instrument, bytes: &[u8]) -> Option<Report<'_>> {
+    read_by(instrument, bytes, |kind| Some(row_of(instrument, kind)))
+}
+
+/// Reads `bytes` as one drop copy of such a report; `None` is refusal 11.
+pub fn read_copy(instrument: Instrument, bytes: &[u8]) -> Option<Report<'_>> {
+    read_by(instrument, bytes, |kind| row_of_copy(instrument, kind))
+}
+
+/// The number of fields between 9 and the body.
+const HEADER: usize = 6;
 
 /// Reads `bytes` by the rows of the kinds that there may be.
-fn read_by(bytes: &[u8], row_of: impl Fn(Kind) -> Option<Vec<Slot>>) -> Option<Report<'_>> {
+fn read_by(instrument: Instrument, bytes: &[u8], row_of: impl Fn(Kind) -> Option<Vec<Slot>>) -> Option<Report<'_>> {
     if bytes.len() > LONGEST_REPORT {
         return None;
     }
     let fields = split_fields(bytes)?;
-    let (header, body) = unframed(bytes, &fields)?.split_at_checked(HEADER.len())?;
-    let kind = kind_of(header, body)?;
-    let good = fits(header, HEADER) && fits(body, &row_of(kind)?) && (kind != Kind::Canceled || has_one_cause(body));
+    let (head, body) = unframed(bytes, &fields)?.split_at_checked(HEADER)?;
+    let kind = kind_of(head, body)?;
+    let good = fits(head, &header(instrument))
+        && fits(body, &row_of(kind)?)
+        && (kind != Kind::Canceled || has_one_cause(body));
     good.then_some(Report { kind, fields })
 }
 
@@ -316,29 +284,21 @@ fn kind_of(header: &[Field], body: &[Field]) -> Option<Kind> {
     }
 }
 
-fn row_of(kind: Kind) -> &'static [Slot] {
-    match kind {
-        Kind::Accepted => ACCEPTED,
-        Kind::Replaced => REPLACED,
-        Kind::Canceled => CANCELED,
-        Kind::Trade => TRADE,
-        Kind::Rejected => REJECTED,
-        Kind::CancelReject => CANCEL_REJECT,
-        Kind::SessionReject => SESSION_REJECT,
-    }
-}
-
 /// The row of a copy: 59 is not 4, 109 always stands and shows identifiers, and 797=Y stands where ascending tags put
 /// it. Rejects of any sort have no copy.
-fn row_of_copy(kind: Kind) -> Option<Vec<Slot>> {
+fn row_of_copy(instrument: Instrument, kind: Kind) -> Option<Vec<Slot>> {
     if matches!(kind, Kind::Rejected | Kind::CancelReject | Kind::SessionReject) {
         return None;
     }
-    let of_copy = [TIME_IN_FORCE_OF_COPY, IDENTIFIERS, COPY_MSG_INDICATOR];
-    let others = row_of(kind).iter().filter(|slot| of_copy.iter().all(|own| own.tag != slot.tag));
-    let mut row: Vec<Slot> = others.chain(&of_copy).copied().collect();
-    row.sort_by_key(|slot| slot.tag);
-    Some(row)
+    let of_copy = [
+        needs(59, Shape::OneOf(&["0", "3"])),
+        needs(109, Shape::Id(instrument.longest_client_id())),
+        COPY_MSG_INDICATOR,
+    ];
+    let mut row = row_of(instrument, kind);
+    row.retain(|slot| of_copy.iter().all(|own| own.tag != slot.tag));
+    row.extend(of_copy);
+    Some(ascending(row))
 }
 
 /// Whether `fields` are those of `row`, in its order, each with a value of its slot.
@@ -368,7 +328,8 @@ fn has_shape(value: &[u8], shape: Shape) -> bool {
     match shape {
         Shape::OneOf(values) => values.iter().any(|known| known.as_bytes() == value),
         Shape::Number(least, most) => plain_number(value).is_some_and(|number| (least..=most).contains(&number)),
-        Shape::Fixed(decimals) => is_fixed(value, decimals),
+        Shape::Quote(instrument) => is_fixed(instrument, value, instrument.decimals()),
+        Shape::Average(instrument) => is_fixed(instrument, value, instrument.decimals() + 3),
         Shape::Text(most) => (1..=most).contains(&value.len()) && value.iter().all(|&byte| is_character(byte)),
         Shape::Id(most) => (1..=most).contains(&value.len()) && value.iter().all(|&byte| is_id_character(byte)),
         Shape::Code => is_digits(value, 9),
@@ -387,8 +348,8 @@ fn plain_number(text: &[u8]) -> Option<u64> {
     }
 }
 
-/// A minus if need be, 1 to 6 whole digits without needless zeros, a point, and exactly `decimals` digits.
-fn is_fixed(text: &[u8], decimals: usize) -> bool {
+/// A minus if need be, which no price has, whole digits without needless zeros, a point, and exactly `decimals` digits.
+fn is_fixed(instrument: Instrument, text: &[u8], decimals: usize) -> bool {
     let size = text.strip_prefix(b"-").unwrap_or(text);
     let is_negative = size.len() < text.len();
     let Some(whole) = size.len().checked_sub(decimals + 1).map(|length| &size[..length]) else {
@@ -396,9 +357,9 @@ fn is_fixed(text: &[u8], decimals: usize) -> bool {
     };
     let tail = &size[whole.len()..];
     let is_zero = size.iter().all(|&byte| byte == b'0' || byte == b'.');
-    whole.len() <= 6
+    whole.len() <= instrument.whole_digits()
         && plain_number(whole).is_some()
         && tail[0] == b'.'
         && is_digits(&tail[1..], decimals)
-        && !(is_negative && is_zero)
+        && !(is_negative && (is_zero || instrument == Instrument::Equities))
 }

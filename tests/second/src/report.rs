@@ -1,7 +1,9 @@
-//! The seven kinds of report and their bytes ("The reports" of 01; fields as in document 000, 7.5.1 to 7.5.4).
+//! The seven kinds of report and their bytes ("The reports" of 01; fields as in document 000, 7.5.1 to 7.5.4, and those
+//! of an equities market as in document 003).
 
 use std::collections::BTreeMap;
 
+use crate::instrument::Instrument;
 use crate::message::{sum, three_digits, SOH};
 use crate::order::Order;
 
@@ -11,6 +13,7 @@ pub const LONGEST_REPORT: usize = 512;
 /// What stands on every report: the market's names, the report's number and the causing message's 52.
 #[derive(Clone, Copy, Debug)]
 pub struct Heading<'a> {
+    pub instrument: Instrument,
     pub venue: &'a [u8],
     pub port: &'a [u8],
     pub code: &'a [u8],
@@ -114,9 +117,14 @@ pub fn fixed_point(value: i128, decimals: usize) -> String {
     format!("{minus}{}.{:0decimals$}", size / scale, size % scale)
 }
 
-/// A yield as reports write it: three decimals.
-pub fn yield_text(thousandths: i64) -> String {
-    fixed_point(i128::from(thousandths), 3)
+/// A quote as reports write it: a yield with three decimals, a price with one.
+pub fn quote_text(instrument: Instrument, quote: i64) -> String {
+    fixed_point(i128::from(quote), instrument.decimals())
+}
+
+/// An average as reports write it: of yields with six decimals, of prices with four.
+fn average_text(instrument: Instrument, average: i128) -> String {
+    fixed_point(average, instrument.decimals() + 3)
 }
 
 /// Accepted (7.5.1).
@@ -151,12 +159,13 @@ pub fn canceled(heading: Heading, order: &Order, cause: CancelCause) -> Vec<u8> 
 pub fn trade(heading: Heading, order: &Order, execution: Execution) -> Vec<u8> {
     let status = if order.open() == 0 { b'2' } else { b'1' };
     let mut body = of_order(heading, order);
-    body.text(31, yield_text(execution.at).as_bytes())
+    if heading.instrument == Instrument::Bonds {
+        body.number(375, execution.contra_mpid.unwrap_or(0)).number(382, 1);
+    }
+    body.text(31, quote_text(heading.instrument, execution.at).as_bytes())
         .number(32, execution.quantity)
         .char(39, status)
         .char(150, status)
-        .number(375, execution.contra_mpid.unwrap_or(0))
-        .number(382, 1)
         .char(851, if execution.is_resting { b'1' } else { b'2' })
         .number(880, execution.match_number);
     framed(heading, b"8", body)
@@ -165,7 +174,7 @@ pub fn trade(heading: Heading, order: &Order, execution: Execution) -> Vec<u8> {
 /// Rejected: an order that was not taken.
 pub fn rejected(heading: Heading, order: RejectedOrder) -> Vec<u8> {
     let mut body = Body::new();
-    body.text(6, fixed_point(0, 6).as_bytes())
+    body.text(6, average_text(heading.instrument, 0).as_bytes())
         .text(11, order.cl_ord_id)
         .number(14, 0)
         .number(17, heading.number)
@@ -222,7 +231,7 @@ pub fn session_reject(heading: Heading, refused: Refused) -> Vec<u8> {
 /// The fields that the four kinds about an order share, from the order as it is after the event.
 fn of_order(heading: Heading, order: &Order) -> Body {
     let mut body = Body::new();
-    body.text(6, fixed_point(order.average_millionths(), 6).as_bytes())
+    body.text(6, average_text(heading.instrument, order.average()).as_bytes())
         .text(11, &order.cl_ord_id)
         .number(14, order.executed)
         .number(17, heading.number)
@@ -230,15 +239,22 @@ fn of_order(heading: Heading, order: &Order) -> Body {
         .number(37, order.order_id)
         .number(38, order.order_qty)
         .char(40, b'2')
-        .text(44, yield_text(order.yield_thousandths).as_bytes())
+        .text(44, quote_text(heading.instrument, order.quote).as_bytes())
         .char(47, order.capacity)
         .char(54, order.side.code())
         .text(55, heading.code)
         .char(59, order.time_in_force.code())
         .text(60, heading.time)
         .number(151, order.open())
-        .char(423, b'9')
         .char(8060, order.classification);
+    if heading.instrument == Instrument::Bonds {
+        body.char(423, b'9');
+    }
+    for (tag, mark) in [(544, order.cash), (8214, order.margin)] {
+        if let Some(mark) = mark {
+            body.char(tag, mark);
+        }
+    }
     if let Some(account) = &order.account {
         body.text(1, account);
     }
@@ -257,7 +273,7 @@ fn framed(heading: Heading, msg_type: &[u8], body: Body) -> Vec<u8> {
     push(&mut counted, 35, msg_type);
     push(&mut counted, 34, heading.number.to_string().as_bytes());
     push(&mut counted, 49, heading.venue);
-    push(&mut counted, 50, b"DJGB");
+    push(&mut counted, 50, heading.instrument.group().as_bytes());
     push(&mut counted, 52, heading.time);
     push(&mut counted, 56, heading.port);
     for (tag, value) in &body.0 {

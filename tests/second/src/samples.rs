@@ -84,6 +84,7 @@ pub fn lines() -> Vec<String> {
 #[cfg(test)]
 mod tests {
     use super::*;
+    use crate::instrument::Instrument;
     use crate::read::read;
     use crate::transcript::Desk;
 
@@ -93,7 +94,7 @@ mod tests {
         match submitted.number {
             5 => "garbled".to_string(),
             6 => {
-                let report = read(&submitted.report).expect("a Session Reject can be read");
+                let report = read(Instrument::Bonds, &submitted.report).expect("a Session Reject can be read");
                 let value = |tag| String::from_utf8_lossy(report.value(tag).unwrap_or_default()).into_owned();
                 format!("Session Reject 373={} 371={}", value(373), value(371))
             }

@@ -3,9 +3,10 @@
 //! A script is used twice: its lines are the opening part of tests/vectors/commands, and the tests run it and hold
 //! every answer against what was expected.
 
-use crate::compose::Draft;
+use crate::compose::{Draft, SYMBOL};
 use crate::copy::Feed;
 use crate::escape::unescaped;
+use crate::instrument::Instrument;
 use crate::market::Participant;
 use crate::transcript::{Command, Desk};
 
@@ -55,6 +56,11 @@ impl Script {
         self.lines.push((command.to_string(), Some(expected)));
     }
 
+    /// The calls from here on are those of this market.
+    pub fn calls(&mut self, of: Instrument) {
+        self.push(Command::Calls { of }, Expected::Whole(format!("q {}", of.number())));
+    }
+
     /// Open with any settings, answered by a number.
     pub fn open_with(&mut self, names: [&str; 3], first_number: u64, list: &[(u64, u64)], number: u64) {
         let [venue, port, code] = names.map(|name| name.as_bytes().to_vec());
@@ -72,6 +78,12 @@ impl Script {
     pub fn open_from(&mut self, first_number: u64, mode: u64) {
         let list: Vec<(u64, u64)> = (10..=14).map(|mpid| (mpid, mode)).collect();
         self.open_with(["V", "P", "350"], first_number, &list, 0);
+    }
+
+    /// Opens venue V, port P, symbol 7203 from number 1, with MPIDs 10 to 14 all in one mode.
+    pub fn open_shares(&mut self, mode: u64) {
+        let list: Vec<(u64, u64)> = (10..=14).map(|mpid| (mpid, mode)).collect();
+        self.open_with(["V", "P", SYMBOL], 1, &list, 0);
     }
 
     /// Submit of any bytes with any area, answered by a refusal without a report.
@@ -154,12 +166,12 @@ impl Script {
         self.run(1, &[]);
     }
 
-    /// Depth answered by a level: yield in thousandths, total, orders.
+    /// Depth answered by a level: yield in thousandths or price in tenths, total, orders.
     pub fn level(&mut self, side: u64, k: u64, at: i64, total: u64, orders: u64) {
         self.push(Command::Depth { side, k }, Expected::Whole(format!("d 0 1 {at} {total} {orders}")));
     }
 
-    /// The best level of a side, asked of the heading: yield in thousandths, total, orders.
+    /// The best level of a side, asked of the heading: yield in thousandths or price in tenths, total, orders.
     pub fn top(&mut self, side: u64, at: i64, total: u64, orders: u64) {
         self.push(Command::Top { side }, Expected::Whole(format!("t 0 1 {at} {total} {orders}")));
     }
@@ -184,9 +196,12 @@ impl Script {
         self.push(Command::Depth { side, k }, Expected::Whole(format!("d {number} 0 0 0 0")));
     }
 
-    /// Puts bytes into the table in place of these.
+    /// Puts bytes into the table in place of these, where they differ; the same bytes are all put, to see that they stand
+    /// there.
     pub fn put(&mut self, at: usize, bytes: &[u8], before: &[u8]) {
-        for (offset, (&byte, before)) in bytes.iter().zip(before).enumerate() {
+        let is_look = bytes == before;
+        let pairs = bytes.iter().zip(before).enumerate();
+        for (offset, (&byte, before)) in pairs.filter(|(_, (byte, before))| is_look || byte != before) {
             self.push(Command::PutByte { at: at + offset, byte }, Expected::Whole(format!("b {before}")));
         }
     }

@@ -1,4 +1,4 @@
-//! Shapes of values: characters, numbers, yields and times, as a message may write them.
+//! Shapes of values: characters, numbers, yields, prices and times, as a message may write them.
 //! Reports are stricter (no needless zeros); their shapes stand in `read`.
 
 /// A character that a value may hold: 20 to 7E hex.
@@ -46,6 +46,15 @@ fn decimals(digits: &[u8]) -> Option<u64> {
         2 => value * 10,
         _ => value,
     })
+}
+
+/// The tenths that a price says: 1 to 8 digits, optionally a point and 1 digit. There is no minus.
+pub fn price_tenths(text: &[u8]) -> Option<i64> {
+    let tenths = match text.iter().position(|&byte| byte == b'.') {
+        None => number(text, 8)? * 10,
+        Some(point) => number(&text[..point], 8)? * 10 + number(&text[point + 1..], 1)?,
+    };
+    i64::try_from(tenths).ok()
 }
 
 /// The digits and marks of a time, YYYYMMDD-HH:MM:SS or YYYYMMDD-HH:MM:SS.sss, whatever the digits say.

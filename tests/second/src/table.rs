@@ -5,17 +5,37 @@
 //! Numbers are little endian. A text is one byte of length, its characters, and zeros up to its room. What nothing uses
 //! is zero.
 
+use crate::instrument::Instrument;
 use crate::market::{is_comp_id, known_modes, Level, Market, Participant, Refusal, Work, MOST_ORDERS};
 use crate::matching::Mode;
 use crate::order::{Order, Side, TimeInForce};
-use crate::shape::{is_character, is_digits, is_time};
+use crate::shape::{is_character, is_time};
 
 /// A table is 256 records: the heading, then the orders.
 pub const RECORD: usize = 128;
 pub const TABLE: usize = RECORD * (1 + MOST_ORDERS);
 
-/// A yield of 0 in a table; the level is this and the yield in thousandths.
+/// A quote of 0 in a table.
 const ZERO_LEVEL: i128 = 1_000_000_000;
+
+/// What a table holds for so many times a quote: a yield is above that many zero levels if it is positive, a price below,
+/// so that a lower level is better for a buy in both markets.
+fn level_of(instrument: Instrument, times: u64, quotes: i128) -> i128 {
+    let zeros = i128::from(times) * ZERO_LEVEL;
+    match instrument {
+        Instrument::Bonds => zeros + quotes,
+        Instrument::Equities => zeros - quotes,
+    }
+}
+
+/// The quotes that such a number stands for.
+fn quotes_of(instrument: Instrument, times: u64, level: u64) -> i128 {
+    let zeros = i128::from(times) * ZERO_LEVEL;
+    match instrument {
+        Instrument::Bonds => i128::from(level) - zeros,
+        Instrument::Equities => zeros - i128::from(level),
+    }
+}
 
 /// Where the heading has its fields.
 mod heading {
@@ -25,6 +45,7 @@ mod heading {
     pub const NEXT_NUMBER: usize = 28;
     pub const IN_WORK: usize = 32;
     pub const SENDING_TIME: usize = 33;
+    pub const KIND: usize = 55;
     pub const MPIDS: usize = 56;
     pub const MODES: usize = 88;
     pub const DECIDED: usize = 96;
@@ -33,7 +54,7 @@ mod heading {
     pub const BEST_LEVEL: [usize; 2] = [100, 104];
     pub const BEST_TOTAL: [usize; 2] = [112, 120];
     /// What nothing uses.
-    pub const UNUSED: [usize; 6] = [55, 99, 108, 109, 110, 111];
+    pub const UNUSED: [usize; 5] = [99, 108, 109, 110, 111];
 }
 
 /// Where a record has its fields.
@@ -54,6 +75,8 @@ mod record {
     pub const CANCELED: usize = 80;
     pub const ORDER_ID: usize = 84;
     pub const MIN_QTY: usize = 88;
+    pub const CASH: usize = 92;
+    pub const MARGIN: usize = 93;
 }
 
 /// The table of a market.
@@ -66,54 +89,56 @@ pub fn bytes(market: &Market) -> Vec<u8> {
     table
 }
 
-/// Top of book: the best level of a side as the heading says it. Nothing but the table's length and its heading is looked
-/// at, so a table that is no market is answered as well. On a market this is Depth's level 0.
-pub fn top(table: &[u8], side: u64) -> Result<Option<Level>, Refusal> {
+/// Top of book, asked of the bond market or of the equities market: the best level of a side as the heading says it.
+/// Nothing but the table's length and its heading is looked at, so a table that is no market is answered as well. On a
+/// market this is Depth's level 0.
+pub fn top(instrument: Instrument, table: &[u8], side: u64) -> Result<Option<Level>, Refusal> {
     let head = table.get(..RECORD).filter(|_| table.len() == TABLE).ok_or(Refusal::NotAMarket)?;
-    if !is_heading(head) {
+    if !is_heading(instrument, head) {
         return Err(Refusal::NotAMarket);
     }
     if head[heading::IN_WORK] != 0 {
         return Err(Refusal::OrderInWork);
     }
     match side {
-        1 => Ok(best(head, 0)),
-        2 => Ok(best(head, 1)),
+        1 => Ok(best(instrument, head, 0)),
+        2 => Ok(best(instrument, head, 1)),
         _ => Err(Refusal::SideWrong),
     }
 }
 
 /// The best level of a side, 0 for buys and 1 for sells, as the heading says it; none where it has no orders.
-fn best(head: &[u8], side: usize) -> Option<Level> {
+fn best(instrument: Instrument, head: &[u8], side: usize) -> Option<Level> {
     let level = Level {
-        yield_thousandths: number(head, heading::BEST_LEVEL[side], 4) as i64 - ZERO_LEVEL as i64,
+        quote: quotes_of(instrument, 1, number(head, heading::BEST_LEVEL[side], 4)) as i64,
         total: number(head, heading::BEST_TOTAL[side], 8),
         orders: u64::from(head[heading::BEST_ORDERS[side]]),
     };
     Some(level).filter(|level| level.orders != 0)
 }
 
-/// Whether everything in a heading is in its range, as far as it can be seen there alone.
-fn is_heading(head: &[u8]) -> bool {
+/// Whether a heading is one of this market and everything in it is in its range, as far as it can be seen there alone.
+fn is_heading(instrument: Instrument, head: &[u8]) -> bool {
     let is_in_work = head[heading::IN_WORK] != 0;
     let has_time = text(head, heading::SENDING_TIME, 21).is_some_and(|time| is_time(&time));
     let has_no_time = head[heading::SENDING_TIME..heading::SENDING_TIME + 22].iter().all(|&byte| byte == 0);
-    has_settings(head)
+    head[heading::KIND] == instrument.number()
+        && has_settings(instrument, head)
         && (1..=1_000_000_000).contains(&number(head, heading::NEXT_NUMBER, 4))
         && (if is_in_work { has_time && has_zeros_behind(head, heading::SENDING_TIME, 21) } else { has_no_time })
         && head[heading::DECIDED] <= u8::from(is_in_work)
         && heading::UNUSED.iter().all(|&at| head[at] == 0)
-        && [0, 1].iter().all(|&side| has_no_best(head, side) || !is_in_work && has_good_best(head, side))
+        && [0, 1].iter().all(|&side| has_no_best(head, side) || !is_in_work && has_good_best(instrument, head, side))
 }
 
 /// The names and the list of MPIDs as Open takes them, with zeros behind what they fill.
-fn has_settings(head: &[u8]) -> bool {
+fn has_settings(instrument: Instrument, head: &[u8]) -> bool {
     let names = [(heading::VENUE, 8), (heading::PORT, 8), (heading::CODE, 9)];
     let [venue, port, code] = names.map(|(at, room)| text(head, at, room).unwrap_or_default());
     let listed = parsed_participants(head).map_or(0, |list| list.len());
     is_comp_id(&venue)
         && is_comp_id(&port)
-        && is_digits(&code, 9)
+        && instrument.is_code(&code)
         && names.iter().all(|&(at, room)| has_zeros_behind(head, at, room))
         && listed > 0
         && head[heading::MPIDS + 4 * listed..heading::MODES].iter().all(|&byte| byte == 0)
@@ -133,10 +158,9 @@ fn has_no_best(head: &[u8], side: usize) -> bool {
 }
 
 /// A level in the market's range, of 1 to 255 orders that have between 1 and 999,999,999 open each.
-fn has_good_best(head: &[u8], side: usize) -> bool {
-    best(head, side).is_some_and(|level| {
-        level.yield_thousandths.abs() <= 999_999_999
-            && (level.orders..=level.orders * 999_999_999).contains(&level.total)
+fn has_good_best(instrument: Instrument, head: &[u8], side: usize) -> bool {
+    best(instrument, head, side).is_some_and(|level| {
+        instrument.is_quote(level.quote) && (level.orders..=level.orders * 999_999_999).contains(&level.total)
     })
 }
 
@@ -162,6 +186,7 @@ fn put_heading(record: &mut [u8], market: &Market) {
     put_text(record, heading::VENUE, &market.venue);
     put_text(record, heading::PORT, &market.port);
     put_text(record, heading::CODE, &market.code);
+    record[heading::KIND] = market.instrument.number();
     put_number(record, heading::NEXT_NUMBER, 4, market.next_number);
     for (at, &(mpid, mode)) in market.participants.iter().enumerate() {
         put_number(record, heading::MPIDS + 4 * at, 4, mpid);
@@ -172,23 +197,23 @@ fn put_heading(record: &mut [u8], market: &Market) {
         put_text(record, heading::SENDING_TIME, &work.sending_time);
         record[heading::DECIDED] = u8::from(work.is_decided);
     } else {
-        put_best(record, 0, market.levels(Side::Buy).first());
-        put_best(record, 1, market.levels(Side::Sell).first());
+        put_best(record, market.instrument, 0, market.levels(Side::Buy).first());
+        put_best(record, market.instrument, 1, market.levels(Side::Sell).first());
     }
 }
 
 /// The best level of a side, 0 for buys and 1 for sells.
-fn put_best(record: &mut [u8], side: usize, level: Option<&Level>) {
+fn put_best(record: &mut [u8], instrument: Instrument, side: usize, level: Option<&Level>) {
     if let Some(level) = level {
         record[heading::BEST_ORDERS[side]] = level.orders as u8;
-        put_level(record, heading::BEST_LEVEL[side], level.yield_thousandths);
+        put_level(record, heading::BEST_LEVEL[side], instrument, level.quote);
         put_number(record, heading::BEST_TOTAL[side], 8, level.total);
     }
 }
 
-/// A yield as a level.
-fn put_level(record: &mut [u8], at: usize, yield_thousandths: i64) {
-    put_number(record, at, 4, (ZERO_LEVEL + i128::from(yield_thousandths)) as u64);
+/// A quote as a level.
+fn put_level(record: &mut [u8], at: usize, instrument: Instrument, quote: i64) {
+    put_number(record, at, 4, level_of(instrument, 1, i128::from(quote)) as u64);
 }
 
 fn put_order(record: &mut [u8], order: &Order) {
@@ -198,8 +223,11 @@ fn put_order(record: &mut [u8], order: &Order) {
     record[record::TIME_IN_FORCE] = order.time_in_force.code() - b'0';
     record[record::CAPACITY] = order.capacity;
     record[record::CLASSIFICATION] = order.classification - b'0';
-    let sum_of_levels = order.sum + i128::from(order.executed) * ZERO_LEVEL;
-    put_level(record, record::LEVEL, order.yield_thousandths);
+    for (at, mark) in [(record::CASH, order.cash), (record::MARGIN, order.margin)] {
+        record[at] = mark.map_or(0, |code| code - b'0');
+    }
+    let sum_of_levels = level_of(order.instrument, order.executed, order.sum);
+    put_level(record, record::LEVEL, order.instrument, order.quote);
     put_number(record, record::SUM, 8, sum_of_levels as u64);
     for (at, number) in [
         (record::ORDER_QTY, order.order_qty),
@@ -228,8 +256,9 @@ fn text(record: &[u8], at: usize, room: usize) -> Option<Vec<u8>> {
 /// What a table says, with no rule looked at that does not stand in the way of saying it.
 fn parsed(table: &[u8]) -> Option<Market> {
     let (head, records) = table.split_at(RECORD);
+    let instrument = Instrument::from_number(u64::from(head[heading::KIND]))?;
     let filled = records.chunks_exact(RECORD).take_while(|record| record[record::CL_ORD_ID] != 0);
-    let orders: Vec<Order> = filled.map(parsed_order).collect::<Option<_>>()?;
+    let orders: Vec<Order> = filled.map(|record| parsed_order(instrument, record)).collect::<Option<_>>()?;
     let is_decided = match head[heading::DECIDED] {
         0 => false,
         1 => true,
@@ -241,6 +270,7 @@ fn parsed(table: &[u8]) -> Option<Market> {
         record => Some(Work { order: record - 1, sending_time, is_decided }),
     };
     Some(Market {
+        instrument,
         venue: text(head, heading::VENUE, 8)?,
         port: text(head, heading::PORT, 8)?,
         code: text(head, heading::CODE, 9)?,
@@ -260,19 +290,17 @@ fn parsed_participants(head: &[u8]) -> Option<Vec<(u64, Mode)>> {
     known_modes(&entries.take_while(|entry| entry.mpid != 0).collect::<Vec<_>>())
 }
 
-fn parsed_order(record: &[u8]) -> Option<Order> {
+fn parsed_order(instrument: Instrument, record: &[u8]) -> Option<Order> {
     let four = |at| number(record, at, 4);
+    let digit = |at: usize| record[at].checked_add(b'0');
     let executed = four(record::EXECUTED);
     Some(Order {
+        instrument,
         order_id: four(record::ORDER_ID),
         cl_ord_id: text(record, record::CL_ORD_ID, 32)?,
         account: text(record, record::ACCOUNT, 10).map(|account| Some(account).filter(|text| !text.is_empty()))?,
         mpid: Some(four(record::MPID)).filter(|&mpid| mpid != 0),
-        side: match record[record::SIDE] {
-            1 => Side::Buy,
-            2 => Side::Sell,
-            _ => return None,
-        },
+        side: Side::from_code(digit(record::SIDE)?)?,
         time_in_force: match record[record::TIME_IN_FORCE] {
             0 => TimeInForce::Day,
             3 => TimeInForce::ImmediateOrCancel,
@@ -280,14 +308,16 @@ fn parsed_order(record: &[u8]) -> Option<Order> {
             _ => return None,
         },
         capacity: record[record::CAPACITY],
-        classification: record[record::CLASSIFICATION].checked_add(b'0')?,
-        yield_thousandths: four(record::LEVEL) as i64 - ZERO_LEVEL as i64,
+        classification: digit(record::CLASSIFICATION)?,
+        cash: Some(digit(record::CASH)?).filter(|&code| code != b'0'),
+        margin: Some(digit(record::MARGIN)?).filter(|&code| code != b'0'),
+        quote: quotes_of(instrument, 1, four(record::LEVEL)) as i64,
         order_qty: four(record::ORDER_QTY),
         min_qty: Some(four(record::MIN_QTY)).filter(|&minimum| minimum != 0),
         executed,
         decremented: four(record::DECREMENTED),
         canceled: four(record::CANCELED),
-        sum: i128::from(number(record, record::SUM, 8)) - i128::from(executed) * ZERO_LEVEL,
+        sum: quotes_of(instrument, executed, number(record, record::SUM, 8)),
         place: four(record::PLACE),
     })
 }
@@ -296,7 +326,7 @@ fn parsed_order(record: &[u8]) -> Option<Order> {
 fn is_market(market: &Market) -> bool {
     is_comp_id(&market.venue)
         && is_comp_id(&market.port)
-        && is_digits(&market.code, 9)
+        && market.instrument.is_code(&market.code)
         && (1..=1_000_000_000).contains(&market.next_number)
         && market.orders.iter().all(|order| is_order(market, order))
         && are_distinct(market.orders.iter().map(|order| order.cl_ord_id.as_slice()))
@@ -323,14 +353,35 @@ fn is_order(market: &Market, order: &Order) -> bool {
         && order.mpid.is_none_or(|mpid| market.mpids().contains(&mpid))
         && b"AP".contains(&order.capacity)
         && b"13456".contains(&order.classification)
-        && order.yield_thousandths.abs() <= 999_999_999
+        && order.instrument.sides().contains(&order.side.code())
+        && has_good_marks(order)
+        && order.instrument.is_quote(order.quote)
         && (1..=999_999_999).contains(&order.order_qty)
         && gone <= order.order_qty
         && (order.canceled == 0 || gone == order.order_qty)
-        && order.sum.abs() <= i128::from(order.executed) * 999_999_999
+        && has_good_sum(order)
         && (1..market.next_number).contains(&order.place)
         && (1..market.next_number).contains(&order.order_id)
         && has_good_minimum(order)
+}
+
+/// A bond's order has neither 544 nor 8214; a share's is a cash order, or a margin order of either type or none.
+fn has_good_marks(order: &Order) -> bool {
+    match (order.instrument, order.cash) {
+        (Instrument::Bonds, cash) => cash.is_none() && order.margin.is_none(),
+        (Instrument::Equities, Some(b'1')) => order.margin.is_none(),
+        (Instrument::Equities, Some(b'2' | b'3')) => order.margin.is_none_or(|margin| b"12".contains(&margin)),
+        (Instrument::Equities, _) => false,
+    }
+}
+
+/// The sum of quantity times quote is one that executions at quotes can make.
+fn has_good_sum(order: &Order) -> bool {
+    let most = i128::from(order.executed) * 999_999_999;
+    match order.instrument {
+        Instrument::Bonds => (-most..=most).contains(&order.sum),
+        Instrument::Equities => (0..=most).contains(&order.sum),
+    }
 }
 
 /// A 110 stands on an IOC alone and is at most OrderQty.
@@ -346,19 +397,19 @@ fn is_work(market: &Market, work: &Work) -> bool {
     let Some(order) = market.orders.get(work.order) else {
         return false;
     };
-    let is_opposite = |other: &&Order| other.side == order.side.opposite() && other.open() > 0;
+    let is_opposite = |other: &&Order| other.side.stands_against(order.side) && other.open() > 0;
     let opposite = market.orders.iter().filter(is_opposite).count() as u64;
     is_time(&work.sending_time)
         && (!work.is_decided || order.minimum() > 0)
         && (order.open() == 0 || market.next_number + 2 * opposite < 1_000_000_000)
 }
 
-/// Apart from the order in work, only Day orders are open, and every open buy yield is above every open sell yield.
+/// Apart from the order in work, only Day orders are open, and no open buy meets an open sell.
 fn is_settled(market: &Market) -> bool {
     let in_work = market.work.as_ref().map(|work| work.order);
     let open = market.orders.iter().enumerate().filter(|&(at, order)| Some(at) != in_work && order.open() > 0);
     let resting: Vec<&Order> = open.map(|(_, order)| order).collect();
-    let yields = |side| resting.iter().filter(move |order| order.side == side).map(|order| order.yield_thousandths);
-    let is_apart = yields(Side::Buy).min().zip(yields(Side::Sell).max()).is_none_or(|(buy, sell)| buy > sell);
+    let (buys, sells): (Vec<&Order>, Vec<&Order>) = resting.iter().partition(|order| order.side.is_buy());
+    let is_apart = buys.iter().all(|buy| !sells.iter().any(|sell| buy.meets(sell)));
     is_apart && resting.iter().all(|order| order.time_in_force == TimeInForce::Day)
 }

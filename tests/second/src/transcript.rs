@@ -5,6 +5,7 @@ use std::num::TryFromIntError;
 
 use crate::copy::{copy, Copied, Feed};
 use crate::escape::{escaped, unescaped};
+use crate::instrument::Instrument;
 use crate::market::{Level, Market, Participant, Ran, Refusal, Submitted, FREE};
 use crate::read::{read, read_copy, Report};
 use crate::table::{bytes as bytes_of, market as market_of, top, TABLE};
@@ -18,15 +19,47 @@ pub const LARGEST_AREA: usize = 65_536;
 /// One call, with what is lent to it.
 #[derive(Clone, Debug, PartialEq, Eq)]
 pub enum Command {
-    Open { venue: Vec<u8>, port: Vec<u8>, code: Vec<u8>, first_number: u64, participants: Vec<Participant> },
-    Submit { area: usize, message: Vec<u8> },
-    Run { area: usize, budget: u64 },
-    Depth { side: u64, k: u64 },
-    Top { side: u64 },
-    PutByte { at: usize, byte: u8 },
-    Read { report: Vec<u8> },
-    Copy { feed: Feed, area: usize, report: Vec<u8> },
-    ReadCopy { copy: Vec<u8> },
+    /// The calls from here on are those of this market.
+    Calls {
+        of: Instrument,
+    },
+    Open {
+        venue: Vec<u8>,
+        port: Vec<u8>,
+        code: Vec<u8>,
+        first_number: u64,
+        participants: Vec<Participant>,
+    },
+    Submit {
+        area: usize,
+        message: Vec<u8>,
+    },
+    Run {
+        area: usize,
+        budget: u64,
+    },
+    Depth {
+        side: u64,
+        k: u64,
+    },
+    Top {
+        side: u64,
+    },
+    PutByte {
+        at: usize,
+        byte: u8,
+    },
+    Read {
+        report: Vec<u8>,
+    },
+    Copy {
+        feed: Feed,
+        area: usize,
+        report: Vec<u8>,
+    },
+    ReadCopy {
+        copy: Vec<u8>,
+    },
 }
 
 impl Command {
@@ -38,6 +71,7 @@ impl Command {
         let (letter, rest) = line.split_once(' ').ok_or("no command")?;
         let parts: Vec<&str> = rest.split(';').collect();
         match (letter, parts.as_slice()) {
+            ("q", [kind]) => Ok(Command::Calls { of: instrument(kind)? }),
             ("o", [venue, port, code, first, participants @ ..]) => Ok(Command::Open {
                 venue: bytes(venue)?,
                 port: bytes(port)?,
@@ -66,6 +100,7 @@ impl fmt::Display for Command {
     /// Writes the command as its line, without the LF.
     fn fmt(&self, out: &mut fmt::Formatter) -> fmt::Result {
         match self {
+            Command::Calls { of } => write!(out, "q {}", of.number()),
             Command::Open { venue, port, code, first_number, participants } => {
                 write!(out, "o {};{};{};{first_number}", escaped(venue), escaped(port), escaped(code))?;
                 participants.iter().try_for_each(|entry| write!(out, ";{}:{}", entry.mpid, entry.mode))
@@ -92,6 +127,10 @@ fn bytes(text: &str) -> Result<Vec<u8>, String> {
 fn decimal(text: &str) -> Result<u64, String> {
     let is_decimal = !text.is_empty() && text.bytes().all(|byte| byte.is_ascii_digit());
     text.parse().ok().filter(|_| is_decimal).ok_or_else(|| format!("not a number: {text}"))
+}
+
+fn instrument(text: &str) -> Result<Instrument, String> {
+    Instrument::from_number(decimal(text)?).ok_or_else(|| format!("not a kind of market: {text}"))
 }
 
 fn area(text: &str) -> Result<usize, String> {
@@ -126,9 +165,11 @@ fn feed(setting: &[&str]) -> Result<Feed, String> {
     })
 }
 
-/// The market in use, or the table in use that is none: zeros before the first accepted Open, or what a byte changed.
+/// The market in use, or the table in use that is none: zeros before the first accepted Open, or what a byte changed;
+/// and whose calls are made on it, the bond market's or the equities market's.
 #[derive(Clone, Debug)]
 pub struct Desk {
+    calls: Instrument,
     market: Option<Market>,
     no_market: Vec<u8>,
 }
@@ -141,7 +182,7 @@ impl Default for Desk {
 
 impl Desk {
     pub fn new() -> Desk {
-        Desk { market: None, no_market: vec![0; TABLE] }
+        Desk { calls: Instrument::Bonds, market: None, no_market: vec![0; TABLE] }
     }
 
     pub fn market(&self) -> Option<&Market> {
@@ -151,19 +192,34 @@ impl Desk {
     /// Does one command and gives its line of the transcript, without the LF.
     pub fn answer(&mut self, command: &Command) -> String {
         match command {
+            Command::Calls { of } => {
+                self.calls = *of;
+                command.to_string()
+            }
             Command::Open { venue, port, code, first_number, participants } => {
-                let opened = Market::open(venue, port, code, *first_number, participants);
+                let opened = Market::open(self.calls, venue, port, code, *first_number, participants);
                 self.open(opened)
             }
             Command::Submit { area, message } => submit_line(&self.submit(message, *area)),
             Command::Run { area, budget } => run_line(&self.run(*area, *budget)),
             Command::Depth { side, k } => level_line("d", self.depth(*side, *k)),
-            Command::Top { side } => level_line("t", top(&self.table(), *side)),
+            Command::Top { side } => level_line("t", top(self.calls, &self.table(), *side)),
             Command::PutByte { at, byte } => format!("b {}", self.put_byte(*at, *byte)),
-            Command::Read { report } => read_line("x", read(report)),
-            Command::Copy { feed, area, report } => copy_line(&copy(feed, *area, report)),
-            Command::ReadCopy { copy } => read_line("y", read_copy(copy)),
+            Command::Read { report } => read_line("x", read(self.calls, report)),
+            Command::Copy { feed, area, report } => copy_line(&copy(self.calls, feed, *area, report)),
+            Command::ReadCopy { copy } => read_line("y", read_copy(self.calls, copy)),
         }
+    }
+
+    /// The market in use, if the calls are its own: those of another are refused as on a table that is no market.
+    fn called(&mut self) -> Option<&mut Market> {
+        let calls = self.calls;
+        self.market.as_mut().filter(|market| market.instrument() == calls)
+    }
+
+    /// Whose calls are made.
+    pub fn calls(&self) -> Instrument {
+        self.calls
     }
 
     /// Puts a newly opened market into use; a refused one changes nothing.
@@ -178,21 +234,21 @@ impl Desk {
     }
 
     pub fn submit(&mut self, message: &[u8], area: usize) -> Submitted {
-        match &mut self.market {
+        match self.called() {
             Some(market) => market.submit(message, area),
             None => Submitted { number: refusal_without_market(area), report: Vec::new() },
         }
     }
 
     pub fn run(&mut self, area: usize, budget: u64) -> Ran {
-        match &mut self.market {
+        match self.called() {
             Some(market) => market.run(area, budget),
             None => Ran { number: refusal_without_market(area), ..Ran::default() },
         }
     }
 
-    fn depth(&self, side: u64, k: u64) -> Result<Option<Level>, Refusal> {
-        self.market.as_ref().ok_or(Refusal::NotAMarket)?.depth(side, k)
+    fn depth(&mut self, side: u64, k: u64) -> Result<Option<Level>, Refusal> {
+        self.called().ok_or(Refusal::NotAMarket)?.depth(side, k)
     }
 
     /// The table in use.
@@ -213,7 +269,7 @@ impl Desk {
 /// The line of a level asked for by Depth (`d`) or as the best one (`t`).
 fn level_line(letter: &str, level: Result<Option<Level>, Refusal>) -> String {
     match level {
-        Ok(Some(level)) => format!("{letter} 0 1 {} {} {}", level.yield_thousandths, level.total, level.orders),
+        Ok(Some(level)) => format!("{letter} 0 1 {} {} {}", level.quote, level.total, level.orders),
         Ok(None) => format!("{letter} 0 0 0 0 0"),
         Err(refusal) => format!("{letter} {} 0 0 0 0", refusal.number()),
     }

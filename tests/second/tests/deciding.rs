@@ -1,12 +1,14 @@
 //! What an order would trade, against the steps themselves on random books.
 
+use second::instrument::Instrument;
 use second::matching::{next_outcome, would_trade, Mode, Outcome};
 use second::order::{Order, Side, TimeInForce};
 use second::random::Random;
 
-/// An order of some side at one of four yields, of 1 to 20 bonds, without an MPID or with 10 or 11.
-fn some_order(random: &mut Random, side: Side, place: u64) -> Order {
+/// An order of some side at one of four quotes, of 1 to 20, without an MPID or with 10 or 11.
+fn some_order(random: &mut Random, instrument: Instrument, side: Side, place: u64) -> Order {
     Order {
+        instrument,
         order_id: place,
         cl_ord_id: place.to_string().into_bytes(),
         account: None,
@@ -15,7 +17,9 @@ fn some_order(random: &mut Random, side: Side, place: u64) -> Order {
         time_in_force: TimeInForce::ImmediateOrCancel,
         capacity: b'A',
         classification: b'1',
-        yield_thousandths: random.between(0, 3) as i64 - 1,
+        cash: None,
+        margin: None,
+        quote: random.between(0, 3) as i64 - 1,
         order_qty: random.between(1, 20),
         min_qty: None,
         executed: 0,
@@ -27,10 +31,10 @@ fn some_order(random: &mut Random, side: Side, place: u64) -> Order {
 }
 
 /// Up to nine orders of the other side, some of them dead or partly executed, and the order in work somewhere among them.
-fn some_book(random: &mut Random) -> (Vec<Order>, usize) {
+fn some_book(random: &mut Random, instrument: Instrument) -> (Vec<Order>, usize) {
     let side = random.pick(&[Side::Buy, Side::Sell]);
     let mut orders: Vec<Order> =
-        (0..random.between(0, 9)).map(|at| some_order(random, side.opposite(), 100 - at)).collect();
+        (0..random.between(0, 9)).map(|at| some_order(random, instrument, side.opposite(), 100 - at)).collect();
     for order in &mut orders {
         if random.percent(20) {
             order.cancel();
@@ -39,7 +43,7 @@ fn some_book(random: &mut Random) -> (Vec<Order>, usize) {
         }
     }
     let in_work = random.below(orders.len() + 1);
-    let mut working = some_order(random, side, 1000);
+    let mut working = some_order(random, instrument, side, 1000);
     working.order_qty = random.between(1, 60);
     orders.insert(in_work, working);
     (orders, in_work)
@@ -72,8 +76,9 @@ fn executed(mut orders: Vec<Order>, in_work: usize, mode: Mode) -> u64 {
 fn what_would_trade_is_what_the_steps_trade() {
     let mut random = Random::new(110);
     let mut differ = [0; 3];
-    for _ in 0..20_000 {
-        let (orders, in_work) = some_book(&mut random);
+    for turn in 0..20_000 {
+        let instrument = if turn % 2 == 0 { Instrument::Bonds } else { Instrument::Equities };
+        let (orders, in_work) = some_book(&mut random, instrument);
         let modes = [Mode::CancelNewest, Mode::CancelOldest, Mode::Decrement];
         let traded = modes.map(|mode| would_trade(&orders, in_work, |_| mode));
         assert_eq!(traded, modes.map(|mode| executed(orders.clone(), in_work, mode)));

@@ -9,6 +9,7 @@ use std::sync::OnceLock;
 
 use second::copy::{copy, Feed};
 use second::generate::generate;
+use second::instrument::Instrument::{self, Bonds, Equities};
 use second::market::Market;
 use second::order::{Order, Side, TimeInForce};
 use second::read::{read, read_copy, Kind, Report};
@@ -16,8 +17,9 @@ use second::report::{split_reports, LONGEST_REPORT};
 use second::table::{bytes, top};
 use second::transcript::{Command, Desk};
 
-/// Seeds and sizes of the histories; the second is long enough for full tables.
-const HISTORIES: [(u64, u64); 3] = [(1, 900), (2, 2_700), (3, 900)];
+/// What is traded in the histories, their seeds and sizes; the second and the last are long enough for full tables.
+const HISTORIES: [(Instrument, u64, u64); 5] =
+    [(Bonds, 1, 900), (Bonds, 2, 2_700), (Bonds, 3, 900), (Equities, 4, 900), (Equities, 5, 2_700)];
 
 /// What the reports have said about one order.
 #[derive(Clone, Debug, Default, PartialEq, Eq)]
@@ -102,8 +104,8 @@ impl BackOffice {
     }
 
     /// Hands over one report; its copy, if there is one, has the feed's number and is taken into the tallies.
-    fn hear(&mut self, text: &[u8], report: &Report) {
-        let copied = copy(&self.feed, 1024, text);
+    fn hear(&mut self, instrument: Instrument, text: &[u8], report: &Report) {
+        let copied = copy(instrument, &self.feed, 1024, text);
         let is_wanted = match self.feed.subscription {
             1 => report.kind == Kind::Trade,
             _ => (report.kind as u64) <= Kind::Trade as u64,
@@ -112,7 +114,7 @@ impl BackOffice {
         assert_eq!(copied.next_after, self.feed.next + u64::from(is_wanted));
         if is_wanted {
             assert!(copied.copy.len() <= LONGEST_REPORT);
-            let read = read_copy(&copied.copy).expect("what is written can be read");
+            let read = read_copy(instrument, &copied.copy).expect("what is written can be read");
             assert_eq!((number(&read, 34), number(&read, 17)), (self.feed.next, self.feed.next));
             assert_same_but_for_six_fields(&read, report);
             self.book.tell(&read);
@@ -136,8 +138,9 @@ fn assert_same_but_for_six_fields(copy: &Report, report: &Report) {
     assert_eq!((copy.value(109), copy.value(797)), (Some(&b"PORT1-DESK"[..]), Some(&b"Y"[..])));
 }
 
-/// The two reports of a trade follow each other, say the same of it, and are not of one MPID.
-fn assert_no_self_trade(reports: &[Report]) {
+/// The two reports of a trade follow each other, say the same of it, and are not of one MPID. A bond market's each name
+/// the other's MPID.
+fn assert_no_self_trade(instrument: Instrument, reports: &[Report]) {
     let trades: Vec<&Report> = reports.iter().filter(|report| report.kind == Kind::Trade).collect();
     for pair in trades.chunks(2) {
         let [resting, in_work] = pair else { panic!("a trade has two reports") };
@@ -146,8 +149,9 @@ fn assert_no_self_trade(reports: &[Report]) {
         }
         assert_eq!(number(resting, 880), number(resting, 34));
         assert_eq!((resting.value(851), in_work.value(851)), (Some(&b"1"[..]), Some(&b"2"[..])));
-        assert_eq!(resting.value(375), Some(in_work.value(109).unwrap_or(b"0")));
-        assert_eq!(in_work.value(375), Some(resting.value(109).unwrap_or(b"0")));
+        let named = |other: &Report| (instrument == Bonds).then(|| other.value(109).unwrap_or(b"0").to_vec());
+        assert_eq!(resting.value(375).map(<[u8]>::to_vec), named(in_work));
+        assert_eq!(in_work.value(375).map(<[u8]>::to_vec), named(resting));
         assert!(resting.value(109).is_none() || resting.value(109) != in_work.value(109), "a trade inside one MPID");
     }
 }
@@ -157,7 +161,7 @@ fn assert_no_self_trade(reports: &[Report]) {
 fn assert_place_follows(before: &Market, after: &Market, report: &Report) {
     let record = record_of(after, number(report, 37)).expect("the order has a record");
     let (old, new) = (&before.orders()[record], &after.orders()[record]);
-    let keeps = old.yield_thousandths == new.yield_thousandths && number(report, 38) <= old.order_qty;
+    let keeps = old.quote == new.quote && number(report, 38) <= old.order_qty;
     assert_eq!(new.place, if keeps { old.place } else { number(report, 34) });
 }
 
@@ -174,24 +178,24 @@ fn assert_record_follows(before: &Market, after: &Market, report: &Report) {
 }
 
 fn open_orders(market: &Market, side: Side) -> Vec<&Order> {
-    market.orders().iter().filter(|order| order.side == side && order.open() > 0).collect()
+    market.orders().iter().filter(|order| order.side.stands_with(side) && order.open() > 0).collect()
 }
 
 /// Depth's levels hold what is open, level by level from the best, and nothing else; the first is that of the heading.
 fn assert_depth_adds_up(market: &Market) {
     let table = bytes(market);
     for (number, side) in [(1, Side::Buy), (2, Side::Sell)] {
-        assert_eq!(top(&table, number), market.depth(number, 0));
+        assert_eq!(top(market.instrument(), &table, number), market.depth(number, 0));
         let mut open = open_orders(market, side);
         let mut last: Option<i64> = None;
         for k in 0.. {
             let Some(level) = market.depth(number, k).expect("nothing is in work") else { break };
-            assert!(last.is_none_or(|last| side.is_better(last, level.yield_thousandths)));
+            assert!(last.is_none_or(|last| market.instrument().is_better(side, last, level.quote)));
             let (here, elsewhere): (Vec<&Order>, Vec<&Order>) =
-                open.into_iter().partition(|order| order.yield_thousandths == level.yield_thousandths);
+                open.into_iter().partition(|order| order.quote == level.quote);
             assert_eq!(level.orders, here.len() as u64);
             assert_eq!(level.total, here.iter().map(|order| order.open()).sum::<u64>());
-            (open, last) = (elsewhere, Some(level.yield_thousandths));
+            (open, last) = (elsewhere, Some(level.quote));
         }
         assert!(open.is_empty(), "open orders stand on no level");
     }
@@ -204,10 +208,13 @@ fn assert_is_market(market: &Market) {
     assert!((1..=1_000_000_000).contains(&market.next_number()));
     for order in orders {
         assert!((1..=999_999_999).contains(&order.order_qty));
-        assert!(order.yield_thousandths.abs() <= 999_999_999);
+        assert_eq!(order.instrument, market.instrument());
+        assert!(order.instrument.is_quote(order.quote));
+        assert_marks(order);
         assert!(order.executed + order.decremented + order.canceled <= order.order_qty);
         assert!(order.canceled == 0 || order.open() == 0);
         assert!(order.sum.abs() <= i128::from(order.executed) * 999_999_999);
+        assert!(order.instrument == Bonds || order.sum >= 0);
         assert!(order.mpid.is_none_or(|mpid| market.mpids().contains(&mpid)));
         assert!((1..market.next_number()).contains(&order.place));
         assert!((1..market.next_number()).contains(&order.order_id));
@@ -223,14 +230,25 @@ fn assert_is_market(market: &Market) {
     assert_numbers_suffice(market);
 }
 
-/// Apart from the order in work, no IOC is open and every open buy is above every open sell.
+/// A bond's order has neither 544 nor 8214; a share's has a 544, and an 8214 only if it is a margin order.
+fn assert_marks(order: &Order) {
+    match order.instrument {
+        Bonds => assert_eq!((order.cash, order.margin), (None, None)),
+        Equities => assert!(order.cash.is_some() && (order.cash != Some(b'1') || order.margin.is_none())),
+    }
+}
+
+/// Apart from the order in work, no IOC is open, every open buy yield is above every open sell yield, and every open buy
+/// price below every open sell price.
 fn assert_uncrossed(market: &Market) {
     let in_work = market.in_work().map(|record| &market.orders()[record - 1]);
     let resting = |side| open_orders(market, side).into_iter().filter(|&order| Some(order) != in_work);
-    let lowest_buy = resting(Side::Buy).map(|order| order.yield_thousandths).min();
-    let highest_sell = resting(Side::Sell).map(|order| order.yield_thousandths).max();
-    if let (Some(buy), Some(sell)) = (lowest_buy, highest_sell) {
-        assert!(buy > sell, "buys are above sells");
+    for buy in resting(Side::Buy) {
+        let is_apart = |sell: &Order| match market.instrument() {
+            Bonds => buy.quote > sell.quote,
+            Equities => buy.quote < sell.quote,
+        };
+        assert!(resting(Side::Sell).all(is_apart), "buys and sells are apart");
     }
     assert!(resting(Side::Buy).chain(resting(Side::Sell)).all(|order| order.time_in_force == TimeInForce::Day));
 }
@@ -305,7 +323,8 @@ impl History {
             }
             Command::Submit { area, message } => self.play_submit(before.as_ref(), message, *area),
             Command::Run { area, budget } => self.play_run(before.as_ref(), *area, *budget),
-            Command::Depth { .. }
+            Command::Calls { .. }
+            | Command::Depth { .. }
             | Command::Top { .. }
             | Command::Read { .. }
             | Command::Copy { .. }
@@ -342,7 +361,7 @@ impl History {
         if submitted.number == 0 && self.market().in_work().is_some() {
             self.steps_left = met(self.market()) + 1;
             self.taken = self.desk.market().cloned();
-            let report = read(&submitted.report).expect("what is written can be read");
+            let report = read(self.market().instrument(), &submitted.report).expect("what is written can be read");
             if report.kind == Kind::Replaced {
                 assert_place_follows(before.expect("a market is open"), self.market(), &report);
             } else {
@@ -385,19 +404,21 @@ impl History {
         let texts = split_reports(bytes);
         assert_eq!(texts.len() as u64, count);
         assert_eq!(texts.concat(), bytes);
+        let instrument = self.market().instrument();
         let mut number_before = before.expect("a market is open").next_number();
-        let reports: Vec<Report> = texts.iter().map(|text| read(text).expect("what is written can be read")).collect();
+        let reports: Vec<Report> =
+            texts.iter().map(|text| read(instrument, text).expect("what is written can be read")).collect();
         for (report, text) in reports.iter().zip(texts) {
             assert!(text.len() <= LONGEST_REPORT);
             assert_eq!(number(report, 34), number_before);
             assert!(report.value(17).is_none() || number(report, 17) == number_before);
             number_before += 1;
             self.book.tell(report);
-            self.reconciliation.hear(text, report);
-            self.full.hear(text, report);
+            self.reconciliation.hear(instrument, text, report);
+            self.full.hear(instrument, text, report);
         }
         assert_eq!(self.market().next_number(), number_before);
-        assert_no_self_trade(&reports);
+        assert_no_self_trade(instrument, &reports);
     }
 
     /// Looks at the market and the tallies.
@@ -416,11 +437,11 @@ impl History {
 /// The commands of the histories, made once.
 fn histories() -> &'static [Vec<Command>] {
     static MADE: OnceLock<Vec<Vec<Command>>> = OnceLock::new();
-    MADE.get_or_init(|| HISTORIES.iter().map(|&(seed, count)| commands(seed, count)).collect())
+    MADE.get_or_init(|| HISTORIES.iter().map(|&(instrument, seed, count)| commands(instrument, seed, count)).collect())
 }
 
-fn commands(seed: u64, count: u64) -> Vec<Command> {
-    let lines = generate(seed, count);
+fn commands(instrument: Instrument, seed: u64, count: u64) -> Vec<Command> {
+    let lines = generate(instrument, seed, count);
     lines.iter().filter(|line| !line.starts_with('#')).map(|line| Command::parse(line).unwrap()).collect()
 }
 
@@ -444,9 +465,11 @@ fn a_generated_history_meets_every_outcome() {
             let is_read = answer.starts_with("x 0") || answer.starts_with("y 0");
             let words: Vec<&str> = answer.split(' ').take(if is_read { 3 } else { 2 }).collect();
             *answers.entry(words.join(" ")).or_default() += 1;
-            let fields = answer
-                .split('|')
-                .filter(|field| ["103=", "102=", "371=110", "373=", "378="].iter().any(|tag| field.starts_with(tag)));
+            let fields = answer.split('|').filter(|field| {
+                ["103=", "102=", "371=110", "371=544", "371=8214", "373=", "378="]
+                    .iter()
+                    .any(|tag| field.starts_with(tag))
+            });
             for field in fields {
                 *answers.entry(field.to_string()).or_default() += 1;
             }
@@ -456,8 +479,8 @@ fn a_generated_history_meets_every_outcome() {
         "o 0", "o 9", "s 0", "s 1", "s 2", "s 3", "s 4", "s 5", "s 6", "s 7", "s 8", "r 0", "r 1", "r 2", "d 0", "d 2",
         "d 3", "d 10", "t 0", "t 2", "t 3", "t 10", "x 11", "x 0 1", "x 0 2", "x 0 3", "x 0 4", "x 0 5", "x 0 6",
         "x 0 7", "103=0", "103=1", "103=6", "103=99", "102=0", "102=1", "102=2", "373=1", "373=2", "373=3", "373=4",
-        "373=5", "373=6", "373=9", "373=11", "378=99", "371=110", "378=100", "c 0", "c 1", "c 4", "c 11", "c 17",
-        "y 11", "y 0 1", "y 0 2", "y 0 3", "y 0 4",
+        "373=5", "373=6", "373=9", "373=11", "378=99", "371=110", "371=544", "371=8214", "378=100", "c 0", "c 1",
+        "c 4", "c 11", "c 17", "y 11", "y 0 1", "y 0 2", "y 0 3", "y 0 4",
     ] {
         assert!(answers.contains_key(outcome), "{outcome} never came up");
     }
@@ -470,7 +493,7 @@ fn a_generated_history_meets_every_outcome() {
 fn generated_messages_have_both_lengths_of_time_in_52_and_60() {
     let mut desk = Desk::new();
     let mut lengths = BTreeSet::new();
-    for command in commands(1, 300) {
+    for command in commands(Bonds, 1, 300) {
         let is_taken = desk.answer(&command).starts_with("s 0 ");
         if let Command::Submit { message, .. } = &command {
             let length = |tag: &[u8]| {
@@ -531,7 +554,7 @@ fn generated_minimums_are_reached_and_missed_in_all_three_modes() {
 fn generated_days_have_more_orders_than_a_table_has_room_for() {
     let (mut taken_over, mut gone_before) = (0, BTreeSet::new());
     let mut desk = Desk::new();
-    for command in &histories()[1] {
+    for command in histories()[1].iter().chain(&histories()[4]) {
         let before = desk.market().map_or(Vec::new(), |market| market.orders().to_vec());
         let is_new = desk.answer(command).starts_with("s 0") && before.len() == 255;
         let after = desk.market().map_or(&[][..], Market::orders);
@@ -547,7 +570,7 @@ fn generated_days_have_more_orders_than_a_table_has_room_for() {
 /// Whether an open order of the same side and yield stands behind this one.
 fn has_one_behind(market: &Market, order: &Order) -> bool {
     let same_side = open_orders(market, order.side);
-    same_side.iter().any(|other| other.yield_thousandths == order.yield_thousandths && other.place > order.place)
+    same_side.iter().any(|other| other.quote == order.quote && other.place > order.place)
 }
 
 #[test]
@@ -569,6 +592,6 @@ fn generated_histories_reduce_and_raise_orders_that_others_stand_behind() {
 
 #[test]
 fn a_seed_gives_the_same_commands_and_another_seed_others() {
-    assert_eq!(generate(5, 50), generate(5, 50));
-    assert_ne!(generate(5, 50), generate(6, 50));
+    assert_eq!(generate(Bonds, 5, 50), generate(Bonds, 5, 50));
+    assert_ne!(generate(Bonds, 5, 50), generate(Bonds, 6, 50));
 }

@@ -2,6 +2,7 @@
 
 use second::compose::{new_order, order, order_of, replace, Draft};
 use second::generate::generate;
+use second::instrument::Instrument::{Bonds, Equities};
 use second::market::{Level, Market, Participant, Refusal};
 use second::table::{bytes, market, top, RECORD, TABLE};
 use second::transcript::{Command, Desk};
@@ -9,7 +10,7 @@ use second::transcript::{Command, Desk};
 /// Venue V, port P, code 350 from number 1, with MPIDs 10 to 14 all in one mode.
 fn opened(mode: u64) -> Market {
     let list: Vec<Participant> = (10..=14).map(|mpid| Participant { mpid, mode }).collect();
-    Market::open(b"V", b"P", b"350", 1, &list).expect("the settings are good")
+    Market::open(Bonds, b"V", b"P", b"350", 1, &list).expect("the settings are good")
 }
 
 /// Submits a message that is taken, and runs it to its end.
@@ -64,9 +65,9 @@ fn is_market(table: &[u8]) -> bool {
 
 #[test]
 fn every_market_of_generated_histories_is_its_table() {
-    for (seed, count) in [(11, 500), (12, 500)] {
+    for (instrument, seed, count) in [(Bonds, 11, 500), (Bonds, 12, 500), (Equities, 13, 500)] {
         let mut desk = Desk::new();
-        for line in generate(seed, count).iter().filter(|line| !line.starts_with('#')) {
+        for line in generate(instrument, seed, count).iter().filter(|line| !line.starts_with('#')) {
             let command = Command::parse(line).expect("a generated line is a command");
             desk.answer(&command);
             if let Some(known) = desk.market().filter(|_| !matches!(command, Command::Read { .. })) {
@@ -335,10 +336,10 @@ fn best_levels_stand_in_the_heading_while_nothing_is_in_work() {
 #[test]
 fn best_levels_that_do_not_agree_are_no_market_and_are_answered() {
     let table = bytes(&two_levels());
-    let level = |at, total, orders| Ok(Some(Level { yield_thousandths: at, total, orders }));
+    let level = |at, total, orders| Ok(Some(Level { quote: at, total, orders }));
     let four = |number: u32| number.to_le_bytes().to_vec();
     let eight = |number: u64| number.to_le_bytes().to_vec();
-    assert_eq!((top(&table, 1), top(&table, 2)), (level(200, 15, 2), level(100, 6, 1)));
+    assert_eq!((top(Bonds, &table, 1), top(Bonds, &table, 2)), (level(200, 15, 2), level(100, 6, 1)));
     for (at, with, side, says) in [
         (97, vec![1], 1, level(200, 15, 1)),
         (97, vec![15], 1, level(200, 15, 15)),
@@ -354,16 +355,16 @@ fn best_levels_that_do_not_agree_are_no_market_and_are_answered() {
     ] {
         let table = forged(&table, at, &with);
         assert!(!is_market(&table));
-        assert_eq!(top(&table, side), says, "{at}: {with:?}");
+        assert_eq!(top(Bonds, &table, side), says, "{at}: {with:?}");
     }
     let no_buys =
         [(97, 0), (112, 0)].iter().fold(forged(&table, 100, &[0; 4]), |t, &(at, with)| forged(&t, at, &[with]));
     assert!(!is_market(&no_buys));
-    assert_eq!((top(&no_buys, 1), top(&no_buys, 2)), (Ok(None), level(100, 6, 1)));
+    assert_eq!((top(Bonds, &no_buys, 1), top(Bonds, &no_buys, 2)), (Ok(None), level(100, 6, 1)));
     let empty = bytes(&opened(1));
     let orders = [(97, vec![255]), (100, four(1)), (112, eight(254_999_999_745))];
     let full = orders.iter().fold(empty, |table, (at, with)| forged(&table, *at, with));
-    assert_eq!(top(&full, 1), level(-999_999_999, 254_999_999_745, 255));
+    assert_eq!(top(Bonds, &full, 1), level(-999_999_999, 254_999_999_745, 255));
 }
 
 #[test]
@@ -412,15 +413,15 @@ fn a_heading_out_of_range_has_no_top() {
         (120, eight(1_000_000_000), "more than one order can have open"),
     ] {
         for side in [1, 2, 3] {
-            assert_eq!(top(&forged(&table, at, &with), side), Err(Refusal::NotAMarket), "{what}");
+            assert_eq!(top(Bonds, &forged(&table, at, &with), side), Err(Refusal::NotAMarket), "{what}");
         }
         assert!(!is_market(&forged(&table, at, &with)), "{what}");
     }
     for length in [0, 1, RECORD - 1, RECORD, TABLE - 1, TABLE + 1] {
         let other: Vec<u8> = table.iter().copied().chain([0]).take(length).collect();
-        assert_eq!(top(&other, 1), Err(Refusal::NotAMarket));
+        assert_eq!(top(Bonds, &other, 1), Err(Refusal::NotAMarket));
     }
-    assert_eq!(top(&[0; TABLE], 1), Err(Refusal::NotAMarket));
+    assert_eq!(top(Bonds, &[0; TABLE], 1), Err(Refusal::NotAMarket));
 }
 
 #[test]
@@ -429,8 +430,8 @@ fn top_looks_at_the_heading_alone() {
     for (at, with) in [(place(1, 0), 0), (place(1, 44), 7), (place(1, 80), 3), (place(4, 0), 1), (TABLE - 1, 255)] {
         let table = forged(&table, at, &[with]);
         assert!(!is_market(&table));
-        assert_eq!(top(&table, 2), Ok(Some(Level { yield_thousandths: 100, total: 6, orders: 1 })));
-        assert_eq!(top(&table, 3), Err(Refusal::SideWrong));
+        assert_eq!(top(Bonds, &table, 2), Ok(Some(Level { quote: 100, total: 6, orders: 1 })));
+        assert_eq!(top(Bonds, &table, 3), Err(Refusal::SideWrong));
     }
     let mut known = two_levels();
     submit(&mut known, &order("d", "1", "7", "0.3"));
@@ -438,14 +439,18 @@ fn top_looks_at_the_heading_alone() {
     for record in [1, 3, 4, 5, 255] {
         let table = forged(&in_work, 32, &[record]);
         assert_eq!(is_market(&table), record <= 4);
-        assert_eq!(top(&table, 1), Err(Refusal::OrderInWork));
-        assert_eq!(top(&table, 3), Err(Refusal::OrderInWork));
-        assert_eq!(top(&forged(&table, 96, &[1]), 1), Err(Refusal::OrderInWork), "no minimum can be seen in a heading");
-        assert_eq!(top(&forged(&table, 96, &[2]), 1), Err(Refusal::NotAMarket));
+        assert_eq!(top(Bonds, &table, 1), Err(Refusal::OrderInWork));
+        assert_eq!(top(Bonds, &table, 3), Err(Refusal::OrderInWork));
+        assert_eq!(
+            top(Bonds, &forged(&table, 96, &[1]), 1),
+            Err(Refusal::OrderInWork),
+            "no minimum can be seen in a heading"
+        );
+        assert_eq!(top(Bonds, &forged(&table, 96, &[2]), 1), Err(Refusal::NotAMarket));
         let best = [(97, vec![1]), (100, vec![1]), (112, vec![1])];
         let best = best.iter().fold(table.clone(), |table, (at, with)| forged(&table, *at, with));
-        assert_eq!(top(&best, 1), Err(Refusal::NotAMarket), "a best level while an order is in work");
+        assert_eq!(top(Bonds, &best, 1), Err(Refusal::NotAMarket), "a best level while an order is in work");
     }
     let late = forged(&in_work, 34, b"20261116-09:00:60");
-    assert_eq!((top(&late, 1), is_market(&late)), (Err(Refusal::NotAMarket), false));
+    assert_eq!((top(Bonds, &late, 1), is_market(&late)), (Err(Refusal::NotAMarket), false));
 }

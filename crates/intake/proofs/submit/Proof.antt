@@ -7,11 +7,11 @@ use Rattle.intake.proofs.submit.Tie as tie
 returns : tie.Need-returns
 returns c =
     let s = c .before .before .before .before .args in
-    let l = no-room (s .table .now) (s .message .now) (s .area .now) (c .if1 .taken) in
+    let l = no-room (s .q) (s .table .now) (s .message .now) (s .area .now) (c .if1 .taken) in
     (l .answers, (l .table-is, l .area-is))
 
-is-market-requires : tie.Need-is-market-requires
-is-market-requires c κs = search needs
+is-market-of-requires : tie.Need-is-market-of-requires
+is-market-of-requires c κs = search needs
 
 same-length : tie.Need-same-length
 same-length c = search needs
@@ -19,7 +19,7 @@ same-length c = search needs
 returns-2 : tie.Need-returns-2
 returns-2 c =
     let s = c .before .before .before .before .before .before .before .args in
-    let l = no-market (s .table .now) (s .message .now) (s .area .now) (c .before .before .before .if1 .left) _ (c .before .is-market .ensures) (c .if2 .taken) in
+    let l = no-market (s .q) (s .table .now) (s .message .now) (s .area .now) (c .before .before .before .if1 .left) _ (c .before .is-market-of .ensures) (c .if2 .taken) in
     (l .answers, (l .table-is, l .area-is))
 
 work-requires : tie.Need-work-requires
@@ -34,7 +34,7 @@ returns-3 c =
     let room = found .before .before .before in
     let s = room .before .before .before .before .args in
     let l =
-    in-work (s .table .now) (s .message .now) (s .area .now) (room .if1 .left) _ (found .before .is-market .ensures) (found .if2 .left) _
+    in-work (s .q) (s .table .now) (s .message .now) (s .area .now) (room .if1 .left) _ (found .before .is-market-of .ensures) (found .if2 .left) _
     (c .before .work .ensures .0) (c .if3 .taken) in
     (l .answers, (l .table-is, l .area-is))
 
@@ -51,7 +51,7 @@ returns-4 c =
     let room = found .before .before .before in
     let s = room .before .before .before .before .args in
     let l =
-    numbers-spent (s .table .now) (s .message .now) (s .area .now) (room .if1 .left) _ (found .before .is-market .ensures) (found .if2 .left) _
+    numbers-spent (s .q) (s .table .now) (s .message .now) (s .area .now) (room .if1 .left) _ (found .before .is-market-of .ensures) (found .if2 .left) _
     (idle .before .work .ensures .0) (idle .if3 .left) _ (c .before .next .ensures) (c .if4 .taken) in
     (l .answers, (l .table-is, l .area-is))
 
@@ -72,7 +72,7 @@ handle-requires c κs =
     let found = idle .before .before .before in
     let room = found .before .before .before in
     let s = room .before .before .before .before .args in (
-      asked-of (s .table .now) (s .message .now) (s .area .now) (room .if1 .left) _ (found .before .is-market .ensures) (found .if2 .left) _
+      asked-of (s .q) (s .table .now) (s .message .now) (s .area .now) (room .if1 .left) _ (found .before .is-market-of .ensures) (found .if2 .left) _
           (idle .before .work .ensures .0) (idle .if3 .left) _ (left .before .next .ensures) (left .if4 .left) _ _ (asks .before .before .venue .ensures) (asks .before .port .ensures) _
           (asks .asked .ensures),
       search needs,
@@ -94,7 +94,7 @@ returns-5 c =
     let room = found .before .before .before in
     let s = room .before .before .before .before .args in
     let l =
-    submitted-left (s .table .now) (s .message .now) (s .area .now) (room .if1 .left) _ (found .before .is-market .ensures) (found .if2 .left) _
+    submitted-left (s .q) (s .table .now) (s .message .now) (s .area .now) (room .if1 .left) _ (found .before .is-market-of .ensures) (found .if2 .left) _
     (idle .before .work .ensures .0) (idle .if3 .left) _ (left .before .next .ensures) (left .if4 .left) _ _ (asks .before .before .venue .ensures) (asks .before .port .ensures) _
     (asks .asked .ensures) _ _ _ (done .handle .ensures) in
     (l .answers, (l .table-is, l .area-is))
@@ -104,7 +104,7 @@ submit-spec =
     tie.close
     (tie.spec
     returns
-    is-market-requires
+    is-market-of-requires
     same-length
     returns-2
     work-requires

@@ -4,8 +4,8 @@ use Rattle.market.proofs.Answers.{checked, checked-long, depth-none, de
 use Rattle.market.proofs.depth.Statement.{statement}
 use Rattle.market.proofs.depth.Tie as tie
 
-is-market-requires : tie.Need-is-market-requires
-is-market-requires c κs = search needs
+is-market-of-requires : tie.Need-is-market-of-requires
+is-market-of-requires c κs = search needs
 
 returns : tie.Need-returns
 returns c = search (needs, depth-none)
@@ -31,4 +31,4 @@ returns-4 c = search (needs, depth-found)
 pub depth-spec : {M : Type 1} → statement M
 depth-spec =
     tie.close
-    (tie.spec is-market-requires returns work-requires returns-2 is-side-requires returns-3 level-requires returns-4)
+    (tie.spec is-market-of-requires returns work-requires returns-2 is-side-requires returns-3 level-requires returns-4)

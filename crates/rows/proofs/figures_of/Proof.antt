@@ -32,6 +32,12 @@ replaced-status-requires c κs = search needs
 digit-requires-5 : tie.Need-digit-requires-5
 digit-requires-5 c κs = search needs
 
+own-field-requires : tie.Need-own-field-requires
+own-field-requires c κs = search needs
+
+last-field-requires : tie.Need-last-field-requires
+last-field-requires c κs = search needs
+
 avg-px-requires : tie.Need-avg-px-requires
 avg-px-requires c κs = search needs
 
@@ -40,7 +46,7 @@ open-of-requires c κs = search needs
 
 returns : tie.Need-returns
 unfolding figuresOf
-returns c = λ j. record { client = c .before .before .before .before .before .before .before .before .before .before .or-number .ensures j; least = c .before .before .before .before .before .before .before .before .before .or-number2 .ensures j; mean = c .before .avg-px .ensures j; left = c .open-of .ensures j; side = c .before .before .before .before .before .before .before .before .digit .ensures j; tif = c .before .before .before .before .before .before .before .digit2 .ensures j; class = c .before .before .before .before .before .before .digit3 .ensures j; traded = (c .before .before .before .before .digit4 .ensures ∙ ap digit (c .before .before .before .before .before .trade-status .ensures)) j; replaced = (c .before .before .digit5 .ensures ∙ ap digit (c .before .before .before .replaced-status .ensures)) j }
+returns c = λ j. record { client = c .before .before .before .before .before .before .before .before .before .before .before .before .or-number .ensures j; least = c .before .before .before .before .before .before .before .before .before .before .before .or-number2 .ensures j; mean = c .before .avg-px .ensures j; left = c .open-of .ensures j; side = c .before .before .before .before .before .before .before .before .before .before .digit .ensures j; tif = c .before .before .before .before .before .before .before .before .before .digit2 .ensures j; class = c .before .before .before .before .before .before .before .before .digit3 .ensures j; traded = (c .before .before .before .before .before .before .digit4 .ensures ∙ ap digit (c .before .before .before .before .before .before .before .trade-status .ensures)) j; replaced = (c .before .before .before .before .digit5 .ensures ∙ ap digit (c .before .before .before .before .before .replaced-status .ensures)) j; own = c .before .before .before .own-field .ensures j; last = c .before .before .last-field .ensures j }
 
 pub figures-of-spec : {M : Type 1} → statement M
 figures-of-spec =
@@ -55,6 +61,8 @@ figures-of-spec =
     digit-requires-4
     replaced-status-requires
     digit-requires-5
+    own-field-requires
+    last-field-requires
     avg-px-requires
     open-of-requires
     returns)

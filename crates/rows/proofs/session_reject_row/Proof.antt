@@ -4,12 +4,15 @@ use borrow.Author.Needs.{needs}
 use Rattle.rows.proofs.session_reject_row.Statement.{statement}
 use Rattle.rows.proofs.session_reject_row.Tie as tie
 
+group-of-requires : tie.Need-group-of-requires
+group-of-requires c κs = search needs
+
 text-requires : tie.Need-text-requires
 text-requires c κs = search needs
 
 returns : tie.Need-returns
 unfolding sessionRejectRow header
-returns c = rw (c .text .ensures)
+returns c = rw (c .before .group-of .ensures, c .text .ensures)
 
 pub session-reject-row-spec : {M : Type 1} → statement M
-session-reject-row-spec = tie.close (tie.spec text-requires returns)
+session-reject-row-spec = tie.close (tie.spec group-of-requires text-requires returns)

@@ -7,10 +7,10 @@ use Rattle.vectors.proofs.lines.Statement.{statement}
 use Rattle.vectors.proofs.lines.Tie as tie
 
 abbrev Inv-loop : tie.InvT-loop
-Inv-loop table₀ buffer₀ k₀ table buffer k = (length table ≡ length table₀) × (length buffer ≡ length buffer₀)
+Inv-loop table₀ buffer₀ of₀ k₀ table buffer of k = (length table ≡ length table₀) × (length buffer ≡ length buffer₀)
 
 abbrev μ-loop : tie.MeasureT-loop
-μ-loop table₀ buffer₀ k₀ table buffer k = 1000000 - k
+μ-loop table₀ buffer₀ of₀ k₀ table buffer of k = 1000000 - k
 
 loop-holds : tie.Need-loop-holds Inv-loop μ-loop
 loop-holds c = search needs

@@ -156,8 +156,8 @@ pub fn lengths_of_two_identifiers(script: &mut Script) {
 
 pub fn bytes_of_identifiers(script: &mut Script) {
     script.say("Feed: a shown identifier holds bytes from 21 to 7E hex, wherever they stand");
-    for byte in [0x00, 0x01, 0x09, 0x1f, 0x20, 0x7f, 0x80, 0xff] {
-        for id in [&[byte][..], &[byte, b'b'], &[b'a', byte, b'b'], &[b'a', byte]] {
+    for byte in [0x00, 0x01, 0x1f, 0x20, 0x7f, 0xff] {
+        for id in [&[byte][..], &[byte, b'b'], &[b'a', byte, b'b']] {
             script.copy_refused(&showing(PORT, id, b"DESK"), &accepted(), 17);
         }
         let id = [b'a', byte];
@@ -186,10 +186,10 @@ pub fn an_identifier_that_is_not_shown_is_not_looked_at(script: &mut Script) {
 
 pub fn settings_that_mean_nothing(script: &mut Script) {
     script.say("Feed: another subscription than 1 and 2, or another setting of 109 than 1 to 3, is refusal 17");
-    for number in [0, 3, 4, 257, 258, 4_294_967_297, 4_294_967_298, u64::MAX] {
+    for number in [0, 3, 257, 4_294_967_298, u64::MAX] {
         script.copy_refused(&Feed { subscription: number, ..feed(PORT, 1) }, &trade(), 17);
     }
-    for number in [0, 4, 5, 257, 259, 4_294_967_297, 4_294_967_299, u64::MAX] {
+    for number in [0, 4, 259, 4_294_967_297, u64::MAX] {
         script.copy_refused(&feed(number, 1), &trade(), 17);
     }
     script.copy_refused(&Feed { subscription: 0, ..feed(0, 1) }, &trade(), 17);

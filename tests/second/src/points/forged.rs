@@ -46,19 +46,19 @@ fn two_levels(script: &mut Script) {
 }
 
 pub fn bytes_stand_at_their_places(script: &mut Script) {
-    script.say("Table: the heading, every byte put as it is");
+    script.say("Table: the heading, bytes put as they are");
     book_r(script, 2);
     let heading: [(usize, &[u8]); 10] = [
-        (0, b"\x01V\x00\x00\x00\x00\x00\x00\x00"),
-        (9, b"\x01P\x00\x00\x00\x00\x00\x00\x00"),
-        (18, b"\x03350\x00\x00\x00\x00\x00\x00"),
-        (28, &[5, 0, 0, 0, 0, 0, 0, 0]),
-        (54, &[0, 0, 10, 0, 0, 0, 11, 0, 0, 0, 12, 0, 0, 0, 13, 0, 0, 0, 14, 0, 0, 0, 0, 0, 0, 0]),
-        (88, &[2, 2, 2, 2, 2, 0, 0, 0, 0, 0, 1, 0]),
-        (100, &[0, 0, 0, 0]),
+        (0, b"\x01V\x00"),
+        (9, b"\x01P\x00"),
+        (18, b"\x03350\x00"),
+        (28, &[5, 0, 0, 0, 0, 0]),
+        (54, &[0, 0, 10, 0, 0, 0, 11, 0, 0, 0]),
+        (72, &[14, 0, 0, 0, 0]),
+        (88, &[2, 2, 2, 2, 2, 0]),
+        (96, &[0, 0, 1, 0, 0]),
         (104, &four(1_000_000_101)),
-        (108, &[0, 0, 0, 0, 0, 0, 0, 0, 0, 0, 0, 0]),
-        (120, &[100, 0, 0, 0, 0, 0, 0, 0]),
+        (120, &[100, 0]),
     ];
     for (at, bytes) in heading {
         script.put(at, bytes, bytes);
@@ -125,11 +125,8 @@ pub fn headings_that_are_none(script: &mut Script) {
     for (at, bytes, before) in [
         (0, 0, 1),
         (0, 9, 1),
-        (0, 255, 1),
         (1, 32, b'V'),
-        (1, 127, b'V'),
         (2, 65, 0),
-        (8, 65, 0),
         (9, 2, 1),
         (17, 65, 0),
         (18, 10, 3),
@@ -138,21 +135,18 @@ pub fn headings_that_are_none(script: &mut Script) {
         (28, 0, 4),
         (31, 60, 0),
         (33, 17, 0),
-        (54, 48, 0),
         (55, 1, 0),
+        (55, 2, 0),
         (56, 11, 10),
         (56, 0, 10),
-        (58, 16, 0),
         (88, 0, 1),
         (88, 4, 1),
         (93, 1, 0),
         (76, 15, 0),
         (32, 1, 0),
         (96, 1, 0),
-        (96, 2, 0),
         (99, 1, 0),
         (108, 1, 0),
-        (111, 255, 0),
     ] {
         no_heading(script, at, &[bytes], &[before]);
     }
@@ -285,8 +279,8 @@ pub fn minimums_out_of_their_rules(script: &mut Script) {
         in_work_no_market(script, place(5, 45), &[time_in_force], &[3]);
     }
     in_work_no_market(script, place(1, 88), &[1], &[0]);
-    script.say("Table: bytes 92 to 127 of a record are not used");
-    for at in [92, 93, 127] {
+    script.say("Table: bytes 94 to 127 of a record are not used");
+    for at in [94, 127] {
         in_work_no_market(script, place(5, at), &[1], &[0]);
     }
     script.say("Table: all of OrderQty is the highest minimum; none is good; and so is 59=4 without one");
@@ -310,32 +304,26 @@ pub fn records_that_are_none(script: &mut Script) {
         (place(1, 0), 33, 1),
         (place(1, 1), b'c', b's'),
         (place(1, 1), 31, b's'),
-        (place(1, 1), 127, b's'),
         (place(1, 2), 1, 0),
         (place(2, 33), 11, 4),
-        (place(2, 33), 3, 4),
         (place(2, 34), 0, b'a'),
-        (place(1, 44), 0, 2),
+        (place(1, 44), 5, 2),
         (place(1, 44), 3, 2),
         (place(1, 46), b'a', b'A'),
         (place(1, 47), 2, 1),
-        (place(1, 47), 255, 1),
         (place(1, 51), 120, 59),
         (place(1, 52), 0, 6),
         (place(1, 55), 60, 0),
         (place(2, 52), 3, 7),
         (place(1, 56), 0, 1),
         (place(1, 56), 2, 1),
-        (place(1, 56), 7, 1),
         (place(1, 60), 15, 0),
         (place(2, 71), 1, 0),
         (place(2, 72), 0, 4),
         (place(2, 76), 4, 0),
         (place(2, 80), 1, 0),
-        (place(2, 80), 4, 0),
         (place(1, 84), 0, 1),
         (place(1, 84), 2, 1),
-        (place(1, 84), 7, 1),
         (place(5, 100), 1, 0),
         (place(255, 127), 1, 0),
     ] {

@@ -5,6 +5,8 @@
 //! from the paper. Together they open tests/vectors/commands; each is also a test of this program, under its name.
 //! The program `book` is not this program's concern.
 
+#[cfg(test)]
+use crate::instrument::Instrument;
 use crate::script::Script;
 
 pub mod cases;
@@ -37,22 +39,38 @@ pub mod running;
 
 pub mod session;
 
+pub mod share_examples;
+
+pub mod share_feeds;
+
+pub mod share_orders;
+
+pub mod share_reading;
+
+pub mod share_reports;
+
+pub mod share_running;
+
+pub mod share_tables;
+
 pub mod top;
 
 pub mod turns;
 
-/// Lists the points in their order and makes a test of each.
+/// A point: it adds its lines to a script.
+type Point = fn(&mut Script);
+
+/// Lists the points of a market in their order and makes a test of each.
 macro_rules! points {
-    ($($module:ident { $($name:ident)* })*) => {
-        /// The points by name, in the order in which they stand in the command file.
-        pub const ALL: &[(&str, fn(&mut Script))] = &[$($((stringify!($name), $module::$name),)*)*];
+    ($list:ident $tests:ident $instrument:ident $($module:ident { $($name:ident)* })*) => {
+        const $list: &[Point] = &[$($($module::$name,)*)*];
 
         #[cfg(test)]
-        mod tests {
+        mod $tests {
             $($(
                 #[test]
                 fn $name() {
-                    super::hold(super::$module::$name);
+                    super::hold(super::Instrument::$instrument, super::$module::$name);
                 }
             )*)*
         }
@@ -60,6 +78,7 @@ macro_rules! points {
 }
 
 points! {
+    OF_BONDS bonds Bonds
     refusals {
         before_open_submit_run_and_depth_are_refused_as_no_market
         refusals_of_submit_come_in_the_order_of_their_numbers
@@ -293,10 +312,89 @@ points! {
     }
 }
 
-/// The lines of all points, in their order.
-pub fn lines() -> Vec<String> {
+points! {
+    OF_EQUITIES equities Equities
+    share_examples {
+        cancel_newest_as_printed
+        cancel_oldest_as_printed
+        decrement_as_printed
+    }
+    share_orders {
+        share_settings_of_open
+        prices_have_a_shape_only
+        sides_of_shares
+        a_change_names_the_side_exactly
+        symbols_of_shares
+        cash_or_margin_is_needed_on_a_new_order
+        margin_types_belong_to_margin_orders
+        the_last_checks_before_missing_tags
+        reasons_of_share_rejects_in_their_order
+        messages_of_shares_are_garbled_like_any
+    }
+    share_running {
+        a_higher_price_is_the_better_buy
+        every_sell_stands_on_side_2
+        best_prices_after_each_thing_that_happens
+        refusals_of_share_calls_come_in_their_order
+        shares_that_do_not_stay
+        share_minimums
+        share_turns
+        prevention_between_kinds_of_sells
+        rooms_and_budgets_of_shares
+        prices_at_their_limits
+        numbers_of_shares_run_out
+        a_table_full_of_shares
+    }
+    share_reports {
+        whole_bytes_of_each_share_report
+        share_marks_on_reports
+        average_price_is_the_nearest_ten_thousandth
+        milliseconds_of_shares
+    }
+    share_tables {
+        share_bytes_stand_at_their_places
+        each_market_refuses_the_others_calls
+        kinds_of_table
+        share_headings_that_are_none
+        share_records_that_are_none
+        bond_records_with_shares_fields
+        sums_at_both_ends_of_their_range
+        changed_share_tables_that_are_a_market
+    }
+    share_reading {
+        read_seven_kinds_of_share_reports
+        read_prices_and_averages
+        read_sides_and_symbols_of_shares
+        read_share_marks
+        read_no_field_of_bonds
+        read_share_numbers_and_texts
+        read_damaged_share_reports
+        each_market_reads_its_own
+    }
+    share_feeds {
+        whole_bytes_of_share_copies
+        share_feeds_copy_what_bond_feeds_copy
+        lengths_of_identifiers_of_a_share_feed
+        refusals_of_a_share_feed_come_in_their_order
+        a_share_fill_or_kill_is_copied_as_an_ioc
+        copies_of_shares_are_read
+        damaged_copies_of_shares
+    }
+}
+
+/// The lines of all points about the bond market, in their order; its calls are made.
+pub fn lines_of_bonds() -> Vec<String> {
+    lines(OF_BONDS)
+}
+
+/// The lines of all points about the equities market, in their order; its calls are made, before and after.
+pub fn lines_of_equities() -> Vec<String> {
+    lines(OF_EQUITIES)
+}
+
+fn lines(points: &[Point]) -> Vec<String> {
     let mut script = Script::new();
-    for (_, point) in ALL {
+    for point in points {
         point(&mut script);
     }
     script.lines().map(str::to_string).collect()
@@ -304,8 +402,9 @@ pub fn lines() -> Vec<String> {
 
 /// Runs one point and stops at the first answer that is not what was expected.
 #[cfg(test)]
-fn hold(point: fn(&mut Script)) {
+fn hold(instrument: Instrument, point: Point) {
     let mut script = Script::new();
+    script.calls(instrument);
     point(&mut script);
     if let Err(why) = script.check() {
         panic!("{why}");

@@ -182,8 +182,9 @@ pub fn transact_time_shape_before_ranges(script: &mut Script) {
         ("20201201-09:00.00", 6),
     ] {
         script.session_reject(&new_order("a").with("60", time), reason, 60);
-        script.session_reject(&cancel("x", "a", "1").with("60", time), reason, 60);
     }
+    script.session_reject(&cancel("x", "a", "1").with("60", "20201301-09:00:0x"), 6, 60);
+    script.session_reject(&cancel("x", "a", "1").with("60", "20201301-09:00:00"), 5, 60);
     script.rests(&new_order("a").with("60", "00000231-23:59:59"));
 }
 

@@ -4,15 +4,19 @@ use Prim.Native.Nat.{_-_, _+_}
 use native.Mathlib.Omega.{arith}
 use borrow.Author.Tests.{not-true, not-false}
 use Rattle.octets.proofs.Ranges.{Passed, passed-none, passed-more, passed-stop, passed-end}
+use borrow.Author.Needs.{needs}
 use Rattle.table.specs.Market.{isOrder, hasOrders}
 use Rattle.audit.proofs.sound.has_orders.Statement.{statement}
 use Rattle.audit.proofs.sound.has_orders.Tie as tie
 
 abbrev Inv-loop : tie.InvT-loop
-Inv-loop t n m k₀ k = Passed (λ j. isOrder t (j + 1)) m k
+Inv-loop q t n m top k₀ k = Passed (λ j. isOrder t (j + 1)) m k
 
 abbrev μ-loop : tie.MeasureT-loop
-μ-loop t n m k₀ k = m - k
+μ-loop q t n m top k₀ k = m - k
+
+highest-requires : tie.Need-highest-requires Inv-loop μ-loop
+highest-requires c κs = search needs
 
 loop-holds : tie.Need-loop-holds Inv-loop μ-loop
 loop-holds c = passed-none
@@ -21,11 +25,11 @@ add-is-order : tie.Need-add-is-order Inv-loop μ-loop
 add-is-order c = omega arith
 
 is-order-requires : tie.Need-is-order-requires Inv-loop μ-loop
-is-order-requires c κs = omega arith
+is-order-requires c κs = search needs
 
 returns : tie.Need-returns Inv-loop μ-loop
 unfolding hasOrders
-returns c = rw (← c .before .before .before .before .before .pre .3) (sym (passed-stop (c .before .before .before .loop .inv) (c .before .before .loop-test .taken) (sym (c .before .is-order .ensures) ∙ not-true _ (c .if1 .taken))))
+returns c = rw (← c .before .before .before .before .before .before .pre .4) (sym (passed-stop (c .before .before .before .loop .inv) (c .before .before .loop-test .taken) (sym (c .before .is-order .ensures) ∙ not-true _ (c .if1 .taken))))
 
 add-k : tie.Need-add-k Inv-loop μ-loop
 add-k c = omega arith
@@ -38,7 +42,7 @@ loop-again c = passed-more (c .before .before .before .loop .inv) (c .before .be
 
 returns-2 : tie.Need-returns-2 Inv-loop μ-loop
 unfolding hasOrders
-returns-2 c = rw (← c .before .before .before .pre .3) (sym (passed-end (c .before .loop .inv) (c .loop-test .left)))
+returns-2 c = rw (← c .before .before .before .before .pre .4) (sym (passed-end (c .before .loop .inv) (c .loop-test .left)))
 
 pub has-orders-spec : {M : Type 1} → statement M
 has-orders-spec =
@@ -46,6 +50,7 @@ has-orders-spec =
     (tie.spec
     Inv-loop
     μ-loop
+    highest-requires
     loop-holds
     add-is-order
     is-order-requires

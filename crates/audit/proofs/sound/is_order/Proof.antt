@@ -23,7 +23,7 @@ is-shut-requires : tie.Need-is-shut-requires
 is-shut-requires c κs = narrow-load _ _ (λ j. c .before .before .before .before .before .shared-slice-known .given j .fits) (c .before .before .before .before .load .ensures)
 
 is-priced-requires : tie.Need-is-priced-requires
-is-priced-requires c κs = narrow-load _ _ (λ j. c .before .before .before .before .before .before .shared-slice-known .given j .fits) (c .before .before .before .before .before .load .ensures)
+is-priced-requires c κs = (narrow-load _ _ (λ j. c .before .before .before .before .before .before .shared-slice-known .given j .fits) (c .before .before .before .before .before .load .ensures), search needs)
 
 returns : tie.Need-returns
 returns c = search (needs, order-is)

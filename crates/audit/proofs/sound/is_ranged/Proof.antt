@@ -1,8 +1,11 @@
 -- `audit::is_ranged` meets its contract.
-use borrow.Author.Needs.{needs}
 use Rattle.audit.proofs.Amounts.{ranged-is}
+use borrow.Author.Needs.{needs}
 use Rattle.audit.proofs.sound.is_ranged.Statement.{statement}
 use Rattle.audit.proofs.sound.is_ranged.Tie as tie
+
+is-side-requires : tie.Need-is-side-requires
+is-side-requires c κs = search needs
 
 is-immediate-requires : tie.Need-is-immediate-requires
 is-immediate-requires c κs = search needs
@@ -14,4 +17,10 @@ returns : tie.Need-returns
 returns c = search (needs, ranged-is)
 
 pub is-ranged-spec : {M : Type 1} → statement M
-is-ranged-spec = tie.close (tie.spec is-immediate-requires may-minimum-requires returns)
+is-ranged-spec =
+    tie.close
+    (tie.spec
+    is-side-requires
+    is-immediate-requires
+    may-minimum-requires
+    returns)

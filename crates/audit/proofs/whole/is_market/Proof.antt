@@ -7,6 +7,9 @@ use Rattle.audit.proofs.whole.is_market.Tie as tie
 returns : tie.Need-returns
 returns c = not-long _ (c .if1 .taken)
 
+instrument-requires : tie.Need-instrument-requires
+instrument-requires c κs = search needs
+
 entries-requires : tie.Need-entries-requires
 entries-requires c κs = search needs
 
@@ -22,8 +25,8 @@ has-next-requires c κs = search needs
 has-work-requires : tie.Need-has-work-requires
 has-work-requires c κs = search needs
 
-has-spare-requires : tie.Need-has-spare-requires
-has-spare-requires c κs = search needs
+has-kind-requires : tie.Need-has-kind-requires
+has-kind-requires c κs = search needs
 
 add-rest-zero : tie.Need-add-rest-zero
 add-rest-zero c = search needs
@@ -54,12 +57,13 @@ is-market-spec =
     tie.close
     (tie.spec
     returns
+    instrument-requires
     entries-requires
     filled-requires
     has-settings-requires
     has-next-requires
     has-work-requires
-    has-spare-requires
+    has-kind-requires
     add-rest-zero
     mul-rest-zero
     rest-zero-requires

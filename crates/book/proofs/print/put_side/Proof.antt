@@ -7,10 +7,10 @@ use Rattle.book.proofs.print.put_side.Statement.{statement}
 use Rattle.book.proofs.print.put_side.Tie as tie
 
 abbrev Inv-loop : tie.InvT-loop
-Inv-loop t n out₀ at side next₀ x₀ k₀ out next x k = Going t n out₀ at side out next x k
+Inv-loop q t n out₀ at side next₀ x₀ k₀ out next x k = Going q t n out₀ at side out next x k
 
 abbrev μ-loop : tie.MeasureT-loop
-μ-loop t n out₀ at side next₀ x₀ k₀ out next x k = n - k
+μ-loop q t n out₀ at side next₀ x₀ k₀ out next x k = n - k
 
 next-level-requires : tie.Need-next-level-requires Inv-loop μ-loop
 next-level-requires c κs = search needs

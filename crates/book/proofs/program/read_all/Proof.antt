@@ -6,10 +6,10 @@ use Rattle.book.proofs.program.read_all.Statement.{statement}
 use Rattle.book.proofs.program.read_all.Tie as tie
 
 abbrev Inv-loop : tie.InvT-loop
-Inv-loop t₀ line₀ area₀ held₀ turns₀ t line area held turns = Sofar t₀ line₀ t line area held
+Inv-loop q t₀ line₀ area₀ held₀ turns₀ t line area held turns = Sofar q t₀ line₀ t line area held
 
 abbrev μ-loop : tie.MeasureT-loop
-μ-loop t₀ line₀ area₀ held₀ turns₀ t line area held turns = turns
+μ-loop q t₀ line₀ area₀ held₀ turns₀ t line area held turns = turns
 
 loop-holds : tie.Need-loop-holds Inv-loop μ-loop
 loop-holds c = search (needs, sofar-none)

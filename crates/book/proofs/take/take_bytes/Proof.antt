@@ -8,10 +8,10 @@ use Rattle.book.proofs.take.take_bytes.Statement.{statement}
 use Rattle.book.proofs.take.take_bytes.Tie as tie
 
 abbrev Inv-loop : tie.InvT-loop
-Inv-loop t₀ line₀ held area₀ part n₀ i₀ t line area n i = Going t₀ line₀ held part t line area n i
+Inv-loop q t₀ line₀ held area₀ part n₀ i₀ t line area n i = Going q t₀ line₀ held part t line area n i
 
 abbrev μ-loop : tie.MeasureT-loop
-μ-loop t₀ line₀ held area₀ part n₀ i₀ t line area n i = length part - i
+μ-loop q t₀ line₀ held area₀ part n₀ i₀ t line area n i = length part - i
 
 loop-holds : tie.Need-loop-holds Inv-loop μ-loop
 loop-holds c = search (needs, going-none)

@@ -57,11 +57,11 @@ enum-told-2 c = search needs
 returns-4 : tie.Need-returns-4
 returns-4 c = search (needs, amount-part)
 
-mul-t19 : tie.Need-mul-t19
-mul-t19 c = search (needs, whole-fits)
+mul-t20 : tie.Need-mul-t20
+mul-t20 c = search (needs, whole-fits)
 
-add-t20 : tie.Need-add-t20
-add-t20 c = search (needs, part-fits)
+add-t21 : tie.Need-add-t21
+add-t21 c = search (needs, part-fits)
 
 returns-5 : tie.Need-returns-5
 returns-5 c = search (needs, amount-yes)
@@ -87,6 +87,6 @@ read-amount-spec =
     enum-known-part
     enum-told-2
     returns-4
-    mul-t19
-    add-t20
+    mul-t20
+    add-t21
     returns-5)

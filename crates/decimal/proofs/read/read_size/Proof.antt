@@ -1,4 +1,4 @@
--- 1 to 6 digits, and the thousandths behind them.
+-- 1 to `most` digits, and what stands behind them.
 use denote.Ref.{now}
 use Rattle.decimal.proofs.Numbers.{run-digits}
 use Rattle.decimal.proofs.Yields.{run-in, run-count, whole-fits, sum-fits, size-short, size-long, size-is, size-wrong}
@@ -36,11 +36,11 @@ slice-aggregate-number c = search (needs, run-count)
 number-requires : tie.Need-number-requires
 number-requires c κs = let k = c .before .before .before .before .before .before .before .before in run-digits (now (k .before .before .args .s)) (k .digit-run .result) (k .digit-run .ensures) (search needs)
 
-mul-t14 : tie.Need-mul-t14
-mul-t14 c = search (needs, whole-fits)
+mul-t17 : tie.Need-mul-t17
+mul-t17 c = search (needs, whole-fits)
 
-add-t15 : tie.Need-add-t15
-add-t15 c = search (needs, sum-fits)
+add-t18 : tie.Need-add-t18
+add-t18 c = search (needs, sum-fits)
 
 enum-told : tie.Need-enum-told
 enum-told c = search needs
@@ -65,8 +65,8 @@ read-size-spec =
     enum-known-f
     slice-aggregate-number
     number-requires
-    mul-t14
-    add-t15
+    mul-t17
+    add-t18
     enum-told
     returns-3
     returns-4)

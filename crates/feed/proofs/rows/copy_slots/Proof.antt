@@ -7,10 +7,10 @@ use Rattle.feed.proofs.rows.copy_slots.Statement.{statement}
 use Rattle.feed.proofs.rows.copy_slots.Tie as tie
 
 abbrev Inv-loop : tie.InvT-loop
-Inv-loop all₀ held₀ behind₀ i₀ all held behind i = Weaving (λ s. s .tag) copySlot slot797 all₀ all held behind i
+Inv-loop q all₀ held₀ behind₀ i₀ all held behind i = Weaving (λ s. s .tag) (copySlot q) slot797 all₀ all held behind i
 
 abbrev μ-loop : tie.MeasureT-loop
-μ-loop all₀ held₀ behind₀ i₀ all held behind i = 35 - i
+μ-loop q all₀ held₀ behind₀ i₀ all held behind i = 35 - i
 
 loop-holds : tie.Need-loop-holds Inv-loop μ-loop
 loop-holds c = weave-first _ _ _ _ (search needs)

@@ -4,6 +4,9 @@ use Rattle.feed.proofs.Clients.{client-port, client-group, client-short
 use Rattle.feed.proofs.settings.is_client.Statement.{statement}
 use Rattle.feed.proofs.settings.is_client.Tie as tie
 
+longest-requires : tie.Need-longest-requires
+longest-requires c κs = search needs
+
 is-identifier-requires : tie.Need-is-identifier-requires
 is-identifier-requires c κs = search needs
 
@@ -38,6 +41,7 @@ pub is-client-spec : {M : Type 1} → statement M
 is-client-spec =
     tie.close
     (tie.spec
+    longest-requires
     is-identifier-requires
     returns
     is-identifier-requires-2

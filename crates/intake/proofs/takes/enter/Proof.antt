@@ -27,7 +27,7 @@ raise-and-work-requires : tie.Need-raise-and-work-requires
 raise-and-work-requires c κs =
     let wrote = c .before .before .before .before .before .before .before .before .before in
     let p = wrote .before .before .before .before .before .before .before .before .before .before .pre in (
-      accepted-long _ _ _ _ _ _ _ _ _ (p .0 .market .long) (wrote .write-new .ensures),
+      accepted-long _ _ _ _ _ _ _ _ (p .0 .market .long) (wrote .write-new .ensures),
       search needs,
       new-stamp-short _ _ _ (p .0),
     )

@@ -1,15 +1,9 @@
 -- `intake::takes::write_new` meets its contract.
-use Rattle.intake.proofs.Doing.{capacity-fits, class-fits, new-id-short, account-short, side-small, tif-small}
+use Rattle.intake.proofs.Doing.{marks-small, new-id-short, account-short, side-small, tif-small}
 use Rattle.intake.proofs.Leaving.{written-new}
 use borrow.Author.Needs.{needs}
 use Rattle.intake.proofs.takes.write_new.Statement.{statement}
 use Rattle.intake.proofs.takes.write_new.Tie as tie
-
-cast-capacity : tie.Need-cast-capacity
-cast-capacity c = search (needs, capacity-fits)
-
-cast-class : tie.Need-cast-class
-cast-class c = search (needs, class-fits)
 
 text-of-requires : tie.Need-text-of-requires
 text-of-requires c κs = search needs
@@ -18,7 +12,7 @@ text-of-requires-2 : tie.Need-text-of-requires-2
 text-of-requires-2 c κs = search needs
 
 accept-requires : tie.Need-accept-requires
-accept-requires c κs = (search needs, search needs, search (needs, new-id-short), search (needs, account-short), search (needs, side-small), search (needs, tif-small))
+accept-requires c κs = (search needs, search needs, search (needs, new-id-short), search (needs, account-short), search (needs, side-small), search (needs, tif-small), search (needs, marks-small))
 
 same-length : tie.Need-same-length
 same-length c = search needs
@@ -30,8 +24,6 @@ pub write-new-spec : {M : Type 1} → statement M
 write-new-spec =
     tie.close
     (tie.spec
-    cast-capacity
-    cast-class
     text-of-requires
     text-of-requires-2
     accept-requires

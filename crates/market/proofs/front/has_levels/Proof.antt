@@ -4,12 +4,6 @@ use borrow.Author.Needs.{needs}
 use Rattle.market.proofs.front.has_levels.Statement.{statement}
 use Rattle.market.proofs.front.has_levels.Tie as tie
 
-best-at-requires : tie.Need-best-at-requires
-best-at-requires c κs = search needs
-
-best-at-requires-2 : tie.Need-best-at-requires-2
-best-at-requires-2 c κs = search needs
-
 work-requires : tie.Need-work-requires
 work-requires c κs = search needs
 
@@ -35,8 +29,6 @@ pub has-levels-spec : {M : Type 1} → statement M
 has-levels-spec =
     tie.close
     (tie.spec
-    best-at-requires
-    best-at-requires-2
     work-requires
     is-best-requires
     is-best-requires-2

@@ -13,6 +13,9 @@ returns c = search (needs, best-none)
 returns-2 : tie.Need-returns-2
 returns-2 c = search (needs, best-many)
 
+highest-requires : tie.Need-highest-requires
+highest-requires c κs = search needs
+
 mul-result : tie.Need-mul-result
 mul-result c = search needs
 
@@ -20,4 +23,4 @@ returns-3 : tie.Need-returns-3
 returns-3 c = search (needs, best-level)
 
 pub is-best-spec : {M : Type 1} → statement M
-is-best-spec = tie.close (tie.spec is-none-requires returns returns-2 mul-result returns-3)
+is-best-spec = tie.close (tie.spec is-none-requires returns returns-2 highest-requires mul-result returns-3)

@@ -49,25 +49,25 @@ enum-told-8 : tie.Need-enum-told-8
 enum-told-8 c = search needs
 
 returns : tie.Need-returns
-returns c = search needs
+returns c = rw (c .before .enum-told .given .1) (c .accepted-slots .ensures)
 
 returns-2 : tie.Need-returns-2
-returns-2 c = search needs
+returns-2 c = rw (c .before .enum-told2 .given .1) (c .replaced-slots .ensures)
 
 returns-3 : tie.Need-returns-3
-returns-3 c = search needs
+returns-3 c = rw (c .before .enum-told3 .given .1) (c .canceled-slots .ensures)
 
 returns-4 : tie.Need-returns-4
-returns-4 c = search needs
+returns-4 c = rw (c .before .enum-told4 .given .1) (c .trade-slots .ensures)
 
 returns-5 : tie.Need-returns-5
-returns-5 c = search needs
+returns-5 c = rw (c .before .enum-told5 .given .1) (c .rejected-slots .ensures)
 
 returns-6 : tie.Need-returns-6
-returns-6 c = search needs
+returns-6 c = rw (c .before .enum-told6 .given .1) (c .cancel-reject-slots .ensures)
 
 returns-7 : tie.Need-returns-7
-returns-7 c = search needs
+returns-7 c = rw (c .before .enum-told7 .given .1) (c .session-reject-slots .ensures)
 
 returns-8 : tie.Need-returns-8
 returns-8 c = rw (c .enum-told8 .given .1)

@@ -1,12 +1,42 @@
 -- `slots::trade_slots` is the table of specs/Slots.
-use mathlib.Core.Path.{refl}
+use borrow.Author.Needs.{needs}
 use Rattle.report.specs.Slots.{tradeSlots}
 use Rattle.report.proofs.slots.trade_slots.Statement.{statement}
 use Rattle.report.proofs.slots.trade_slots.Tie as tie
 
+sender-sub-id-requires : tie.Need-sender-sub-id-requires
+sender-sub-id-requires c κs = search needs
+
+avg-px-requires : tie.Need-avg-px-requires
+avg-px-requires c κs = search needs
+
+quoted-requires : tie.Need-quoted-requires
+quoted-requires c κs = search needs
+
+quoted-requires-2 : tie.Need-quoted-requires-2
+quoted-requires-2 c κs = search needs
+
+side-requires : tie.Need-side-requires
+side-requires c κs = search needs
+
+symbol-requires : tie.Need-symbol-requires
+symbol-requires c κs = search needs
+
+other-requires : tie.Need-other-requires
+other-requires c κs = search needs
+
+count-requires : tie.Need-count-requires
+count-requires c κs = search needs
+
+own-requires : tie.Need-own-requires
+own-requires c κs = search needs
+
+last-requires : tie.Need-last-requires
+last-requires c κs = search needs
+
 returns : tie.Need-returns
 unfolding tradeSlots
-returns c = refl
+returns c = simp (c .last .ensures, c .before .own .ensures, c .before .before .count .ensures, c .before .before .before .other .ensures, c .before .before .before .before .symbol .ensures, c .before .before .before .before .before .side .ensures, c .before .before .before .before .before .before .quoted2 .ensures, c .before .before .before .before .before .before .before .quoted .ensures, c .before .before .before .before .before .before .before .before .avg-px .ensures, c .before .before .before .before .before .before .before .before .before .sender-sub-id .ensures)
 
 pub trade-slots-spec : {M : Type 1} → statement M
-trade-slots-spec = tie.close (tie.spec returns)
+trade-slots-spec = tie.close (tie.spec sender-sub-id-requires avg-px-requires quoted-requires quoted-requires-2 side-requires symbol-requires other-requires count-requires own-requires last-requires returns)

@@ -1,6 +1,6 @@
 -- `values::pick_value` meets its contract, by the shape.
 use mathlib.Core.Path.{ap, _∙_}
-use Rattle.report.specs.Shapes.{numberIn, listedIn, placeIn, yieldIn, averageIn}
+use Rattle.report.specs.Shapes.{numberIn, listedIn, placeIn, quoteIn, averageIn}
 use borrow.Author.Needs.{needs}
 use Rattle.report.proofs.values.pick_value.Statement.{statement}
 use Rattle.report.proofs.values.pick_value.Tie as tie
@@ -65,17 +65,17 @@ enum-told-4 c = search needs
 pick-time-requires : tie.Need-pick-time-requires
 pick-time-requires c κs = search needs
 
-enum-told-5 : tie.Need-enum-told-5
-enum-told-5 c = search needs
+enum-known-shape-6 : tie.Need-enum-known-shape-6
+enum-known-shape-6 c = search needs
 
 read-level-requires : tie.Need-read-level-requires
 read-level-requires c κs = search needs
 
-pick-yield-requires : tie.Need-pick-yield-requires
-pick-yield-requires c κs = search needs
+pick-quote-requires : tie.Need-pick-quote-requires
+pick-quote-requires c κs = search needs
 
-enum-told-6 : tie.Need-enum-told-6
-enum-told-6 c = search needs
+enum-known-shape-7 : tie.Need-enum-known-shape-7
+enum-known-shape-7 c = search needs
 
 read-mean-requires : tie.Need-read-mean-requires
 read-mean-requires c κs = search needs
@@ -111,10 +111,10 @@ returns-9 : tie.Need-returns-9
 returns-9 c = rw (c .before .enum-told4 .given .1) (c .pick-time .ensures)
 
 returns-10 : tie.Need-returns-10
-returns-10 c = rw (c .before .before .enum-told5 .given .1) (c .pick-yield .ensures ∙ ap yieldIn (c .before .read-level .ensures))
+returns-10 c = rw (c .before .before .before .shape6 .given .1) (c .pick-quote .ensures ∙ ap (quoteIn _) (c .before .read-level .ensures))
 
 returns-11 : tie.Need-returns-11
-returns-11 c = rw (c .before .before .enum-told6 .given .1) (c .pick-average .ensures ∙ ap averageIn (c .before .read-mean .ensures))
+returns-11 c = rw (c .before .before .before .shape7 .given .1) (c .pick-average .ensures ∙ ap (averageIn _) (c .before .read-mean .ensures))
 
 pub pick-value-spec : {M : Type 1} → statement M
 pick-value-spec =
@@ -140,10 +140,10 @@ pick-value-spec =
     pick-place-requires
     enum-told-4
     pick-time-requires
-    enum-told-5
+    enum-known-shape-6
     read-level-requires
-    pick-yield-requires
-    enum-told-6
+    pick-quote-requires
+    enum-known-shape-7
     read-mean-requires
     pick-average-requires
     returns

@@ -22,8 +22,8 @@ put-byte-requires c κs = rw (c .before .before .value2 .given .1) at (c .before
 enum-known-value-3 : tie.Need-enum-known-value-3
 enum-known-value-3 c = search needs
 
-put-four-requires : tie.Need-put-four-requires
-put-four-requires c κs = rw (c .before .before .value3 .given .1) at (c .before .before .before .before .before .before .before .pre)
+put-word-requires : tie.Need-put-word-requires
+put-word-requires c κs = rw (c .before .before .value3 .given .1) at (c .before .before .before .before .before .before .before .pre)
 
 enum-known-value-4 : tie.Need-enum-known-value-4
 enum-known-value-4 c = search needs
@@ -74,7 +74,7 @@ same-length-3 : tie.Need-same-length-3
 same-length-3 c = search needs
 
 returns-4 : tie.Need-returns-4
-returns-4 c = rw (c .before .before .before .before .before .value3 .given .1) (c .before .before .put-four .ensures)
+returns-4 c = rw (c .before .before .before .before .before .value3 .given .1) (c .before .before .put-word .ensures)
 
 same-length-4 : tie.Need-same-length-4
 same-length-4 c = search needs
@@ -110,7 +110,7 @@ put-value-spec =
     enum-known-value-2
     put-byte-requires
     enum-known-value-3
-    put-four-requires
+    put-word-requires
     enum-known-value-4
     part-at-requires
     copy-into-requires

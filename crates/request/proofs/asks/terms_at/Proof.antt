@@ -28,6 +28,12 @@ in-row-requires-7 c κs = search needs
 in-row-requires-8 : tie.Need-in-row-requires-8
 in-row-requires-8 c κs = search needs
 
+in-row-requires-9 : tie.Need-in-row-requires-9
+in-row-requires-9 c κs = search needs
+
+in-row-requires-10 : tie.Need-in-row-requires-10
+in-row-requires-10 c κs = search needs
+
 returns : tie.Need-returns
 unfolding termsRow
 returns c = cc
@@ -44,4 +50,6 @@ terms-at-spec =
     in-row-requires-6
     in-row-requires-7
     in-row-requires-8
+    in-row-requires-9
+    in-row-requires-10
     returns)

@@ -7,10 +7,10 @@ use Rattle.request.proofs.body.gather.Statement.{statement}
 use Rattle.request.proofs.body.gather.Tie as tie
 
 abbrev Inv-loop : tie.InvT-loop
-Inv-loop kind b from row says₀ lens₀ c₀ says lens c = Seated kind b row from (c .number) says lens
+Inv-loop q kind b from row says₀ lens₀ c₀ says lens c = Seated q kind b row from (c .number) says lens
 
 abbrev μ-loop : tie.MeasureT-loop
-μ-loop kind b from row says₀ lens₀ c₀ says lens c = 341 - c .number
+μ-loop q kind b from row says₀ lens₀ c₀ says lens c = 341 - c .number
 
 loop-holds : tie.Need-loop-holds Inv-loop μ-loop
 loop-holds c = search (needs, gather-start)

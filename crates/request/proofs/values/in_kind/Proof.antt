@@ -1,5 +1,5 @@
 -- The table of each type.
-use Rattle.request.proofs.Gathering.{by-kind, unknown-none}
+use Rattle.request.proofs.Gathering.{by-kind, by-each, unknown-none}
 use borrow.Author.Needs.{needs}
 use Rattle.request.proofs.values.in_kind.Statement.{statement}
 use Rattle.request.proofs.values.in_kind.Tie as tie
@@ -29,10 +29,10 @@ returns : tie.Need-returns
 returns c = search (needs, by-kind)
 
 returns-2 : tie.Need-returns-2
-returns-2 c = search (needs, by-kind)
+returns-2 c = search (needs, by-each)
 
 returns-3 : tie.Need-returns-3
-returns-3 c = search (needs, by-kind)
+returns-3 c = search (needs, by-each)
 
 returns-4 : tie.Need-returns-4
 returns-4 c = search (needs, unknown-none)

@@ -1,5 +1,5 @@
 -- The tables of the three types.
-use Rattle.request.specs.Session.{listed}
+use Rattle.request.proofs.Gathering.{some-is}
 use borrow.Author.Needs.{needs}
 use Rattle.request.proofs.values.in_some.Statement.{statement}
 use Rattle.request.proofs.values.in_some.Tie as tie
@@ -14,8 +14,7 @@ in-cancel-requires : tie.Need-in-cancel-requires
 in-cancel-requires c κs = search needs
 
 returns : tie.Need-returns
-unfolding listed
-returns c = cc
+returns c = search (needs, some-is)
 
 pub in-some-spec : {M : Type 1} → statement M
 in-some-spec =

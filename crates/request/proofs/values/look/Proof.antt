@@ -15,8 +15,8 @@ text-requires-2 c κs = search needs
 text-requires-3 : tie.Need-text-requires-3
 text-requires-3 c κs = search needs
 
-digits-requires : tie.Need-digits-requires
-digits-requires c κs = search needs
+code-requires : tie.Need-code-requires
+code-requires c κs = search needs
 
 amount-requires : tie.Need-amount-requires
 amount-requires c κs = search needs
@@ -51,6 +51,9 @@ slice-aggregate-among-3 c = search needs
 among-requires-3 : tie.Need-among-requires-3
 among-requires-3 c κs = search needs
 
+side-requires : tie.Need-side-requires
+side-requires c κs = search needs
+
 slice-aggregate-among-4 : tie.Need-slice-aggregate-among-4
 slice-aggregate-among-4 c = search needs
 
@@ -63,11 +66,11 @@ slice-aggregate-among-5 c = search needs
 among-requires-5 : tie.Need-among-requires-5
 among-requires-5 c κs = search needs
 
-slice-aggregate-among-6 : tie.Need-slice-aggregate-among-6
-slice-aggregate-among-6 c = search needs
+cash-requires : tie.Need-cash-requires
+cash-requires c κs = search needs
 
-among-requires-6 : tie.Need-among-requires-6
-among-requires-6 c κs = search needs
+margin-requires : tie.Need-margin-requires
+margin-requires c κs = search needs
 
 returns : tie.Need-returns
 unfolding shapeOf oneOf
@@ -83,7 +86,7 @@ returns-3 c = rw (c .before .match .keys3) (c .text3 .ensures)
 
 returns-4 : tie.Need-returns-4
 unfolding shapeOf oneOf
-returns-4 c = rw (c .before .match .keys4) (c .digits .ensures)
+returns-4 c = rw (c .before .match .keys4) (c .code .ensures)
 
 returns-5 : tie.Need-returns-5
 unfolding shapeOf oneOf
@@ -119,20 +122,47 @@ returns-12 c = rw (c .before .before .match .keys12) (c .among3 .ensures)
 
 returns-13 : tie.Need-returns-13
 unfolding shapeOf oneOf
-returns-13 c = rw (c .before .before .match .keys13) (c .among4 .ensures)
+returns-13 c = rw (c .before .match .keys13) (c .side .ensures)
 
 returns-14 : tie.Need-returns-14
 unfolding shapeOf oneOf
-returns-14 c = rw (c .before .before .match .keys14) (c .among5 .ensures)
+returns-14 c = rw (c .before .before .match .keys14) (c .among4 .ensures)
 
 returns-15 : tie.Need-returns-15
 unfolding shapeOf oneOf
-returns-15 c = rw (c .before .before .match .keys15) (c .among6 .ensures)
+returns-15 c = rw (c .before .before .match .keys15) (c .among5 .ensures)
 
 returns-16 : tie.Need-returns-16
+unfolding shapeOf oneOf
+returns-16 c = rw (c .before .match .keys16) (c .cash .ensures)
+
+returns-17 : tie.Need-returns-17
+unfolding shapeOf oneOf
+returns-17 c = rw (c .before .match .keys17) (c .margin .ensures)
+
+returns-18 : tie.Need-returns-18
 unfolding shapeOf lookAs oneOf
-returns-16 c = let t = c .before .before .args .tag in
-    rw (ne-eqb t 1 (c .match .rest .0 .0 .0 .0 .0 .0 .0 .0 .0 .0 .0 .0 .0 .0 .1), ne-eqb t 11 (c .match .rest .0 .0 .0 .0 .0 .0 .0 .0 .0 .0 .0 .0 .0 .1), ne-eqb t 41 (c .match .rest .0 .0 .0 .0 .0 .0 .0 .0 .0 .0 .0 .0 .1), ne-eqb t 55 (c .match .rest .0 .0 .0 .0 .0 .0 .0 .0 .0 .0 .0 .1), ne-eqb t 38 (c .match .rest .0 .0 .0 .0 .0 .0 .0 .0 .0 .0 .1), ne-eqb t 110 (c .match .rest .0 .0 .0 .0 .0 .0 .0 .0 .0 .1), ne-eqb t 109 (c .match .rest .0 .0 .0 .0 .0 .0 .0 .0 .1), ne-eqb t 44 (c .match .rest .0 .0 .0 .0 .0 .0 .0 .1), ne-eqb t 60 (c .match .rest .0 .0 .0 .0 .0 .0 .1), ne-eqb t 21 (c .match .rest .0 .0 .0 .0 .0 .1), ne-eqb t 40 (c .match .rest .0 .0 .0 .0 .1), ne-eqb t 47 (c .match .rest .0 .0 .0 .1), ne-eqb t 54 (c .match .rest .0 .0 .1), ne-eqb t 59 (c .match .rest .0 .1), ne-eqb t 8060 (c .match .rest .1))
+returns-18 c =
+    let t = c .before .before .args .tag in
+    rw (
+      ne-eqb t 1 (c .match .rest .0 .0 .0 .0 .0 .0 .0 .0 .0 .0 .0 .0 .0 .0 .0 .0 .1),
+      ne-eqb t 11 (c .match .rest .0 .0 .0 .0 .0 .0 .0 .0 .0 .0 .0 .0 .0 .0 .0 .1),
+      ne-eqb t 41 (c .match .rest .0 .0 .0 .0 .0 .0 .0 .0 .0 .0 .0 .0 .0 .0 .1),
+      ne-eqb t 55 (c .match .rest .0 .0 .0 .0 .0 .0 .0 .0 .0 .0 .0 .0 .0 .1),
+      ne-eqb t 38 (c .match .rest .0 .0 .0 .0 .0 .0 .0 .0 .0 .0 .0 .0 .1),
+      ne-eqb t 110 (c .match .rest .0 .0 .0 .0 .0 .0 .0 .0 .0 .0 .0 .1),
+      ne-eqb t 109 (c .match .rest .0 .0 .0 .0 .0 .0 .0 .0 .0 .0 .1),
+      ne-eqb t 44 (c .match .rest .0 .0 .0 .0 .0 .0 .0 .0 .0 .1),
+      ne-eqb t 60 (c .match .rest .0 .0 .0 .0 .0 .0 .0 .0 .1),
+      ne-eqb t 21 (c .match .rest .0 .0 .0 .0 .0 .0 .0 .1),
+      ne-eqb t 40 (c .match .rest .0 .0 .0 .0 .0 .0 .1),
+      ne-eqb t 47 (c .match .rest .0 .0 .0 .0 .0 .1),
+      ne-eqb t 54 (c .match .rest .0 .0 .0 .0 .1),
+      ne-eqb t 59 (c .match .rest .0 .0 .0 .1),
+      ne-eqb t 8060 (c .match .rest .0 .0 .1),
+      ne-eqb t 544 (c .match .rest .0 .1),
+      ne-eqb t 8214 (c .match .rest .1),
+    )
 
 pub look-spec : {M : Type 1} → statement M
 look-spec =
@@ -141,7 +171,7 @@ look-spec =
     text-requires
     text-requires-2
     text-requires-3
-    digits-requires
+    code-requires
     amount-requires
     amount-requires-2
     amount-requires-3
@@ -153,12 +183,13 @@ look-spec =
     among-requires-2
     slice-aggregate-among-3
     among-requires-3
+    side-requires
     slice-aggregate-among-4
     among-requires-4
     slice-aggregate-among-5
     among-requires-5
-    slice-aggregate-among-6
-    among-requires-6
+    cash-requires
+    margin-requires
     returns
     returns-2
     returns-3
@@ -174,4 +205,6 @@ look-spec =
     returns-13
     returns-14
     returns-15
-    returns-16)
+    returns-16
+    returns-17
+    returns-18)

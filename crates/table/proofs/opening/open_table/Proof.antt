@@ -16,7 +16,7 @@ returns-2 : tie.Need-returns-2
 returns-2 c =
     let e = c .before .are-settings .ensures in
     let z = not-true _ (c .if2 .taken) in
-    (answer-wrong _ _ _ _ _ _ _ _ e z, table-wrong _ _ _ _ _ _ _ _ e z)
+    (answer-wrong _ _ _ _ _ _ _ _ _ e z, table-wrong _ _ _ _ _ _ _ _ _ e z)
 
 write-fresh-requires : tie.Need-write-fresh-requires
 write-fresh-requires c κs = (search needs, sym (c .before .before .are-settings .ensures) ∙ not-false _ (c .before .if2 .left))
@@ -29,7 +29,7 @@ returns-3 c =
     let q = c .before .before .before .before in
     let z = sym (q .before .are-settings .ensures) ∙ not-false _ (q .if2 .left) in
     let l = q .before .before .if1 .left in
-    (answer-right _ _ _ _ _ _ _ l z, table-right _ _ _ _ _ _ _ _ l z (c .before .before .write-fresh .ensures))
+    (answer-right _ _ _ _ _ _ _ _ l z, table-right _ _ _ _ _ _ _ _ _ l z (c .before .before .write-fresh .ensures))
 
 pub open-table-spec : {M : Type 1} → statement M
 open-table-spec =

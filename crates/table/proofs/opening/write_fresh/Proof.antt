@@ -1,5 +1,5 @@
--- `table::opening::write_fresh` meets its contract: the names, the first number, the lists.
-use Rattle.table.proofs.Settings.{settings-names, settings-given, given-few, modes-few, modes-small, fresh-written}
+-- `table::opening::write_fresh` meets its contract: the names, the first number, the kind, the lists.
+use Rattle.table.proofs.Settings.{settings-names, settings-given, fresh-written}
 use borrow.Author.Needs.{needs}
 use Rattle.table.proofs.opening.write_fresh.Statement.{statement}
 use Rattle.table.proofs.opening.write_fresh.Tie as tie
@@ -10,11 +10,11 @@ write-names-requires c κs = (search needs, search (needs, settings-names))
 put-next-requires : tie.Need-put-next-requires
 put-next-requires c κs = search needs
 
-put-mpids-requires : tie.Need-put-mpids-requires
-put-mpids-requires c κs = (search needs, search (needs, given-few, settings-given))
+put-kind-requires : tie.Need-put-kind-requires
+put-kind-requires c κs = search needs
 
-put-modes-requires : tie.Need-put-modes-requires
-put-modes-requires c κs = (search needs, search (needs, modes-few, settings-given), modes-small _ _ (settings-given _ _ _ _ _ _ (c .before .before .before .before .before .before .before .before .before .before .before .before .before .before .before .before .before .before .before .pre .1)))
+write-lists-requires : tie.Need-write-lists-requires
+write-lists-requires c κs = (search needs, search (needs, settings-given))
 
 same-length : tie.Need-same-length
 same-length c = search needs
@@ -28,7 +28,7 @@ write-fresh-spec =
     (tie.spec
     write-names-requires
     put-next-requires
-    put-mpids-requires
-    put-modes-requires
+    put-kind-requires
+    write-lists-requires
     same-length
     returns)

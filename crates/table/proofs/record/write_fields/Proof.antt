@@ -4,14 +4,8 @@ use borrow.Author.Needs.{needs}
 use Rattle.table.proofs.record.write_fields.Statement.{statement}
 use Rattle.table.proofs.record.write_fields.Tie as tie
 
-cast-write-four : tie.Need-cast-write-four
-cast-write-four c = search needs
-
-cast-write-four-2 : tie.Need-cast-write-four-2
-cast-write-four-2 c = search needs
-
-write-four-requires : tie.Need-write-four-requires
-write-four-requires c κs = search needs
+write-first-requires : tie.Need-write-first-requires
+write-first-requires c κs = search needs
 
 add-write-terms : tie.Need-add-write-terms
 add-write-terms c = search needs
@@ -41,9 +35,7 @@ pub write-fields-spec : {M : Type 1} → statement M
 write-fields-spec =
     tie.close
     (tie.spec
-    cast-write-four
-    cast-write-four-2
-    write-four-requires
+    write-first-requires
     add-write-terms
     write-terms-requires
     add-put-le

@@ -1,4 +1,4 @@
--- `table::record::write_tail` meets its contract: the amounts, the OrderID, MinQty, then zeros.
+-- `table::record::write_tail` meets its contract: the amounts, the OrderID, MinQty, then the end.
 use Rattle.table.proofs.Writes.{tail-written}
 use borrow.Author.Needs.{needs}
 use Rattle.table.proofs.record.write_tail.Statement.{statement}
@@ -19,11 +19,11 @@ add-put-le-2 c = search needs
 put-le-requires-2 : tie.Need-put-le-requires-2
 put-le-requires-2 c κs = search needs
 
-add-put-zeros : tie.Need-add-put-zeros
-add-put-zeros c = search needs
+add-write-end : tie.Need-add-write-end
+add-write-end c = search needs
 
-put-zeros-requires : tie.Need-put-zeros-requires
-put-zeros-requires c κs = search needs
+write-end-requires : tie.Need-write-end-requires
+write-end-requires c κs = search needs
 
 same-length : tie.Need-same-length
 same-length c = search needs
@@ -40,7 +40,7 @@ write-tail-spec =
     put-le-requires
     add-put-le-2
     put-le-requires-2
-    add-put-zeros
-    put-zeros-requires
+    add-write-end
+    write-end-requires
     same-length
     returns)

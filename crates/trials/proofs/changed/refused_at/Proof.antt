@@ -8,10 +8,10 @@ use Rattle.trials.proofs.changed.refused_at.Statement.{statement}
 use Rattle.trials.proofs.changed.refused_at.Tie as tie
 
 abbrev Inv-loop : tie.InvT-loop
-Inv-loop s again i k₀ b₀ k b = (b ≤ 256) × (k ≡ refusedAt again s i b) × (k ≤ b)
+Inv-loop q s again i k₀ b₀ k b = (b ≤ 256) × (k ≡ refusedAt q again s i b) × (k ≤ b)
 
 abbrev μ-loop : tie.MeasureT-loop
-μ-loop s again i k₀ b₀ k b = 256 - b
+μ-loop q s again i k₀ b₀ k b = 256 - b
 
 loop-holds : tie.Need-loop-holds Inv-loop μ-loop
 loop-holds c = search (needs, at-first)

@@ -8,10 +8,10 @@ use Rattle.trials.proofs.changed.refused_in.Statement.{statement}
 use Rattle.trials.proofs.changed.refused_in.Tie as tie
 
 abbrev Inv-loop : tie.InvT-loop
-Inv-loop s again n k₀ i₀ k i = (i ≤ n) × (k ≡ refusedIn again s i) × (k ≤ 256 * i)
+Inv-loop q s again n k₀ i₀ k i = (i ≤ n) × (k ≡ refusedIn q again s i) × (k ≤ 256 * i)
 
 abbrev μ-loop : tie.MeasureT-loop
-μ-loop s again n k₀ i₀ k i = n - i
+μ-loop q s again n k₀ i₀ k i = n - i
 
 loop-holds : tie.Need-loop-holds Inv-loop μ-loop
 loop-holds c = search (needs, in-first)

@@ -26,7 +26,7 @@ refused-now-requires c κs =
     (omega (arith, e), omega (arith, e))
 
 returns : tie.Need-returns
-returns c = copy-same (c .before .before .before .before .copy-into .ensures) (search needs) _ _ _ _ (c .before .refused-now .ensures)
+returns c = copy-same (c .before .before .before .before .copy-into .ensures) (search needs) _ _ _ _ _ (c .before .refused-now .ensures)
 
 pub refused-with-spec : {M : Type 1} → statement M
 refused-with-spec =

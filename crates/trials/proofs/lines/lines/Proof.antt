@@ -6,10 +6,10 @@ use Rattle.trials.proofs.lines.lines.Statement.{statement}
 use Rattle.trials.proofs.lines.lines.Tie as tie
 
 abbrev Inv-loop : tie.InvT-loop
-Inv-loop s at₀ section₀ at section = Unit {0}
+Inv-loop s at₀ trial₀ at trial = Unit {0}
 
 abbrev μ-loop : tie.MeasureT-loop
-μ-loop s at₀ section₀ at section = length s - at
+μ-loop s at₀ trial₀ at trial = length s - at
 
 loop-holds : tie.Need-loop-holds Inv-loop μ-loop
 loop-holds c = search needs

@@ -12,7 +12,7 @@ accepted-row-requires c κs = search needs
 print-requires : tie.Need-print-requires
 print-requires c κs =
     let a = c .before .args in
-    fine-row _ (acceptedRow (a .s) (a .o)) (c .accepted-row .ensures) (λ m t. accepted-short m t (a .s) (a .o) (c .before .pre .0 .stamp-in m t) (c .before .pre .1 .shown-in m t))
+    fine-row _ (acceptedRow (a .s) (a .o)) (c .accepted-row .ensures) (λ m t. accepted-short m t (a .s) (a .o) (c .before .pre .0 .stamp-in m t) (rw (c .before .pre .0 .of-is) (c .before .pre .1 .shown-in m t)))
 
 returns : tie.Need-returns
 returns c = search needs

@@ -2,13 +2,13 @@
 use mathlib.Core.Path.{refl}
 use native.Mathlib.Omega.{arith}
 use lib.Dec.{lit≤, lit<}
-use Rattle.matching.specs.Matching.{openOf}
+use Rattle.matching.specs.Matching.{openOf, isSideOf}
 use Rattle.matching.specs.Held.{mayMinimum}
 use Rattle.trials.proofs.samples.buy.Statement.{statement}
 use Rattle.trials.proofs.samples.buy.Tie as tie
 
 returns : tie.Need-returns
-unfolding openOf mayMinimum
+unfolding openOf mayMinimum isSideOf
 returns c =
     let a = c .pre in (
       record {
@@ -26,6 +26,7 @@ returns c =
         place-low = lit< tt;
       },
       lit< tt,
+      record { side = refl; level = lit≤ tt; sum = a .sum-high },
     )
 
 pub buy-spec : {M : Type 1} → statement M

@@ -1,13 +1,13 @@
 -- `samples::kill` meets its contract: it is a sound order.
 use mathlib.Core.Path.{refl}
 use lib.Dec.{lit≤, lit<}
-use Rattle.matching.specs.Matching.{openOf}
+use Rattle.matching.specs.Matching.{openOf, isSideOf}
 use Rattle.matching.specs.Held.{mayMinimum}
 use Rattle.trials.proofs.samples.kill.Statement.{statement}
 use Rattle.trials.proofs.samples.kill.Tie as tie
 
 returns : tie.Need-returns
-unfolding openOf mayMinimum
+unfolding openOf mayMinimum isSideOf
 returns c = (
   record {
     sides = refl;
@@ -24,6 +24,7 @@ returns c = (
     place-low = lit< tt;
   },
   lit< tt,
+  record { side = refl; level = lit≤ tt; sum = lit≤ tt },
 )
 
 pub kill-spec : {M : Type 1} → statement M

@@ -12,7 +12,7 @@ rejected-row-requires c κs = search needs
 print-requires : tie.Need-print-requires
 print-requires c κs =
     let a = c .before .args in
-    fine-row _ (rejectedRow (a .s) (a .q)) (c .rejected-row .ensures) (λ m t. rejected-short m t (a .s) (a .q) (c .before .pre .0 .stamp-in m t) (c .before .pre .1))
+    fine-row _ (rejectedRow (a .s) (a .r)) (c .rejected-row .ensures) (λ m t. rejected-short m t (a .s) (a .r) (c .before .pre .0 .stamp-in m t) (c .before .pre .1))
 
 returns : tie.Need-returns
 returns c = search needs

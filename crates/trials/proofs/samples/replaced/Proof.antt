@@ -12,7 +12,7 @@ replaced-row-requires c κs = search needs
 print-requires : tie.Need-print-requires
 print-requires c κs =
     let a = c .before .args in
-    fine-row _ (replacedRow (a .s) (a .o) (a .w)) (c .replaced-row .ensures) (λ m t. replaced-short m t (a .s) (a .o) (a .w) (c .before .pre .0 .stamp-in m t) (c .before .pre .1 .shown-in m t) (c .before .pre .2 .ground-in m t))
+    fine-row _ (replacedRow (a .s) (a .o) (a .w)) (c .replaced-row .ensures) (λ m t. replaced-short m t (a .s) (a .o) (a .w) (c .before .pre .0 .stamp-in m t) (rw (c .before .pre .0 .of-is) (c .before .pre .1 .shown-in m t)) (c .before .pre .2 .ground-in m t))
 
 returns : tie.Need-returns
 returns c = search needs

@@ -2,13 +2,13 @@
 use mathlib.Core.Path.{refl}
 use native.Mathlib.Omega.{arith}
 use lib.Dec.{lit≤, lit<}
-use Rattle.matching.specs.Matching.{openOf}
+use Rattle.matching.specs.Matching.{openOf, isSideOf}
 use Rattle.matching.specs.Held.{mayMinimum}
 use Rattle.trials.proofs.samples.sell.Statement.{statement}
 use Rattle.trials.proofs.samples.sell.Tie as tie
 
 returns : tie.Need-returns
-unfolding openOf mayMinimum
+unfolding openOf mayMinimum isSideOf
 returns c =
     let a = c .pre .2 in (
       record {
@@ -26,6 +26,7 @@ returns c =
         place-low = lit< tt;
       },
       lit< tt,
+      record { side = refl; level = c .pre .1; sum = a .sum-high },
     )
 
 pub sell-spec : {M : Type 1} → statement M

@@ -12,7 +12,7 @@ trade-row-requires c κs = search needs
 print-requires : tie.Need-print-requires
 print-requires c κs =
     let a = c .before .args in
-    fine-row _ (tradeRow (a .s) (a .o) (a .f)) (c .trade-row .ensures) (λ m t. trade-short m t (a .s) (a .o) (a .f) (c .before .pre .0 .stamp-in m t) (c .before .pre .1 .shown-in m t) (c .before .pre .2))
+    fine-row _ (tradeRow (a .s) (a .o) (a .f)) (c .trade-row .ensures) (λ m t. trade-short m t (a .s) (a .o) (a .f) (c .before .pre .0 .stamp-in m t) (rw (c .before .pre .0 .of-is) (c .before .pre .1 .shown-in m t)) (rw (c .before .pre .0 .of-is) (c .before .pre .2)))
 
 returns : tie.Need-returns
 returns c = search needs

@@ -7,11 +7,11 @@ use Rattle.turns.proofs.call.run.Tie as tie
 returns : tie.Need-returns
 returns c =
     let s = c .before .before .before .args in
-    let w = run-no-room (s .table .now) (s .area .now) (s .budget) (c .if1 .taken) in
+    let w = run-no-room (s .q) (s .table .now) (s .area .now) (s .budget) (c .if1 .taken) in
     (w .answer, (w .table, w .bytes-in))
 
-is-market-requires : tie.Need-is-market-requires
-is-market-requires c κs = search needs
+is-market-of-requires : tie.Need-is-market-of-requires
+is-market-of-requires c κs = search needs
 
 same-length : tie.Need-same-length
 same-length c = search needs
@@ -19,7 +19,7 @@ same-length c = search needs
 returns-2 : tie.Need-returns-2
 returns-2 c =
     let s = c .before .before .before .before .before .before .args in
-    let w = run-no-market (s .table .now) (s .area .now) (s .budget) (c .before .before .before .if1 .left) _ (c .before .is-market .ensures) (c .if2 .taken) in
+    let w = run-no-market (s .q) (s .table .now) (s .area .now) (s .budget) (c .before .before .before .if1 .left) _ (c .before .is-market-of .ensures) (c .if2 .taken) in
     (w .answer, (w .table, w .bytes-in))
 
 steps-requires : tie.Need-steps-requires
@@ -37,7 +37,7 @@ returns-3 c =
     let found = done .before .before .before in
     let room = found .before .before .before in
     let s = room .before .before .before .args in
-    let w = run-walked (s .table .now) (s .area .now) (s .budget) (room .if1 .left) _ (found .before .is-market .ensures)
+    let w = run-walked (s .q) (s .table .now) (s .area .now) (s .budget) (room .if1 .left) _ (found .before .is-market-of .ensures)
     (found .if2 .left) _ _ _ (done .steps .ensures) in
     (w .answer, (w .table, w .bytes-in))
 
@@ -46,7 +46,7 @@ run-spec =
     tie.close
     (tie.spec
     returns
-    is-market-requires
+    is-market-of-requires
     same-length
     returns-2
     steps-requires

@@ -1,0 +1,33 @@
+-- `shares::buy` meets its contract: with such amounts it is a sound order of equities.
+use mathlib.Core.Path.{refl}
+use native.Mathlib.Omega.{arith}
+use lib.Dec.{lit≤, lit<}
+use Rattle.matching.specs.Matching.{openOf, isSideOf}
+use Rattle.matching.specs.Held.{mayMinimum}
+use Rattle.trials.proofs.shares.buy.Statement.{statement}
+use Rattle.trials.proofs.shares.buy.Tie as tie
+
+returns : tie.Need-returns
+unfolding openOf mayMinimum isSideOf
+returns c =
+    let a = c .pre .2 in (
+      record {
+        sides = refl;
+        tifs = refl;
+        minimum = refl;
+        level-low = c .pre .0;
+        level-high = omega (arith, c .pre .1);
+        qty-low = lit< tt;
+        qty-high = lit≤ tt;
+        covered = a .covered;
+        dead = λ h. omega (arith, a .dead h);
+        sum-low = a .sum-low;
+        sum-high = omega (arith, a .sum-high);
+        place-low = lit< tt;
+      },
+      lit< tt,
+      record { side = refl; level = c .pre .1; sum = a .sum-high },
+    )
+
+pub buy-spec : {M : Type 1} → statement M
+buy-spec = tie.close (tie.spec returns)
