@@ -14,6 +14,7 @@
 static const struct calls *market = &bond_calls;
 static uint8_t table[KAMURJESH_TABLE_BYTES];
 static uint8_t area[300000];
+static uint8_t image[KAMURJESH_IMAGE_BYTES];
 static uint64_t length, bytes, reports, steps;
 
 static void must(int holds)
@@ -269,6 +270,24 @@ static void checking(unsigned n, int accounts, int calls)
         must(market->depth(table, sizeof table, 3, 0, &found, &yield, &total, &orders) == 10);
 }
 
+/* A market with n open orders, written into its image. */
+static void saving(unsigned n, int calls)
+{
+    must(open_market() == 0);
+    enter_sells(1, n);
+    if (calls)
+        must(market->save(table, sizeof table, image, sizeof image) == 0);
+}
+
+/* The same, read back. */
+static void restoring(unsigned n, int calls)
+{
+    uint64_t block;
+    saving(n, 1);
+    if (calls)
+        must(market->restore(table, sizeof table, image, sizeof image, &block) == 0);
+}
+
 int main(int count, char **words)
 {
     if (count != 3)
@@ -288,6 +307,10 @@ int main(int count, char **words)
         submitting(n, calls);
     else if (sscanf(name, "run-%u%c", &n, &rest) == 1 && n <= 254)
         running(n, calls);
+    else if (sscanf(name, "save-%u%c", &n, &rest) == 1 && n <= 254)
+        saving(n, calls);
+    else if (sscanf(name, "restore-%u%c", &n, &rest) == 1 && n <= 254)
+        restoring(n, calls);
     else if (sscanf(name, "sweep-%u%c", &n, &rest) == 1 && n >= 1 && n <= 254)
         sweeping(n, calls);
     else if (bonds && sscanf(name, "first-%u%c", &n, &rest) == 1 && n >= 2 && n <= 254)

@@ -11,6 +11,7 @@ enum { DEEP = 300000 };
 
 static uint8_t table[KAMURJESH_TABLE_BYTES];
 static uint8_t area[300000];
+static uint8_t image[KAMURJESH_IMAGE_BYTES];
 static uint64_t length, bytes, reports, steps;
 
 __attribute__((noinline)) static void paint(void)
@@ -64,7 +65,7 @@ static size_t run(void)
 int main(void)
 {
     size_t most = 0;
-    uint64_t found, total, orders, kind, start, digits, next;
+    uint64_t found, total, orders, kind, start, digits, next, block;
     int64_t yield;
     paint();
     must(open_market() == 0);
@@ -94,5 +95,11 @@ int main(void)
                         1, area + bytes, sizeof area - bytes, &length, &next) == 0 &&
          length > size);
     row("Copy", used());
+    paint();
+    must(kamurjesh_save(table, sizeof table, image, sizeof image) == 0);
+    row("Save", used());
+    paint();
+    must(kamurjesh_restore(table, sizeof table, image, sizeof image, &block) == 0);
+    row("Restore", used());
     return 0;
 }

@@ -5,8 +5,9 @@
  *     cc -Iinclude -o host examples/host.c target/staticlib/libkamurjesh.a        (on x86-64 Linux)
  *
  * The library allocates nothing, keeps nothing between calls and opens no file; of the C library it calls memcpy and memset, and
- * it uses less than 16 KB of stack. Everything is in the buffers that you lend: a market is the KAMURJESH_TABLE_BYTES bytes of its
- * table. Copy them, and you have a second market; write them to a file, and you have saved it. docs/TABLE.md says what each byte is.
+ * it uses less than 16 KB of stack, kamurjesh_restore less than 48 KB, since it reads a table into its stack before it touches yours.
+ * Everything is in the buffers that you lend: a market is the KAMURJESH_TABLE_BYTES bytes of its table. Copy them, and you have a second
+ * market; kamurjesh_save writes them with checks for a file. docs/TABLE.md says what each byte is.
  *
  * Any bytes may be given to any call: a table that is no market, a damaged message, a short area are refused by a number, and
  * nothing is ever read or written outside what is lent. You answer for what the library cannot see: every pointer is good for
@@ -17,7 +18,7 @@
  * don't disturb each other.
  *
  * A call returns 0, or the number of the first refusal that applies. Every out value is written at every call; those of
- * a refused call are 0, but for the length of the report that goes with refusals 6 to 8. */
+ * a refused call are 0, but for the length of the report that goes with refusals 6 to 8 and the block that goes with 13. */
 #ifndef KAMURJESH_H
 #define KAMURJESH_H
 
@@ -30,15 +31,17 @@ extern "C" {
 
 enum {
     KAMURJESH_TABLE_BYTES = 32768, /* a table has exactly this length */
+    KAMURJESH_IMAGE_BYTES = 33280, /* and an image, in which a table is kept, this one */
     KAMURJESH_LEAST_AREA = 1024,   /* the shortest area that Submit, Run and a feed take */
     KAMURJESH_LONGEST_REPORT = 512 /* no report and no copy is longer */
 };
 
-/* Refusals. After 1 to 5, 9 to 11 and 17 every lent byte is what it was. */
+/* Refusals. After 1 to 5, 9 to 13 and 17 every lent byte is what it was. */
 enum kamurjesh_refusal {
     KAMURJESH_TAKEN = 0,          /* not refused */
     KAMURJESH_NO_ROOM = 1,        /* Submit, Run, a feed: the area is shorter than KAMURJESH_LEAST_AREA */
-    KAMURJESH_NO_MARKET = 2,      /* Submit, Run, Depth: the table is no market of this kind; top of book: its length or its heading is none's */
+    KAMURJESH_NO_MARKET = 2,      /* Submit, Run, Depth, Save: the table is no market of this kind; Restore: that in the image is none;
+                                     top of book: its length or its heading is none's */
     KAMURJESH_IN_WORK = 3,        /* Submit, Depth, top of book: an order is in work; Run first */
     KAMURJESH_NUMBERS_SPENT = 4,  /* Submit: the next report number is above 999,998,976; a feed: its next number is 0 or above 999,999,999 */
     KAMURJESH_GARBLED = 5,        /* Submit: the message is garbled */
@@ -48,6 +51,8 @@ enum kamurjesh_refusal {
     KAMURJESH_BAD_SETTING = 9,    /* Open: the table's length or a setting is wrong */
     KAMURJESH_BAD_SIDE = 10,      /* Depth, top of book: the side is neither 1 nor 2 */
     KAMURJESH_NO_REPORT = 11,     /* Read, a feed: the bytes are no report; reading a copy: they are no copy */
+    KAMURJESH_BAD_LENGTH = 12,    /* Save, Restore: the image's length or the table's is wrong */
+    KAMURJESH_BAD_BLOCK = 13,     /* Restore: a block of the image has a wrong check, or its filling is not zero */
     KAMURJESH_BAD_FEED = 17       /* a feed: an identifier that it shows, or a number that sets it up, is wrong */
 };
 
@@ -164,6 +169,16 @@ uint64_t kamurjesh_copy(const uint8_t *report, size_t report_length,
  * Refusals: 11. */
 uint64_t kamurjesh_copy_read(const uint8_t *copy, size_t copy_length, uint64_t *kind);
 
+/* Writes the market into the image, to be kept: 65 blocks of 512 bytes, each of 508 bytes of the table and a check of 4 that tells any
+ * changed byte and any two blocks that changed places. The table is not changed; an order may be in work.
+ * Refusals, in this order: 12, 2. */
+uint64_t kamurjesh_save(const uint8_t *table, size_t table_length, uint8_t *image, size_t image_length);
+
+/* Reads the market in the image back into the table, whatever was in it. It goes on as the one that was written would have.
+ * block: of refusal 13 the first bad block, from 0; else 0.
+ * Refusals, in this order: 12, 13, 2. */
+uint64_t kamurjesh_restore(uint8_t *table, size_t table_length, const uint8_t *image, size_t image_length, uint64_t *block);
+
 /* ---- Equities. Each call does what the bond call of its name does, on a table that kamurjesh_equities_open opened; a bond call on such a
  * table, and one of these on a bond table, is refused with 2. What differs:
  * - 44 and 31 are prices: 1 to 8 whole digits and at most one decimal, never below zero; AvgPx has four decimals. For a buy the higher price
@@ -221,6 +236,12 @@ uint64_t kamurjesh_equities_copy(const uint8_t *report, size_t report_length,
 
 /* Refusals: 11. */
 uint64_t kamurjesh_equities_copy_read(const uint8_t *copy, size_t copy_length, uint64_t *kind);
+
+/* Refusals, in this order: 12, 2. */
+uint64_t kamurjesh_equities_save(const uint8_t *table, size_t table_length, uint8_t *image, size_t image_length);
+
+/* Refusals, in this order: 12, 13, 2; the image of a bond market is refused with 2. */
+uint64_t kamurjesh_equities_restore(uint8_t *table, size_t table_length, const uint8_t *image, size_t image_length, uint64_t *block);
 
 #ifdef __cplusplus
 }

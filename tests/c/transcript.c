@@ -17,6 +17,7 @@
 static const struct calls *calls = &bond_calls;
 static uint8_t table[KAMURJESH_TABLE_BYTES];
 static uint8_t area[LARGEST_AREA];
+static uint8_t image[KAMURJESH_IMAGE_BYTES + 1];
 static unsigned long line_number;
 
 struct text {
@@ -212,17 +213,17 @@ static void top(const char *at)
     printf("t %" PRIu64 " %" PRIu64 " %" PRId64 " %" PRIu64 " %" PRIu64 "\n", number, found, quote, total, orders);
 }
 
-/* Puts a byte into the table and says which one was there. */
-static void put_byte(const char *at)
+/* Puts a byte into the table or the image and says which one was there. */
+static void put_byte(char letter, uint8_t *bytes, size_t length, const char *at)
 {
     uint64_t place = take_number(&at);
     take_mark(&at, ';');
     uint64_t byte = take_number(&at);
     take_end(&at);
-    if (place >= sizeof table || byte > 255)
+    if (place >= length || byte > 255)
         fail("no such place, or no byte");
-    printf("b %u\n", (unsigned)table[place]);
-    table[place] = (uint8_t)byte;
+    printf("%c %u\n", letter, (unsigned)bytes[place]);
+    bytes[place] = (uint8_t)byte;
 }
 
 /* The field of a report that begins at a place, as kamurjesh_field gives it; returns the place behind it. */
@@ -288,6 +289,47 @@ static void copy(const char *at)
     say_written(length);
 }
 
+/* The lengths that Save and Restore are lent, of the table and of the image. */
+struct lent {
+    size_t table, image;
+};
+
+static struct lent take_lent(const char **at)
+{
+    uint64_t of_table = take_number(at);
+    take_mark(at, ';');
+    uint64_t of_image = take_number(at);
+    take_end(at);
+    if (of_table > sizeof table || of_image > sizeof image)
+        fail("more than there is of the table or of the image");
+    return (struct lent){(size_t)of_table, (size_t)of_image};
+}
+
+/* The check of a block as it stands in the image. */
+static uint32_t check_of(size_t block)
+{
+    const uint8_t *at = image + 512 * block + 508;
+    return at[0] | (uint32_t)at[1] << 8 | (uint32_t)at[2] << 16 | (uint32_t)at[3] << 24;
+}
+
+static void save(const char *at)
+{
+    struct lent lent = take_lent(&at);
+    uint64_t number = calls->save(table, lent.table, image, lent.image);
+    printf("w %" PRIu64, number);
+    for (size_t block = 0; number == 0 && block < KAMURJESH_IMAGE_BYTES / 512; block++)
+        printf(" %" PRIu32, check_of(block));
+    putchar('\n');
+}
+
+static void restore(const char *at)
+{
+    struct lent lent = take_lent(&at);
+    uint64_t block = UINT64_MAX;
+    uint64_t number = calls->restore(table, lent.table, image, lent.image, &block);
+    printf("u %" PRIu64 " %" PRIu64 "\n", number, block);
+}
+
 /* The calls from here on are those of the bond market or of the equities market. */
 static void choose(const char *at)
 {
@@ -314,10 +356,13 @@ static void answer(const char *line)
     case 'r': run(line + 2); break;
     case 'd': depth(line + 2); break;
     case 't': top(line + 2); break;
-    case 'b': put_byte(line + 2); break;
+    case 'b': put_byte('b', table, sizeof table, line + 2); break;
     case 'x': read_by(calls->read, 'x', line + 2); break;
     case 'c': copy(line + 2); break;
     case 'y': read_by(calls->copy_read, 'y', line + 2); break;
+    case 'w': save(line + 2); break;
+    case 'u': restore(line + 2); break;
+    case 'i': put_byte('i', image, sizeof image, line + 2); break;
     case 'q': choose(line + 2); break;
     default: fail("no command");
     }

@@ -16,6 +16,8 @@ const struct kind bonds = {
     .run = kamurjesh_run,
     .depth = kamurjesh_depth,
     .copy = kamurjesh_copy,
+    .save = kamurjesh_save,
+    .restore = kamurjesh_restore,
 };
 
 const struct kind equities = {
@@ -31,6 +33,8 @@ const struct kind equities = {
     .run = kamurjesh_equities_run,
     .depth = kamurjesh_equities_depth,
     .copy = kamurjesh_equities_copy,
+    .save = kamurjesh_equities_save,
+    .restore = kamurjesh_equities_restore,
 };
 
 const struct kind *kind = &bonds;

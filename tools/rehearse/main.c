@@ -4,6 +4,7 @@
 
 #include "chart.h"
 #include "feed.h"
+#include "image.h"
 #include "kind.h"
 #include "lines.h"
 #include "market.h"
@@ -22,6 +23,13 @@ static bool take_lines(FILE *input)
     return !ferror(input);
 }
 
+/* One line on standard error, and the exit status. */
+static int complain_of_output(const char *file)
+{
+    fprintf(stderr, "rehearse: cannot write %s: %s\n", file, strerror(errno));
+    return 1;
+}
+
 int main(int count, char **words)
 {
     struct options options = {0};
@@ -30,8 +38,11 @@ int main(int count, char **words)
         return asked == ASKED_FOR_HELP ? 0 : 2;
     if (options.equities)
         kind = &equities;
-    open_market();
     open_feed(options.feed);
+    if (options.restore == NULL)
+        open_market();
+    else if (!restore_market(options.restore))
+        return 2;
     if (!take_lines(options.input)) {
         complain_of_input(&options);
         return 2;
@@ -41,9 +52,9 @@ int main(int count, char **words)
         perror("rehearse: cannot write");
         return 1;
     }
-    if (options.chart != NULL && !write_chart(options.chart)) {
-        fprintf(stderr, "rehearse: cannot write %s: %s\n", options.chart, strerror(errno));
-        return 1;
-    }
+    if (options.chart != NULL && !write_chart(options.chart))
+        return complain_of_output(options.chart);
+    if (options.save != NULL && !save_market(options.save))
+        return complain_of_output(options.save);
     return 0;
 }

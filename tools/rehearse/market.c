@@ -33,8 +33,18 @@ void open_market(void)
                                     (const uint8_t *)kind->code, strlen(kind->code), 1, mpids, 5, modes, 5));
 }
 
+void save_table(uint8_t *image)
+{
+    expect_taken("Save", kind->save(table, sizeof table, image, IMAGE_BYTES));
+}
+
+uint64_t restore_table(const uint8_t *image, size_t length, uint64_t *block)
+{
+    return kind->restore(table, sizeof table, image, length, block);
+}
+
 /* Run is called until it takes no step: it stops where the area has no room for what may follow. */
-static void run_to_the_end(void)
+void run_to_the_end(void)
 {
     uint64_t bytes, reports, steps;
     do {

@@ -10,6 +10,18 @@ void expect_taken(const char *call, uint64_t refusal);
 /* Opens a market of the kind that is rehearsed; the bond market is that of ./book. */
 void open_market(void);
 
+/* An image of the table, and two of the refusals that reading one back may get: its length, and a block of it. */
+enum { IMAGE_BYTES = 33280, BAD_LENGTH = 12, BAD_BLOCK = 13 };
+
+/* Writes the table out into an image. */
+void save_table(uint8_t *image);
+
+/* Reads the table back from an image; gives 0 or the refusal, and with 13 the first block that was changed. */
+uint64_t restore_table(const uint8_t *image, size_t length, uint64_t *block);
+
+/* Matches what is in work to its end and prints the reports. */
+void run_to_the_end(void);
+
 /* Takes a message to its end and prints the answer in words behind what stands in the line already, then the reports. */
 void take_message(const struct message *message);
 

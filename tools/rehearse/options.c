@@ -19,11 +19,12 @@ static const char help_after[] =
     "\n"
     "The market is that of ./book: venue V, port P, bond code 350, MPIDs 10 to 14, all Cancel Newest, first report number 1.\n"
     "The equities market has symbol 7203 in place of the bond code, and is as this one else.\n"
+    "With --restore it is the one that --save wrote, of the same kind; a file that was changed since is told with its block.\n"
     "A line ends with LF. Every other byte belongs to its message: a CR at the end makes it garbled, as ./book takes it, and\n"
     "the answer says so. A last line needs no LF.\n"
     "109 of the copies shows what is given of --port and --group, with a hyphen between; copies are numbered from 1.\n"
-    "Exit status: 0, whatever the market answers; 1 if the output or the chart cannot be written; 2 for bad usage or an\n"
-    "unreadable input.\n";
+    "Exit status: 0, whatever the market answers; 1 if the output, the chart or the market cannot be written; 2 for bad\n"
+    "usage, an unreadable input or a market that cannot be read back.\n";
 
 /* Takes an option, words[0], and its values, if it has any, behind it (the list ends with NULL). Gives how many words that were, or
  * 0 after saying on standard error what is wrong. */
@@ -74,6 +75,16 @@ static int take_chart(struct options *options, char **words)
     return take_value(&options->chart, words);
 }
 
+static int take_save(struct options *options, char **words)
+{
+    return take_value(&options->save, words);
+}
+
+static int take_restore(struct options *options, char **words)
+{
+    return take_value(&options->restore, words);
+}
+
 static int take_equities(struct options *options, char **words)
 {
     (void)words;
@@ -98,6 +109,8 @@ static const struct row {
     {"--port ID", "the order entry port that 109 of the copies shows", take_port},
     {"--group ID", "the trade group that it shows", take_group},
     {"--chart FILE", "draw the book that is left into this file, an SVG picture", take_chart},
+    {"--save FILE", "write the market that is left into this file, for another day", take_save},
+    {"--restore FILE", "go on with the market that was written into this file", take_restore},
     {"--help", "print this", take_help},
 };
 enum { ROWS = sizeof rows / sizeof *rows };

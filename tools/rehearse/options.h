@@ -11,8 +11,10 @@ struct options {
     bool help;
     bool equities; /* the equities market, and not the bond market */
     struct feed feed;
-    const char *chart; /* NULL for none */
-    const char *file;  /* NULL, or -, for standard input */
+    const char *chart;   /* NULL for none */
+    const char *save;    /* NULL for none */
+    const char *restore; /* NULL for none */
+    const char *file;    /* NULL, or -, for standard input */
     FILE *input;
 };
 

@@ -1,6 +1,6 @@
--- The numbers that the C interface gives for a level that Depth finds and for the place of a field, each 0 where there is nothing to
--- say (document 01, "The table and its calls"; document 02, T-08). The yield is signed, in thousandths; so is the price, in tenths, though
--- it is never below zero. Assumes nothing.
+-- The numbers that the C interface gives for a level that Depth finds, for the place of a field and for the bad block of an image, each 0
+-- where there is nothing to say (document 01, "The table and its calls"; document 02, T-08 and T-12). The yield is signed, in thousandths;
+-- so is the price, in tenths, though it is never below zero. Assumes nothing.
 use Prim.Native.Nat.{ℕ}
 use lib.IntN.{ℤ, pos, subℕ}
 use Rattle.decimal.specs.declared.Instrument.{Instrument}
@@ -9,6 +9,8 @@ use Rattle.matching.specs.declared.Depth.{Depth}
 use Rattle.matching.specs.declared.Depth.the-variants.{Level, NoLevel}
 use Rattle.market.specs.declared.DepthAnswer.{DepthAnswer}
 use Rattle.market.specs.declared.DepthAnswer.the-variants.{NoMarket, InWork, BadSide, Found}
+use Rattle.image.specs.declared.RestoreAnswer.{RestoreAnswer}
+use Rattle.image.specs.declared.RestoreAnswer.the-variants as restore
 use Rattle.report.specs.declared.Part.{Part}
 use Rattle.report.specs.declared.Part.the-variants.{At, Nowhere}
 
@@ -43,3 +45,11 @@ startOf Nowhere = 0
 abbrev pub lenOf : Part → ℕ
 lenOf (At start len) = len
 lenOf Nowhere = 0
+
+-- ---- the bad block of an image, which counts from 0
+
+abbrev pub badBlock : RestoreAnswer → ℕ
+badBlock restore.BadLength = 0
+badBlock (restore.BadBlock k) = k
+badBlock restore.NoMarket = 0
+badBlock restore.Restored = 0

@@ -1,5 +1,6 @@
 // The market for programs in C (include/kamurjesh.h). Each call of bonds, and the call of equities beside it, is the one that both has for
-// either; both writes each value of an answer through a pointer, 0 where it has none. A slice passes as a pointer and a length.
+// either; both writes each value of an answer through a pointer, 0 where it has none. The calls that keep a market overnight are in
+// images. A slice passes as a pointer and a length.
 ghost use mathlib.Core.Path.{_≡_};
 ghost use lib.ListN.{length};
 ghost use Rattle.decimal.specs.declared.Instrument.the-variants.{Bonds, Equities};
@@ -18,6 +19,7 @@ ghost use Rattle.feed.specs.Copies.{fed, copyNumber, copyLength, copyNext, read
 ghost use Rattle.kamurjesh.specs.Numbers.{levelIn, quoteOf, isThere, startOf, lenOf};
 
 pub mod both;
+pub mod images;
 pub mod numbers;
 
 use crate::both::copy_of;

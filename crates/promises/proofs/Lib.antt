@@ -1,11 +1,11 @@
--- What holds of every history, of bonds as of equities. A reader begins with Theorems; Cases has the rehearsed books over any table,
--- Printed those of source document 004, and Lived two histories from Open on that are computed. The others are the way there, and nothing
--- in them need be believed. Tells: what a report does to an account; OrderIds: which record has one; Exacts: events of a step; Pairs:
--- Trades by 880; Leads: reports lead from table to table; Playing: events with their reports; Trading: the Trades of a step; Running: the
--- reports of Run; Requested: the book after a request; Asked: the report of an event that a message asks for; Submitting: the report of
--- Submit; Opening: an opened table; Histories: calls in turn; Telling: each report tells what it is of; Agreeing: steps against matching;
--- Depths: levels add up; Spending: steps left; Putting: what Submit puts in work; Minimums: what becomes of a minimum; Prices: levels said
--- in prices; Kept: from the first table on.
+-- What holds of every history, of bonds as of equities. A reader begins with Theorems; Overnight has the same of a market that is written
+-- out and read back, Cases the rehearsed books over any table, Printed those of source document 004, and Lived two histories from Open on
+-- that are computed. The others are the way there, and nothing in them need be believed. Tells: what a report does to an account;
+-- OrderIds: which record has one; Exacts: events of a step; Pairs: Trades by 880; Leads: reports lead from table to table; Playing: events
+-- with their reports; Trading: the Trades of a step; Running: the reports of Run; Requested: the book after a request; Asked: the report
+-- of an event that a message asks for; Submitting: the report of Submit; Opening: an opened table; Histories: calls in turn; Telling: each
+-- report tells what it is of; Agreeing: steps against matching; Depths: levels add up; Spending: steps left; Putting: what Submit puts in
+-- work; Minimums: what becomes of a minimum; Prices: levels said in prices; Kept: from the first table on.
 pub mod Tells
 pub mod OrderIds
 pub mod Exacts
@@ -28,6 +28,7 @@ pub mod Minimums
 pub mod Prices
 pub mod Kept
 pub mod Theorems
+pub mod Overnight
 pub mod Cases
 pub mod Printed
 pub mod Lived

@@ -1,7 +1,7 @@
 -- What the promises are about. A reader believes History: calls one after the other, the table and the reports after them; Tallies: what
 -- a member tells from reports, by OrderID; Whole: what is open, of one OrderID and in all, and what Depth's levels come to; Shown:
 -- what Run shows on a table; Prices: prices in tenths; Printed: the worked examples of source document 004; Minimums: what becomes of an
--- order with a minimum.
+-- order with a minimum; Overnight: histories of markets that are written out and read back.
 pub mod History
 pub mod Tallies
 pub mod Whole
@@ -9,3 +9,4 @@ pub mod Shown
 pub mod Prices
 pub mod Printed
 pub mod Minimums
+pub mod Overnight

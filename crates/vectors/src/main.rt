@@ -1,4 +1,5 @@
 // Does the commands of tests/vectors (the form is told there) on a market of bonds or of equities and writes the answer to each, line by line.
+mod images;
 mod say;
 mod text;
 
@@ -187,15 +188,15 @@ fn tops(q: Instrument, table: &[u8], s: &[u8]) {
     answered(q, top(q, table, number(part(s, 0))));
 }
 
-// A byte put into the table: the one that was there is said.
-fn put_byte(table: &mut [u8], s: &[u8]) {
-    let i = at_most(number(part(s, 0)), table.len());
+// A byte put into the table or the image: the one that was there is said behind the command's letter.
+fn put_byte(letter: &[u8], bytes: &mut [u8], s: &[u8]) {
+    let i = at_most(number(part(s, 0)), bytes.len());
     let byte = (number(part(s, 1)) % 256) as u8;
-    if i < table.len() {
-        say::word(b"b");
-        say::number(octets::wide(table[i]));
+    if i < bytes.len() {
+        say::word(letter);
+        say::number(octets::wide(bytes[i]));
         say::word(b"\n");
-        table[i] = byte;
+        bytes[i] = byte;
     }
 }
 
@@ -302,6 +303,19 @@ fn copy(q: Instrument, s: &[u8]) {
     );
 }
 
+// One command that keeps a market: the table written into the image, read back from it, or a byte of the image changed.
+fn keep(q: Instrument, table: &mut [u8], image: &mut [u8], letter: u8, s: &[u8]) {
+    if letter == b'w' {
+        return images::save(q, table, image, s);
+    }
+    if letter == b'u' {
+        return images::restore(q, table, image, s);
+    }
+    if letter == b'i' {
+        return put_byte(b"i", image, s);
+    }
+}
+
 // One command to a market of bonds or of equities.
 fn command(q: Instrument, table: &mut [u8], letter: u8, s: &[u8]) {
     if letter == b'o' {
@@ -320,7 +334,7 @@ fn command(q: Instrument, table: &mut [u8], letter: u8, s: &[u8]) {
         return tops(q, table, s);
     }
     if letter == b'b' {
-        return put_byte(table, s);
+        return put_byte(b"b", table, s);
     }
     if letter == b'x' {
         return read(q, s);
@@ -347,7 +361,7 @@ fn chosen(q: Instrument, s: &[u8]) -> Instrument {
 }
 
 // One line: a comment is said back. What the calls behind it are of is given back.
-fn line(q: Instrument, table: &mut [u8], s: &[u8]) -> Instrument {
+fn line(q: Instrument, table: &mut [u8], image: &mut [u8], s: &[u8]) -> Instrument {
     if s.len() == 0 {
         return q;
     }
@@ -361,6 +375,7 @@ fn line(q: Instrument, table: &mut [u8], s: &[u8]) -> Instrument {
         return chosen(q, part_at(s, 2, s.len()));
     }
     command(q, table, letter, part_at(s, 2, s.len()));
+    keep(q, table, image, letter, part_at(s, 2, s.len()));
     q
 }
 
@@ -406,18 +421,18 @@ struct Onward {
 }
 
 // Reads a line and answers it.
-fn turn(q: Instrument, table: &mut [u8], buffer: &mut [u8]) -> Onward {
+fn turn(q: Instrument, table: &mut [u8], image: &mut [u8], buffer: &mut [u8]) -> Onward {
     let got = read_line(buffer);
-    let of = line(q, table, part_at(buffer, 0, got.len));
+    let of = line(q, table, image, part_at(buffer, 0, got.len));
     Onward { of, more: got.more }
 }
 
 // The lines, one after another, at most a million. The calls are of bonds at the start.
-fn lines(table: &mut [u8], buffer: &mut [u8]) {
+fn lines(table: &mut [u8], image: &mut [u8], buffer: &mut [u8]) {
     let mut of = Instrument::Bonds;
     let mut k: u64 = 0;
     while k < 1000000 {
-        let t = turn(of, table, buffer);
+        let t = turn(of, table, image, buffer);
         of = t.of;
         if !t.more {
             return;
@@ -428,6 +443,7 @@ fn lines(table: &mut [u8], buffer: &mut [u8]) {
 
 fn main() {
     let mut table = [0u8; 32768];
+    let mut image = [0u8; 33281];
     let mut buffer = [0u8; 8192];
-    lines(&mut table, &mut buffer);
+    lines(&mut table, &mut image, &mut buffer);
 }

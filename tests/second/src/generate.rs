@@ -1,5 +1,5 @@
 //! Command files made from a seed: several markets, messages good and damaged, runs that stop and go on, depths,
-//! reports handed to feeds, and reports and drop copies read back whole and damaged. The same seed and count give the
+//! reports handed to feeds, reports and drop copies read back whole and damaged, and tables written out and read back. The same seed and count give the
 //! same commands everywhere.
 //!
 //! The generator plays its own commands on a desk, so that it knows which orders are open and what was reported.
@@ -9,6 +9,7 @@ use std::collections::VecDeque;
 use crate::compose::Draft;
 use crate::copy::{copy, Feed};
 use crate::damage::{damaged, damaged_report, HEADER};
+use crate::image::{BLOCK, DATA, IMAGE};
 use crate::instrument::Instrument;
 use crate::market::{Market, Participant, LAST_SUBMIT_NUMBER};
 use crate::order::{Order, Side};
@@ -30,6 +31,7 @@ pub fn generate(instrument: Instrument, seed: u64, count: u64) -> Vec<String> {
         let last = (generator.messages + generator.profile.messages).min(count);
         while generator.messages < last {
             generator.turn();
+            generator.keep_overnight();
         }
         generator.finish_market();
     }
@@ -237,6 +239,8 @@ struct Generator {
     used_ids: Vec<Vec<u8>>,
     ids: u64,
     seconds: u64,
+    /// The number of messages at which this market's table was written out, until it is read back.
+    saved: Option<u64>,
 }
 
 impl Generator {
@@ -255,6 +259,7 @@ impl Generator {
             used_ids: Vec::new(),
             ids: 0,
             seconds: 0,
+            saved: None,
         };
         generator.say(&Command::Calls { of: instrument });
         generator
@@ -296,6 +301,7 @@ impl Generator {
             7 if left >= LONG => FULL,
             _ => PROFILES[(self.markets as usize - 1) % PROFILES.len()].clone(),
         };
+        self.saved = None;
         self.used_ids.clear();
         self.ids = 0;
         self.feeds = vec![self.feed(1), self.feed(2)];
@@ -410,6 +416,37 @@ impl Generator {
                 _ => self.read_copy(),
             }
         }
+    }
+
+    /// Writes the table out every 40 messages, and reads it back 10 messages later, after a look at a changed image: the
+    /// market is then what it was.
+    fn keep_overnight(&mut self) {
+        match self.saved {
+            None if self.messages % 40 == 20 => self.save(),
+            Some(before) if self.messages >= before + 10 => {
+                self.restore_damaged();
+                self.say(&Command::Restore { table: TABLE, image: IMAGE });
+                self.saved = None;
+            }
+            _ => {}
+        }
+    }
+
+    fn save(&mut self) {
+        self.say(&Command::Save { table: TABLE, image: IMAGE + 1 });
+        self.say(&Command::Save { table: TABLE, image: IMAGE });
+        self.saved = Some(self.messages);
+    }
+
+    /// A byte of the image changed and put back, with a look at what Restore says of it.
+    fn restore_damaged(&mut self) {
+        let at = self.random.below(IMAGE);
+        let at = if self.random.percent(30) { at / BLOCK * BLOCK + DATA + self.random.below(4) } else { at };
+        let before = self.desk.image()[at];
+        let byte = before.wrapping_add(self.random.between(1, 255) as u8);
+        self.say(&Command::PutImageByte { at, byte });
+        self.say(&Command::Restore { table: TABLE, image: IMAGE });
+        self.say(&Command::PutImageByte { at, byte: before });
     }
 
     /// Run with some budget and area. An answer that would be longer than a line is not asked for.

@@ -34,6 +34,8 @@ pub enum Refusal {
     SettingWrong = 9,
     SideWrong = 10,
     NotAReport = 11,
+    LengthWrong = 12,
+    BlockWrong = 13,
     FeedSettingWrong = 17,
 }
 

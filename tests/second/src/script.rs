@@ -6,8 +6,10 @@
 use crate::compose::{Draft, SYMBOL};
 use crate::copy::Feed;
 use crate::escape::unescaped;
+use crate::image::IMAGE;
 use crate::instrument::Instrument;
 use crate::market::Participant;
+use crate::table::TABLE;
 use crate::transcript::{Command, Desk};
 
 /// What must be answered to a line.
@@ -21,6 +23,8 @@ enum Expected {
     Ran { steps: u64, reports: Vec<Vec<String>> },
     /// `c 0 LENGTH NEXT_AFTER COPY`, the copy having these fields.
     Copied { next_after: u64, fields: Vec<String> },
+    /// `w 0` and 65 checks.
+    Saved,
     /// A report (`x`) or a drop copy (`y`) of this kind.
     ReadAs { letter: &'static str, kind: u64 },
 }
@@ -206,6 +210,42 @@ impl Script {
         }
     }
 
+    /// Save of the whole table into a whole image, answered by its 65 checks.
+    pub fn saved_whole(&mut self, checks: &[u64]) {
+        let checks: String = checks.iter().map(|check| format!(" {check}")).collect();
+        self.push(Command::Save { table: TABLE, image: IMAGE }, Expected::Whole(format!("w 0{checks}")));
+    }
+
+    /// Save answered by some checks.
+    pub fn saved(&mut self) {
+        self.push(Command::Save { table: TABLE, image: IMAGE }, Expected::Saved);
+    }
+
+    /// Save with so many bytes of table and image, answered by a refusal.
+    pub fn save_refused(&mut self, table: usize, image: usize, number: u64) {
+        self.push(Command::Save { table, image }, Expected::Whole(format!("w {number}")));
+    }
+
+    /// Restore of the image.
+    pub fn restored(&mut self) {
+        self.restore_in(TABLE, IMAGE, 0, 0);
+    }
+
+    /// Restore of the image answered by a refusal, and by a block where it is 13.
+    pub fn restore_refused(&mut self, number: u64, block: u64) {
+        self.restore_in(TABLE, IMAGE, number, block);
+    }
+
+    /// Restore with so many bytes of table and image.
+    pub fn restore_in(&mut self, table: usize, image: usize, number: u64, block: u64) {
+        self.push(Command::Restore { table, image }, Expected::Whole(format!("u {number} {block}")));
+    }
+
+    /// Puts a byte into the image in place of another.
+    pub fn put_image(&mut self, at: usize, byte: u8, before: u8) {
+        self.push(Command::PutImageByte { at, byte }, Expected::Whole(format!("i {before}")));
+    }
+
     /// Read answered by a kind.
     pub fn read_as(&mut self, report: &Draft, kind: u64) {
         self.push(Command::Read { report: report.bytes() }, Expected::ReadAs { letter: "x", kind });
@@ -314,6 +354,9 @@ impl Expected {
                 let wanted = format!("c 0 {} {next_after}", copy.len());
                 require(head == wanted && !copy.is_empty(), format!("expected a copy, then {next_after}"))?;
                 hold_fields(&copy, fields)
+            }
+            Expected::Saved => {
+                require(answer.starts_with("w 0 ") && answer.split(' ').count() == 67, "expected 65 checks".to_string())
             }
             Expected::ReadAs { letter, kind } => {
                 require(answer.starts_with(&format!("{letter} 0 {kind} ")), format!("expected kind {kind}"))

@@ -5,6 +5,7 @@ use std::num::TryFromIntError;
 
 use crate::copy::{copy, Copied, Feed};
 use crate::escape::{escaped, unescaped};
+use crate::image::{restore, save, NotRestored, BLOCK, DATA, IMAGE};
 use crate::instrument::Instrument;
 use crate::market::{Level, Market, Participant, Ran, Refusal, Submitted, FREE};
 use crate::read::{read, read_copy, Report};
@@ -16,50 +17,26 @@ pub const LONGEST_LINE: usize = 8192;
 /// The largest report area that a command may lend.
 pub const LARGEST_AREA: usize = 65_536;
 
-/// One call, with what is lent to it.
+/// The bytes of the image that is kept: one more than an image has, so that one can be lent that is too long.
+pub const KEPT_IMAGE: usize = IMAGE + 1;
+
+/// One call, with what is lent to it; `Calls` says whose calls those from there on are. Save and Restore are lent the first
+/// bytes of the table in use and of the image that is kept, so many of each.
 #[derive(Clone, Debug, PartialEq, Eq)]
 pub enum Command {
-    /// The calls from here on are those of this market.
-    Calls {
-        of: Instrument,
-    },
-    Open {
-        venue: Vec<u8>,
-        port: Vec<u8>,
-        code: Vec<u8>,
-        first_number: u64,
-        participants: Vec<Participant>,
-    },
-    Submit {
-        area: usize,
-        message: Vec<u8>,
-    },
-    Run {
-        area: usize,
-        budget: u64,
-    },
-    Depth {
-        side: u64,
-        k: u64,
-    },
-    Top {
-        side: u64,
-    },
-    PutByte {
-        at: usize,
-        byte: u8,
-    },
-    Read {
-        report: Vec<u8>,
-    },
-    Copy {
-        feed: Feed,
-        area: usize,
-        report: Vec<u8>,
-    },
-    ReadCopy {
-        copy: Vec<u8>,
-    },
+    Calls { of: Instrument },
+    Open { venue: Vec<u8>, port: Vec<u8>, code: Vec<u8>, first_number: u64, participants: Vec<Participant> },
+    Submit { area: usize, message: Vec<u8> },
+    Run { area: usize, budget: u64 },
+    Depth { side: u64, k: u64 },
+    Top { side: u64 },
+    PutByte { at: usize, byte: u8 },
+    Read { report: Vec<u8> },
+    Copy { feed: Feed, area: usize, report: Vec<u8> },
+    ReadCopy { copy: Vec<u8> },
+    Save { table: usize, image: usize },
+    Restore { table: usize, image: usize },
+    PutImageByte { at: usize, byte: u8 },
 }
 
 impl Command {
@@ -91,6 +68,16 @@ impl Command {
                 Ok(Command::Copy { feed: feed(setting)?, area: area(size)?, report: bytes(report)? })
             }
             ("y", [copy]) => Ok(Command::ReadCopy { copy: bytes(copy)? }),
+            ("w", [table, image]) => {
+                Ok(Command::Save { table: up_to(TABLE, table)?, image: up_to(KEPT_IMAGE, image)? })
+            }
+            ("u", [table, image]) => {
+                Ok(Command::Restore { table: up_to(TABLE, table)?, image: up_to(KEPT_IMAGE, image)? })
+            }
+            ("i", [at, byte]) => Ok(Command::PutImageByte {
+                at: up_to(KEPT_IMAGE - 1, at)?,
+                byte: decimal(byte)?.try_into().map_err(no_byte)?,
+            }),
             _ => Err("not a command".to_string()),
         }
     }
@@ -116,6 +103,9 @@ impl fmt::Display for Command {
                 write!(out, "{next};{area};{}", escaped(report))
             }
             Command::ReadCopy { copy } => write!(out, "y {}", escaped(copy)),
+            Command::Save { table, image } => write!(out, "w {table};{image}"),
+            Command::Restore { table, image } => write!(out, "u {table};{image}"),
+            Command::PutImageByte { at, byte } => write!(out, "i {at};{byte}"),
         }
     }
 }
@@ -133,14 +123,18 @@ fn instrument(text: &str) -> Result<Instrument, String> {
     Instrument::from_number(decimal(text)?).ok_or_else(|| format!("not a kind of market: {text}"))
 }
 
+/// A length or a place that is not above the largest.
+fn up_to(largest: usize, text: &str) -> Result<usize, String> {
+    let number = decimal(text)?;
+    usize::try_from(number).ok().filter(|&number| number <= largest).ok_or_else(|| format!("above {largest}: {text}"))
+}
+
 fn area(text: &str) -> Result<usize, String> {
-    let size = decimal(text)?;
-    usize::try_from(size).ok().filter(|&size| size <= LARGEST_AREA).ok_or_else(|| format!("not an area: {text}"))
+    up_to(LARGEST_AREA, text)
 }
 
 fn place(text: &str) -> Result<usize, String> {
-    let at = decimal(text)?;
-    usize::try_from(at).ok().filter(|&at| at < TABLE).ok_or_else(|| format!("not a place in a table: {text}"))
+    up_to(TABLE - 1, text)
 }
 
 fn no_byte(_: TryFromIntError) -> String {
@@ -166,12 +160,13 @@ fn feed(setting: &[&str]) -> Result<Feed, String> {
 }
 
 /// The market in use, or the table in use that is none: zeros before the first accepted Open, or what a byte changed;
-/// and whose calls are made on it, the bond market's or the equities market's.
+/// whose calls are made on it, the bond market's or the equities market's; and the image that is kept, zeros at first.
 #[derive(Clone, Debug)]
 pub struct Desk {
     calls: Instrument,
     market: Option<Market>,
     no_market: Vec<u8>,
+    image: Vec<u8>,
 }
 
 impl Default for Desk {
@@ -182,7 +177,7 @@ impl Default for Desk {
 
 impl Desk {
     pub fn new() -> Desk {
-        Desk { calls: Instrument::Bonds, market: None, no_market: vec![0; TABLE] }
+        Desk { calls: Instrument::Bonds, market: None, no_market: vec![0; TABLE], image: vec![0; KEPT_IMAGE] }
     }
 
     pub fn market(&self) -> Option<&Market> {
@@ -208,6 +203,9 @@ impl Desk {
             Command::Read { report } => read_line("x", read(self.calls, report)),
             Command::Copy { feed, area, report } => copy_line(&copy(self.calls, feed, *area, report)),
             Command::ReadCopy { copy } => read_line("y", read_copy(self.calls, copy)),
+            Command::Save { table, image } => self.save(*table, *image),
+            Command::Restore { table, image } => restore_line(self.restore(*table, *image)),
+            Command::PutImageByte { at, byte } => format!("i {}", std::mem::replace(&mut self.image[*at], *byte)),
         }
     }
 
@@ -251,6 +249,29 @@ impl Desk {
         self.called().ok_or(Refusal::NotAMarket)?.depth(side, k)
     }
 
+    /// Writes the table out, and gives the line with its checks.
+    fn save(&mut self, table: usize, image: usize) -> String {
+        match save(self.calls, &self.table()[..table], image) {
+            Err(refusal) => format!("w {}", refusal.number()),
+            Ok(written) => {
+                self.image[..IMAGE].copy_from_slice(&written);
+                let checks = written.chunks(BLOCK).map(|block| format!(" {}", number(&block[DATA..])));
+                format!("w 0{}", checks.collect::<String>())
+            }
+        }
+    }
+
+    /// Reads the image back in place of the table.
+    fn restore(&mut self, table: usize, image: usize) -> Result<(), NotRestored> {
+        self.market = Some(restore(self.calls, table, &self.image[..image])?);
+        Ok(())
+    }
+
+    /// The image that is kept.
+    pub fn image(&self) -> &[u8] {
+        &self.image[..IMAGE]
+    }
+
     /// The table in use.
     pub fn table(&self) -> Vec<u8> {
         self.market.as_ref().map_or_else(|| self.no_market.clone(), bytes_of)
@@ -273,6 +294,18 @@ fn level_line(letter: &str, level: Result<Option<Level>, Refusal>) -> String {
         Ok(None) => format!("{letter} 0 0 0 0 0"),
         Err(refusal) => format!("{letter} {} 0 0 0 0", refusal.number()),
     }
+}
+
+fn restore_line(restored: Result<(), NotRestored>) -> String {
+    match restored {
+        Ok(()) => "u 0 0".to_string(),
+        Err(NotRestored { refusal, block }) => format!("u {} {block}", refusal.number()),
+    }
+}
+
+/// The number in some bytes, low byte first.
+fn number(bytes: &[u8]) -> u64 {
+    bytes.iter().rev().fold(0, |number, &byte| number << 8 | u64::from(byte))
 }
 
 fn refusal_without_market(area: usize) -> u64 {

@@ -7,8 +7,8 @@ use crate::{generate, points, samples};
 
 /// The seed and the numbers of messages of the generated parts.
 pub const SEED: u64 = 20_261_116;
-pub const GENERATED_FOR_BONDS: u64 = 150;
-pub const GENERATED_FOR_EQUITIES: u64 = 120;
+pub const GENERATED_FOR_BONDS: u64 = 120;
+pub const GENERATED_FOR_EQUITIES: u64 = 100;
 
 /// The command file, each line with its LF.
 pub fn commands() -> String {

@@ -92,6 +92,7 @@ impl Book {
 }
 
 /// A back office: a feed from number 1 that is handed every report of a market, and what its copies have said.
+#[derive(Clone)]
 struct BackOffice {
     feed: Feed,
     book: Book,
@@ -280,28 +281,37 @@ fn met(market: &Market) -> u64 {
     open_orders(market, order.side.opposite()).iter().filter(|other| order.meets(other)).count() as u64
 }
 
-/// A history being played, with what is remembered from call to call.
-struct History {
-    desk: Desk,
+/// What is remembered from call to call about a market; reading an image back brings back what was remembered at its
+/// writing, because its history is then the one up to there.
+#[derive(Clone)]
+struct Memory {
+    market: Option<Market>,
     book: Book,
     reconciliation: BackOffice,
     full: BackOffice,
     steps_left: u64,
     taken: Option<Market>,
+}
+
+/// A history being played.
+struct History {
+    desk: Desk,
+    memory: Memory,
+    saved: Option<Memory>,
     is_forged: bool,
 }
 
 impl History {
     fn new() -> History {
-        History {
-            desk: Desk::new(),
+        let memory = Memory {
+            market: None,
             book: Book::default(),
             reconciliation: BackOffice::new(1),
             full: BackOffice::new(2),
             steps_left: 0,
             taken: None,
-            is_forged: false,
-        }
+        };
+        History { desk: Desk::new(), memory, saved: None, is_forged: false }
     }
 
     fn market(&self) -> &Market {
@@ -316,7 +326,7 @@ impl History {
             _ if self.is_forged => self.play_forged(command),
             Command::Open { .. } => {
                 if self.desk.answer(command) == "o 0" {
-                    *self = History { desk: self.desk.clone(), ..History::new() };
+                    *self = History { desk: self.desk.clone(), saved: self.saved.take(), ..History::new() };
                 } else {
                     assert_eq!(self.desk.market(), before.as_ref());
                 }
@@ -328,9 +338,24 @@ impl History {
             | Command::Top { .. }
             | Command::Read { .. }
             | Command::Copy { .. }
-            | Command::ReadCopy { .. } => {
+            | Command::ReadCopy { .. }
+            | Command::PutImageByte { .. } => {
                 self.desk.answer(command);
                 assert_eq!(self.desk.market(), before.as_ref());
+            }
+            Command::Save { .. } => {
+                if self.desk.answer(command).starts_with("w 0 ") {
+                    self.saved = Some(Memory { market: before.clone(), ..self.memory.clone() });
+                }
+                assert_eq!(self.desk.market(), before.as_ref());
+            }
+            Command::Restore { .. } => {
+                if self.desk.answer(command) == "u 0 0" {
+                    self.memory = self.saved.clone().expect("what is read back was written");
+                    assert_eq!(self.desk.market(), self.memory.market.as_ref());
+                } else {
+                    assert_eq!(self.desk.market(), before.as_ref());
+                }
             }
         }
         if self.desk.market().is_some() && !self.is_forged {
@@ -359,8 +384,8 @@ impl History {
             }
         }
         if submitted.number == 0 && self.market().in_work().is_some() {
-            self.steps_left = met(self.market()) + 1;
-            self.taken = self.desk.market().cloned();
+            self.memory.steps_left = met(self.market()) + 1;
+            self.memory.taken = self.desk.market().cloned();
             let report = read(self.market().instrument(), &submitted.report).expect("what is written can be read");
             if report.kind == Kind::Replaced {
                 assert_place_follows(before.expect("a market is open"), self.market(), &report);
@@ -380,11 +405,11 @@ impl History {
             return;
         }
         self.hear(before, &ran.bytes, ran.reports);
-        assert!(ran.steps <= self.steps_left, "done within m + 1 steps");
-        self.steps_left -= ran.steps;
+        assert!(ran.steps <= self.memory.steps_left, "done within m + 1 steps");
+        self.memory.steps_left -= ran.steps;
         assert_eq!(self.market().in_work().is_none(), self.is_stepwise_end(before, ran.steps));
         if self.market().in_work().is_none() {
-            let taken = self.taken.as_ref().expect("what was in work was taken");
+            let taken = self.memory.taken.as_ref().expect("what was in work was taken");
             assert_minimum_kept(taken, self.market(), taken.in_work().expect("it was in work"));
         }
     }
@@ -413,9 +438,9 @@ impl History {
             assert_eq!(number(report, 34), number_before);
             assert!(report.value(17).is_none() || number(report, 17) == number_before);
             number_before += 1;
-            self.book.tell(report);
-            self.reconciliation.hear(instrument, text, report);
-            self.full.hear(instrument, text, report);
+            self.memory.book.tell(report);
+            self.memory.reconciliation.hear(instrument, text, report);
+            self.memory.full.hear(instrument, text, report);
         }
         assert_eq!(self.market().next_number(), number_before);
         assert_no_self_trade(instrument, &reports);
@@ -424,10 +449,10 @@ impl History {
     /// Looks at the market and the tallies.
     fn look(&self) {
         assert_is_market(self.market());
-        self.book.assert_conserved(self.market());
-        assert_eq!(self.full.book, self.book, "a full feed's copies say what the reports say");
-        assert_eq!(self.reconciliation.book.bought, self.reconciliation.book.sold);
-        assert_eq!(self.reconciliation.book.bought, self.book.bought);
+        self.memory.book.assert_conserved(self.market());
+        assert_eq!(self.memory.full.book, self.memory.book, "a full feed's copies say what the reports say");
+        assert_eq!(self.memory.reconciliation.book.bought, self.memory.reconciliation.book.sold);
+        assert_eq!(self.memory.reconciliation.book.bought, self.memory.book.bought);
         if self.market().in_work().is_none() {
             assert_depth_adds_up(self.market());
         }
@@ -480,7 +505,7 @@ fn a_generated_history_meets_every_outcome() {
         "d 3", "d 10", "t 0", "t 2", "t 3", "t 10", "x 11", "x 0 1", "x 0 2", "x 0 3", "x 0 4", "x 0 5", "x 0 6",
         "x 0 7", "103=0", "103=1", "103=6", "103=99", "102=0", "102=1", "102=2", "373=1", "373=2", "373=3", "373=4",
         "373=5", "373=6", "373=9", "373=11", "378=99", "371=110", "371=544", "371=8214", "378=100", "c 0", "c 1",
-        "c 4", "c 11", "c 17", "y 11", "y 0 1", "y 0 2", "y 0 3", "y 0 4",
+        "c 4", "c 11", "c 17", "y 11", "y 0 1", "y 0 2", "y 0 3", "y 0 4", "w 0", "w 12", "u 0", "u 13",
     ] {
         assert!(answers.contains_key(outcome), "{outcome} never came up");
     }
@@ -517,6 +542,9 @@ fn ends_of_minimums(commands: &[Command]) -> BTreeMap<(u64, bool), u64> {
         let answer = desk.answer(command);
         if let (Command::Open { participants, .. }, "o 0") = (command, answer.as_str()) {
             modes = participants.iter().map(|entry| (entry.mpid, entry.mode)).collect();
+            waiting = None;
+        }
+        if answer == "u 0 0" {
             waiting = None;
         }
         let Some(market) = desk.market() else { continue };

@@ -99,9 +99,11 @@ fn refusals_have_the_papers_numbers() {
         Refusal::SettingWrong,
         Refusal::SideWrong,
         Refusal::NotAReport,
+        Refusal::LengthWrong,
+        Refusal::BlockWrong,
         Refusal::FeedSettingWrong,
     ];
-    assert_eq!(in_order.map(Refusal::number), [1, 2, 3, 4, 5, 6, 7, 8, 9, 10, 11, 17]);
+    assert_eq!(in_order.map(Refusal::number), [1, 2, 3, 4, 5, 6, 7, 8, 9, 10, 11, 12, 13, 17]);
 }
 
 /// The longest Trade and the longest Replaced.

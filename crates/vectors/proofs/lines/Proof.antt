@@ -1,4 +1,4 @@
--- Invariant: the lengths of the table and of the buffer stay.
+-- Invariant: the lengths of the table, of the image and of the buffer stay.
 use mathlib.Core.Path.{_≡_}
 use Prim.Native.Nat.{_-_}
 use lib.ListN.{length}
@@ -7,10 +7,11 @@ use Rattle.vectors.proofs.lines.Statement.{statement}
 use Rattle.vectors.proofs.lines.Tie as tie
 
 abbrev Inv-loop : tie.InvT-loop
-Inv-loop table₀ buffer₀ of₀ k₀ table buffer of k = (length table ≡ length table₀) × (length buffer ≡ length buffer₀)
+Inv-loop table₀ image₀ buffer₀ of₀ k₀ table image buffer of k =
+    (length table ≡ length table₀) × (length image ≡ length image₀) × (length buffer ≡ length buffer₀)
 
 abbrev μ-loop : tie.MeasureT-loop
-μ-loop table₀ buffer₀ of₀ k₀ table buffer of k = 1000000 - k
+μ-loop table₀ image₀ buffer₀ of₀ k₀ table image buffer of k = 1000000 - k
 
 loop-holds : tie.Need-loop-holds Inv-loop μ-loop
 loop-holds c = search needs
@@ -24,6 +25,9 @@ same-length c = search needs
 same-length-2 : tie.Need-same-length-2 Inv-loop μ-loop
 same-length-2 c = search needs
 
+same-length-3 : tie.Need-same-length-3 Inv-loop μ-loop
+same-length-3 c = search needs
+
 returns : tie.Need-returns Inv-loop μ-loop
 returns c = search needs
 
@@ -36,11 +40,14 @@ loop-less c = search needs
 loop-again : tie.Need-loop-again Inv-loop μ-loop
 loop-again c = search needs
 
-same-length-3 : tie.Need-same-length-3 Inv-loop μ-loop
-same-length-3 c = search needs
-
 same-length-4 : tie.Need-same-length-4 Inv-loop μ-loop
 same-length-4 c = search needs
+
+same-length-5 : tie.Need-same-length-5 Inv-loop μ-loop
+same-length-5 c = search needs
+
+same-length-6 : tie.Need-same-length-6 Inv-loop μ-loop
+same-length-6 c = search needs
 
 returns-2 : tie.Need-returns-2 Inv-loop μ-loop
 returns-2 c = search needs
@@ -55,10 +62,12 @@ lines-spec =
     turn-requires
     same-length
     same-length-2
+    same-length-3
     returns
     add-k
     loop-less
     loop-again
-    same-length-3
     same-length-4
+    same-length-5
+    same-length-6
     returns-2)

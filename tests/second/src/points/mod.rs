@@ -29,6 +29,8 @@ pub mod minimums;
 
 pub mod opening;
 
+pub mod overnight;
+
 pub mod reading;
 
 pub mod refusals;
@@ -310,6 +312,13 @@ points! {
         one_copy_and_nothing_beside_it
         tags_of_a_copy_stand_in_their_order
     }
+    overnight {
+        an_image_is_65_blocks_with_a_check_each
+        an_order_in_work_is_kept_overnight
+        refusals_of_save_and_restore_come_in_their_order
+        a_changed_image_is_noticed
+        an_image_that_is_no_market
+    }
 }
 
 points! {
@@ -379,6 +388,9 @@ points! {
         a_share_fill_or_kill_is_copied_as_an_ioc
         copies_of_shares_are_read
         damaged_copies_of_shares
+    }
+    overnight {
+        shares_are_kept_overnight
     }
 }
 
