@@ -110,6 +110,24 @@ static void running(unsigned n, int calls)
         must(run() == 0 && steps == 1 && reports == 0);
 }
 
+/* A load of n orders that rest, where so many are open. */
+static void loading(unsigned n, unsigned open, int calls)
+{
+    static uint8_t buffer[100000];
+    size_t size = 0;
+    uint64_t place, finished;
+    for (unsigned i = 1; i <= n; i++) {
+        struct message m = nth(open + i, KAMURJESH_SELL);
+        memcpy(buffer + size, m.bytes, m.length);
+        size += m.length;
+    }
+    must(open_market() == 0);
+    enter_sells(1, open);
+    if (calls)
+        must(market->load(table, sizeof table, buffer, size, area, sizeof area, &place, &finished, &bytes, &reports) == 0 &&
+             place == size && finished == n && reports == n);
+}
+
 /* An order that trades with n resting ones and ends. */
 static void sweeping(unsigned n, int calls)
 {
@@ -307,6 +325,10 @@ int main(int count, char **words)
         submitting(n, calls);
     else if (sscanf(name, "run-%u%c", &n, &rest) == 1 && n <= 254)
         running(n, calls);
+    else if (sscanf(name, "load-%u%c", &n, &rest) == 1 && n >= 1 && n <= 254)
+        loading(n, 0, calls);
+    else if (sscanf(name, "load-open-%u%c", &n, &rest) == 1 && n <= 254)
+        loading(1, n, calls);
     else if (sscanf(name, "save-%u%c", &n, &rest) == 1 && n <= 254)
         saving(n, calls);
     else if (sscanf(name, "restore-%u%c", &n, &rest) == 1 && n <= 254)

@@ -101,5 +101,9 @@ int main(void)
     paint();
     must(kamurjesh_restore(table, sizeof table, image, sizeof image, &block) == 0);
     row("Restore", used());
+    struct message loaded = new_order("LOADED", KAMURJESH_SELL, 100, "0.000", 11, '0');
+    paint();
+    must(kamurjesh_load(table, sizeof table, loaded.bytes, loaded.length, area, sizeof area, &start, &digits, &bytes, &reports) == 0);
+    row("Load", used());
     return 0;
 }

@@ -18,7 +18,8 @@
  * don't disturb each other.
  *
  * A call returns 0, or the number of the first refusal that applies. Every out value is written at every call; those of
- * a refused call are 0, but for the length of the report that goes with refusals 6 to 8 and the block that goes with 13. */
+ * a refused call are 0, but for the length of the report that goes with refusals 6 to 8, the block that goes with 13, and what a load
+ * says that has begun. */
 #ifndef KAMURJESH_H
 #define KAMURJESH_H
 
@@ -32,19 +33,19 @@ extern "C" {
 enum {
     KAMURJESH_TABLE_BYTES = 32768, /* a table has exactly this length */
     KAMURJESH_IMAGE_BYTES = 33280, /* and an image, in which a table is kept, this one */
-    KAMURJESH_LEAST_AREA = 1024,   /* the shortest area that Submit, Run and a feed take */
+    KAMURJESH_LEAST_AREA = 1024,   /* the shortest area that Submit, Run, Load and a feed take */
     KAMURJESH_LONGEST_REPORT = 512 /* no report and no copy is longer */
 };
 
-/* Refusals. After 1 to 5, 9 to 13 and 17 every lent byte is what it was. */
+/* Refusals. After 1 to 5, 9 to 13 and 17 every lent byte is what it was, but for what Load did before it stopped with 1, 4 or 5. */
 enum kamurjesh_refusal {
     KAMURJESH_TAKEN = 0,          /* not refused */
-    KAMURJESH_NO_ROOM = 1,        /* Submit, Run, a feed: the area is shorter than KAMURJESH_LEAST_AREA */
-    KAMURJESH_NO_MARKET = 2,      /* Submit, Run, Depth, Save: the table is no market of this kind; Restore: that in the image is none;
+    KAMURJESH_NO_ROOM = 1,        /* Submit, Run, Load, a feed: the area is shorter than KAMURJESH_LEAST_AREA; Load: or fewer bytes are left */
+    KAMURJESH_NO_MARKET = 2,      /* Submit, Run, Load, Depth, Save: the table is no market of this kind; Restore: that in the image is none;
                                      top of book: its length or its heading is none's */
-    KAMURJESH_IN_WORK = 3,        /* Submit, Depth, top of book: an order is in work; Run first */
-    KAMURJESH_NUMBERS_SPENT = 4,  /* Submit: the next report number is above 999,998,976; a feed: its next number is 0 or above 999,999,999 */
-    KAMURJESH_GARBLED = 5,        /* Submit: the message is garbled */
+    KAMURJESH_IN_WORK = 3,        /* Submit, Load, Depth, top of book: an order is in work; Run first */
+    KAMURJESH_NUMBERS_SPENT = 4,  /* Submit, Load: the next report number is above 999,998,976; a feed: its next number is 0 or above 999,999,999 */
+    KAMURJESH_GARBLED = 5,        /* Submit: the message is garbled; Load: the length of a message cannot be read */
     KAMURJESH_SESSION_REJECT = 6, /* Submit: a Session Reject is written, the next number goes up by 1 */
     KAMURJESH_ORDER_REJECT = 7,   /* Submit: a Rejected is written, the next number goes up by 1 */
     KAMURJESH_CHANGE_REJECT = 8,  /* Submit: a Cancel reject is written, the next number goes up by 1 */
@@ -111,6 +112,21 @@ uint64_t kamurjesh_run(uint8_t *table, size_t table_length,
                        uint8_t *area, size_t area_length,
                        uint64_t budget,
                        uint64_t *bytes, uint64_t *reports, uint64_t *steps);
+
+/* Takes the messages of a buffer, which lie one behind another: each is what kamurjesh_submit and then kamurjesh_run to the end make of it,
+ * and all reports lie one behind the other from the start of the area. A message begins with 8=FIX.4.2 and a field 9 of 1 to 4 digits;
+ * behind them are as many bytes as 9 says and the seven of field 10. One that is garbled otherwise is passed over, as kamurjesh_submit does.
+ * The call ends at the end of the buffer (0), or stops: with 1 in front of a message when fewer than KAMURJESH_LEAST_AREA bytes of
+ * the area are free, and inside one when its Run stops for want of room; with 5 at bytes whose length cannot be read; with 4 in front of a
+ * message when the numbers are spent. What went before stands. After 1, call kamurjesh_run until nothing is in work, and load the rest of
+ * the buffer, from place on.
+ * place: of the first message not submitted, in bytes from 0; the length of the buffer if there is none. finished: how many messages were
+ * submitted and have nothing in work, whatever their answer. bytes, reports: written by this call.
+ * Refusals of the whole call, with all four 0: 1, 2, 3. */
+uint64_t kamurjesh_load(uint8_t *table, size_t table_length,
+                        const uint8_t *buffer, size_t buffer_length,
+                        uint8_t *area, size_t area_length,
+                        uint64_t *place, uint64_t *finished, uint64_t *bytes, uint64_t *reports);
 
 /* The k-th level of a side from the best, k from 0. Nothing is changed.
  * found: 1 if there is such a level, 0 if there is none (then the others are 0). yield_thousandths: 100 is a yield of 0.100.
@@ -209,6 +225,12 @@ uint64_t kamurjesh_equities_run(uint8_t *table, size_t table_length,
                                 uint8_t *area, size_t area_length,
                                 uint64_t budget,
                                 uint64_t *bytes, uint64_t *reports, uint64_t *steps);
+
+/* Refusals of the whole call: 1, 2, 3; it stops with 1, 5 or 4. */
+uint64_t kamurjesh_equities_load(uint8_t *table, size_t table_length,
+                                 const uint8_t *buffer, size_t buffer_length,
+                                 uint8_t *area, size_t area_length,
+                                 uint64_t *place, uint64_t *finished, uint64_t *bytes, uint64_t *reports);
 
 /* price_tenths: 1001 is a price of 100.1.
  * Refusals: 2, 3, 10. */

@@ -1313,6 +1313,196 @@ static void test_share_feed(void)
     EXPECT(copy_kind_of(NULL, 0) == 0 && copy_kind_of(traded.bytes, traded.length) == 0);
 }
 
+/* ---- Load, of either market */
+
+/* Messages that lie one behind another. */
+struct batch {
+    uint8_t bytes[8192];
+    size_t length;
+};
+
+static struct batch batch_of(const struct message *messages, size_t count)
+{
+    struct batch b = {{0}, 0};
+    for (size_t i = 0; i < count; i++) {
+        memcpy(b.bytes + b.length, messages[i].bytes, messages[i].length);
+        b.length += messages[i].length;
+    }
+    return b;
+}
+
+enum { LOAD_AREA = 32768 };
+static struct lent lent_buffer;
+static struct {
+    uint64_t place, finished, bytes, reports;
+} loaded;
+
+static uint64_t load_in(size_t table_length, size_t area_length, const struct batch *b)
+{
+    struct out place = fresh, finished = fresh, bytes = fresh, reports = fresh;
+    const uint8_t *buffer = lend(&lent_buffer, b->bytes, b->length);
+    uint64_t first = next_number();
+    lend_area(area_length);
+    keep_table();
+    uint64_t number = calls->load(table, table_length, buffer, b->length, area, area_length, &place.value, &finished.value,
+                                  &bytes.value, &reports.value);
+    EXPECT(is_fine(&place) && is_fine(&finished) && is_fine(&bytes) && is_fine(&reports));
+    EXPECT(is_as_lent(&lent_buffer, b->bytes, b->length));
+    EXPECT(area_is_untouched_from((size_t)bytes.value, area_length));
+    EXPECT(is_guarded(&lent_table, TABLE));
+    EXPECT(number <= 5 && place.value <= b->length);
+    EXPECT(number != 0 || place.value == b->length);
+    EXPECT(next_number() == first + reports.value);
+    EXPECT(place.value > 0 || (finished.value == 0 && bytes.value == 0 && table_is_kept()));
+    loaded.place = place.value;
+    loaded.finished = finished.value;
+    loaded.bytes = bytes.value;
+    loaded.reports = reports.value;
+    return number;
+}
+
+static int loaded_is(uint64_t place, uint64_t finished, uint64_t reports)
+{
+    return loaded.place == place && loaded.finished == finished && loaded.reports == reports;
+}
+
+/* The rest of a batch, from a place on. */
+static struct batch rest_of(const struct batch *b, size_t place)
+{
+    struct batch rest = {{0}, b->length - place};
+    memcpy(rest.bytes, b->bytes + place, rest.length);
+    return rest;
+}
+
+/* Sells, a garbled message, one for another code, a buy that trades with two of the sells, and a cancel. */
+enum { BATCH = 7 };
+
+static void take_batch(struct message *messages)
+{
+    static const char *const ids[] = {"S-1", "S-2", "S-3"}, *const yields[] = {"0.101", "0.102", "0.100"};
+    static const char *const prices[] = {"100.1", "100.0", "100.2"};
+    int bonds = calls == &bond_calls;
+    for (int i = 0; i < 3; i++)
+        messages[i] = bonds ? new_order(ids[i], 2, 100, yields[i], 11, '0') : share(ids[i], 2, 100, prices[i], 11);
+    messages[3] = messages[0];
+    messages[3].bytes[messages[3].length - 2] ^= 1; /* CheckSum */
+    messages[4] = cancellation_of("999", "X-1", "S-1", 2);
+    messages[5] = bonds ? new_order("B-1", 1, 150, "0.101", 12, '0') : share("B-1", 1, 150, "100.1", 12);
+    messages[6] = cancellation_of(bonds ? "350" : "7203.T", "C-1", "S-3", 2);
+}
+
+static void open_for_load(uint64_t first)
+{
+    struct settings s = calls == &bond_calls ? usual : usual_share;
+    s.first = first;
+    EXPECT(open_in(TABLE, &s) == 0);
+}
+
+/* The same table and the same bytes as by Submit and Run, message by message. */
+static void test_load_as_singles(void)
+{
+    static uint8_t after[TABLE], written[LOAD_AREA];
+    struct message messages[BATCH];
+    size_t at = 0;
+    take_batch(messages);
+    struct batch b = batch_of(messages, BATCH);
+    open_for_load(1);
+    EXPECT(load_in(TABLE, LOAD_AREA, &b) == 0 && loaded_is(b.length, BATCH, 10));
+    memcpy(after, table, TABLE);
+    memcpy(written, area, (size_t)loaded.bytes);
+    open_for_load(1);
+    for (size_t i = 0; i < BATCH; i++) {
+        submit(messages[i]);
+        EXPECT(memcmp(written + at, area, (size_t)report_length) == 0);
+        at += (size_t)report_length;
+        EXPECT(run() == 0 && memcmp(written + at, area, (size_t)ran.bytes) == 0);
+        at += (size_t)ran.bytes;
+    }
+    EXPECT(at == loaded.bytes && memcmp(table, after, TABLE) == 0);
+    /* stopped for want of room wherever it may be, gone on with by Run and Load: the same end */
+    for (size_t room = 1024; room <= 4096; room += 64) {
+        struct batch rest = b;
+        uint64_t number, finished = 0;
+        open_for_load(1);
+        while ((number = load_in(TABLE, room, &rest)) == 1) {
+            rest = rest_of(&rest, (size_t)loaded.place);
+            finished += loaded.finished;
+            while (table[32] != 0) {
+                EXPECT(run_in(TABLE, 1024, 1000) == 0);
+                finished += table[32] == 0;
+            }
+        }
+        EXPECT(number == 0 && finished + loaded.finished == BATCH && memcmp(table, after, TABLE) == 0);
+    }
+}
+
+static void test_load_stops(void)
+{
+    struct message messages[BATCH], zeros;
+    take_batch(messages);
+    struct batch two = batch_of(messages, 2), none = {{0}, 0}, b;
+    uint64_t first = messages[0].length;
+    open_for_load(1);
+    EXPECT(load_in(TABLE, 1024, &none) == 0 && loaded_is(0, 0, 0));
+    /* inside the first message */
+    EXPECT(load_in(TABLE, 1024, &two) == 1 && loaded_is(first, 0, 1) && table[32] != 0);
+    EXPECT(load_in(TABLE, LOAD_AREA, &two) == 3 && loaded_is(0, 0, 0));
+    /* a reject is finished, and there is no room for the next */
+    open_for_load(1);
+    struct message rejected[] = {messages[4], messages[0]};
+    b = batch_of(rejected, 2);
+    EXPECT(load_in(TABLE, 1024, &b) == 1 && loaded_is(rejected[0].length, 1, 1) && table[32] == 0);
+    b = batch_of(rejected, 1);
+    EXPECT(load_in(TABLE, 1024, &b) == 0 && loaded_is(b.length, 1, 1));
+    b = two;
+    /* a length that cannot be read: one byte too few, five digits, other bytes behind a message */
+    open_for_load(1);
+    b.length--;
+    EXPECT(load_in(TABLE, LOAD_AREA, &b) == 5 && loaded_is(first, 1, 1));
+    zeros = messages[1];
+    memmove(zeros.bytes + 13, zeros.bytes + 12, zeros.length - 12);
+    zeros.bytes[12] = '0', zeros.length++;
+    b = batch_of(&zeros, 1);
+    EXPECT(load_in(TABLE, LOAD_AREA, &b) == 0 && loaded_is(b.length, 1, 0)); /* garbled by its CheckSum */
+    memmove(zeros.bytes + 13, zeros.bytes + 12, zeros.length - 12);
+    zeros.length++;
+    b = batch_of(&zeros, 1);
+    EXPECT(load_in(TABLE, LOAD_AREA, &b) == 5 && loaded_is(0, 0, 0));
+    b = batch_of(messages + 1, 2);
+    b.bytes[messages[1].length] = '9';
+    EXPECT(load_in(TABLE, LOAD_AREA, &b) == 5 && loaded_is(messages[1].length, 1, 1));
+    /* the numbers are spent, before the first message and before the second */
+    open_for_load(999998977);
+    EXPECT(load_in(TABLE, LOAD_AREA, &two) == 4 && loaded_is(0, 0, 0));
+    open_for_load(999998976);
+    EXPECT(load_in(TABLE, LOAD_AREA, &two) == 4 && loaded_is(first, 1, 1));
+}
+
+static void test_load_refused(void)
+{
+    struct message messages[BATCH];
+    struct out a = fresh, b = fresh, c = fresh, d = fresh;
+    take_batch(messages);
+    struct batch two = batch_of(messages, 2);
+    open_for_load(1);
+    EXPECT(load_in(TABLE, 1023, &two) == 1 && loaded_is(0, 0, 0));
+    EXPECT(load_in(TABLE - 1, 1023, &two) == 1 && load_in(TABLE - 1, 1024, &two) == 2 && load_in(0, 1024, &two) == 2);
+    const struct calls *own = calls;
+    calls = own == &bond_calls ? &equities_calls : &bond_calls;
+    EXPECT(load_in(TABLE, LOAD_AREA, &two) == 2 && loaded_is(0, 0, 0));
+    calls = own;
+    EXPECT(submit(messages[0]) == 0 && load_in(TABLE, LOAD_AREA, &two) == 3 && loaded_is(0, 0, 0));
+    EXPECT(calls->load(NULL, 0, NULL, 0, NULL, 0, &a.value, &b.value, &c.value, &d.value) == 1);
+    EXPECT(is_fine(&a) && is_fine(&b) && is_fine(&c) && is_fine(&d) && a.value + b.value + c.value + d.value == 0);
+}
+
+static void test_load(void)
+{
+    test_load_as_singles();
+    test_load_stops();
+    test_load_refused();
+}
+
 int main(void)
 {
     test_open();
@@ -1337,6 +1527,7 @@ int main(void)
     test_identifier_lengths();
     test_identifier_bytes();
     test_copy_read();
+    test_load();
     calls = &equities_calls;
     test_share_open();
     test_share_taken();
@@ -1344,6 +1535,7 @@ int main(void)
     test_share_trades();
     test_other_market();
     test_share_feed();
+    test_load();
     printf("%u checks, %u failed\n", checks, failures);
     return failures > 0;
 }

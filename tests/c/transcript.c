@@ -191,6 +191,21 @@ static void run(const char *at)
     say_written(bytes);
 }
 
+static void load(const char *at)
+{
+    static struct text buffer;
+    size_t area_length = take_area(&at);
+    take_mark(&at, ';');
+    take_text(&at, &buffer);
+    take_end(&at);
+    uint64_t place = UINT64_MAX, finished = UINT64_MAX, bytes = UINT64_MAX, reports = UINT64_MAX;
+    memset(area, UNTOUCHED, sizeof area);
+    uint64_t number = calls->load(table, sizeof table, buffer.bytes, buffer.length, area, area_length, &place, &finished, &bytes, &reports);
+    check_rest(area_length, bytes);
+    printf("l %" PRIu64 " %" PRIu64 " %" PRIu64 " %" PRIu64 " %" PRIu64, number, place, finished, bytes, reports);
+    say_written(bytes);
+}
+
 static void depth(const char *at)
 {
     uint64_t side = take_number(&at);
@@ -354,6 +369,7 @@ static void answer(const char *line)
     case 'o': open_market(line + 2); break;
     case 's': submit(line + 2); break;
     case 'r': run(line + 2); break;
+    case 'l': load(line + 2); break;
     case 'd': depth(line + 2); break;
     case 't': top(line + 2); break;
     case 'b': put_byte('b', table, sizeof table, line + 2); break;

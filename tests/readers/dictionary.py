@@ -68,7 +68,7 @@ def messages():
         yield from re.findall(r"^ +(8=FIX.*)$", page.read(), re.M)
     with open(os.path.join(ROOT, "tests/vectors/transcript"), encoding="ascii") as transcript:
         for line in transcript:
-            written = re.fullmatch(r"[src](?: \d+)+ (8=FIX.*)\n", line)
+            written = re.fullmatch(r"[srlc](?: \d+)+ (8=FIX.*)\n", line)
             if written:
                 yield from re.findall(r"8=FIX\.4\.2\|.*?\|10=\d{3}\|", written[1])
 

@@ -16,6 +16,7 @@ const struct kind bonds = {
     .run = kamurjesh_run,
     .depth = kamurjesh_depth,
     .copy = kamurjesh_copy,
+    .load = kamurjesh_load,
     .save = kamurjesh_save,
     .restore = kamurjesh_restore,
 };
@@ -33,6 +34,7 @@ const struct kind equities = {
     .run = kamurjesh_equities_run,
     .depth = kamurjesh_equities_depth,
     .copy = kamurjesh_equities_copy,
+    .load = kamurjesh_equities_load,
     .save = kamurjesh_equities_save,
     .restore = kamurjesh_equities_restore,
 };

@@ -26,6 +26,8 @@ struct kind {
     uint64_t (*copy)(const uint8_t *report, size_t report_length, uint64_t subscription, uint64_t shows, const uint8_t *port,
                      size_t port_length, const uint8_t *group, size_t group_length, uint64_t next, uint8_t *area,
                      size_t area_length, uint64_t *length, uint64_t *next_after);
+    uint64_t (*load)(uint8_t *table, size_t table_length, const uint8_t *buffer, size_t buffer_length, uint8_t *area,
+                     size_t area_length, uint64_t *place, uint64_t *finished, uint64_t *bytes, uint64_t *reports);
     uint64_t (*save)(const uint8_t *table, size_t table_length, uint8_t *image, size_t image_length);
     uint64_t (*restore)(uint8_t *table, size_t table_length, const uint8_t *image, size_t image_length, uint64_t *block);
 };

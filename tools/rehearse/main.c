@@ -2,6 +2,7 @@
 #include <errno.h>
 #include <string.h>
 
+#include "batch.h"
 #include "chart.h"
 #include "feed.h"
 #include "image.h"
@@ -43,7 +44,11 @@ int main(int count, char **words)
         open_market();
     else if (!restore_market(options.restore))
         return 2;
-    if (!take_lines(options.input)) {
+    if (options.batch != NULL && !take_batch(options.batch)) {
+        fprintf(stderr, "rehearse: cannot read %s: %s\n", options.batch, strerror(errno));
+        return 2;
+    }
+    if (options.input != NULL && !take_lines(options.input)) {
         complain_of_input(&options);
         return 2;
     }

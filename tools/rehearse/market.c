@@ -44,13 +44,15 @@ uint64_t restore_table(const uint8_t *image, size_t length, uint64_t *block)
 }
 
 /* Run is called until it takes no step: it stops where the area has no room for what may follow. */
-void run_to_the_end(void)
+uint64_t run_to_the_end(void)
 {
-    uint64_t bytes, reports, steps;
+    uint64_t bytes, reports, steps, taken = 0;
     do {
         expect_taken("Run", kind->run(table, sizeof table, area, sizeof area, UINT64_MAX, &bytes, &reports, &steps));
         print_reports((struct part){area, (size_t)bytes});
+        taken += steps;
     } while (steps > 0);
+    return taken;
 }
 
 static void print_answer(uint64_t refusal, const struct message *message, struct part report)
@@ -80,6 +82,16 @@ void take_message(const struct message *message)
     print_answer(refusal, message, report);
     print_reports(report);
     run_to_the_end();
+}
+
+uint64_t load_some(struct part buffer, uint64_t *place, uint64_t *finished)
+{
+    uint64_t far, many, bytes, reports;
+    uint64_t number = kind->load(table, sizeof table, buffer.bytes, buffer.length, area, sizeof area, &far, &many, &bytes, &reports);
+    print_reports((struct part){area, (size_t)bytes});
+    *place += far;
+    *finished += many + (run_to_the_end() > 0);
+    return number;
 }
 
 size_t take_levels(uint64_t side, struct level *levels)

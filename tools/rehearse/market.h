@@ -3,6 +3,7 @@
 #define MARKET_H
 
 #include "lines.h"
+#include "reports.h"
 
 /* Stops with a word where the market refuses what this program never gives it. */
 void expect_taken(const char *call, uint64_t refusal);
@@ -19,11 +20,16 @@ void save_table(uint8_t *image);
 /* Reads the table back from an image; gives 0 or the refusal, and with 13 the first block that was changed. */
 uint64_t restore_table(const uint8_t *image, size_t length, uint64_t *block);
 
-/* Matches what is in work to its end and prints the reports. */
-void run_to_the_end(void);
+/* Matches what is in work to its end and prints the reports; gives how many steps that took. */
+uint64_t run_to_the_end(void);
 
 /* Takes a message to its end and prints the answer in words behind what stands in the line already, then the reports. */
 void take_message(const struct message *message);
+
+/* Takes the messages of a buffer, as many as one area has room for the reports of, prints the reports, and brings the last message to its
+ * end. Adds to the place how far it came and to `finished` how many messages are; gives 0 where all are, 1 where more may be taken from
+ * the place on, or the refusal. */
+uint64_t load_some(struct part buffer, uint64_t *place, uint64_t *finished);
 
 /* A level of the book; its quote in the library's steps. */
 struct level {

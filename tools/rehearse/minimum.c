@@ -16,6 +16,11 @@ void note_before(const uint8_t *table, const struct message *message)
     noted = *message;
 }
 
+void forget_noted(void)
+{
+    noted.kept = 0;
+}
+
 bool is_killed(struct part report)
 {
     bool has_minimum = part_is(value_of(report, 59), "4") || value_of(report, 110).length > 0;
@@ -74,13 +79,15 @@ static uint64_t traded(struct part reports)
     return quantity;
 }
 
-/* False where the order without its minimum is not taken either. */
+/* False where the order is not known, or is not taken without its minimum either. */
 static bool could_trade(uint64_t *quantity)
 {
     static struct message plain;
     static uint8_t table[KAMURJESH_TABLE_BYTES], area[65536];
     uint64_t bytes, reports, steps;
     *quantity = 0;
+    if (noted.kept == 0)
+        return false;
     memcpy(table, before, sizeof table);
     write_plain(&plain);
     if (kind->submit(table, sizeof table, plain.bytes, plain.kept, area, sizeof area, &bytes) != KAMURJESH_TAKEN)

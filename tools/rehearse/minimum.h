@@ -8,6 +8,9 @@
 /* Keeps the table as it is before a message is submitted, and the message, for print_killed. */
 void note_before(const uint8_t *table, const struct message *message);
 
+/* From here on the message is not known: of a kill it is not said how much could have traded. */
+void forget_noted(void);
+
 /* Whether a report says that an order was canceled whole because it could not trade its minimum. */
 bool is_killed(struct part report);
 

@@ -19,6 +19,8 @@ static const char help_after[] =
     "\n"
     "The market is that of ./book: venue V, port P, bond code 350, MPIDs 10 to 14, all Cancel Newest, first report number 1.\n"
     "The equities market has symbol 7203 in place of the bond code, and is as this one else.\n"
+    "In the file of --batch the messages lie one behind another, with | for SOH and line ends or none between them; each is found by\n"
+    "its own BodyLength, and it stops where one cannot be. With --batch and no other FILE no lines are read.\n"
     "With --restore it is the one that --save wrote, of the same kind; a file that was changed since is told with its block.\n"
     "A line ends with LF. Every other byte belongs to its message: a CR at the end makes it garbled, as ./book takes it, and\n"
     "the answer says so. A last line needs no LF.\n"
@@ -75,6 +77,11 @@ static int take_chart(struct options *options, char **words)
     return take_value(&options->chart, words);
 }
 
+static int take_batch_file(struct options *options, char **words)
+{
+    return take_value(&options->batch, words);
+}
+
 static int take_save(struct options *options, char **words)
 {
     return take_value(&options->save, words);
@@ -109,6 +116,7 @@ static const struct row {
     {"--port ID", "the order entry port that 109 of the copies shows", take_port},
     {"--group ID", "the trade group that it shows", take_group},
     {"--chart FILE", "draw the book that is left into this file, an SVG picture", take_chart},
+    {"--batch FILE", "first take the messages of this file in one go, and print their reports", take_batch_file},
     {"--save FILE", "write the market that is left into this file, for another day", take_save},
     {"--restore FILE", "go on with the market that was written into this file", take_restore},
     {"--help", "print this", take_help},
@@ -163,6 +171,15 @@ static bool is_standard_input(const struct options *options)
     return options->file == NULL || strcmp(options->file, "-") == 0;
 }
 
+/* Opens the input, if lines are asked for; false where it cannot be. */
+static bool open_input(struct options *options)
+{
+    if (options->file == NULL && options->batch != NULL)
+        return true;
+    options->input = is_standard_input(options) ? stdin : fopen(options->file, "rb");
+    return options->input != NULL;
+}
+
 void complain_of_input(const struct options *options)
 {
     fprintf(stderr, "rehearse: cannot read %s: %s\n", is_standard_input(options) ? "standard input" : options->file, strerror(errno));
@@ -180,8 +197,7 @@ enum asked ask(struct options *options, int count, char **words)
     }
     if (!is_feed_whole(&options->feed))
         return ASKED_BADLY;
-    options->input = is_standard_input(options) ? stdin : fopen(options->file, "rb");
-    if (options->input == NULL) {
+    if (!open_input(options)) {
         complain_of_input(options);
         return ASKED_BADLY;
     }

@@ -12,10 +12,11 @@ struct options {
     bool equities; /* the equities market, and not the bond market */
     struct feed feed;
     const char *chart;   /* NULL for none */
+    const char *batch;   /* NULL for none */
     const char *save;    /* NULL for none */
     const char *restore; /* NULL for none */
-    const char *file;    /* NULL, or -, for standard input */
-    FILE *input;
+    const char *file;    /* NULL, or -, for standard input; with a batch, NULL is for none */
+    FILE *input; /* NULL for none */
 };
 
 /* The values are also the exit status of ask.c. */

@@ -20,7 +20,8 @@ use Rattle.table.proofs.Facts.{market-facts}
 use Rattle.table.proofs.Theorems.{opening-makes-a-market}
 use Rattle.turns.proofs.Running.{ran-next}
 use Rattle.intake.proofs.Theorems.{submit-numbers}
-use Rattle.promises.specs.History.{Call, Submit, Run, Depth, Top, Read, tableOf, reportsOf, tableAfter, reportsAfter}
+use Rattle.load.proofs.Theorems.{load-numbers}
+use Rattle.promises.specs.History.{Call, Submit, Run, Load, Depth, Top, Read, tableOf, reportsOf, tableAfter, reportsAfter}
 use Rattle.promises.specs.Tallies.{blank, accountOf, sells, bought, sold}
 use Rattle.promises.proofs.Histories.{call-keeps, history-keeps}
 use Rattle.promises.proofs.Theorems.{all-read, balanced}
@@ -43,6 +44,7 @@ read-copy-is-one q copy r s a b = a ∙ sym b
 call-next : (q : Instrument) (t : List ℕ) (c : Call) → isMarketOf q t ≡ true → nextOf (tableOf q t c) ≡ nextOf t + length (reportsOf q t c)
 call-next q t (Submit message room) m = submit-numbers q t message room
 call-next q t (Run room budget) m = ran-next q t room budget m
+call-next q t (Load buffer room) m = load-numbers q t buffer room m
 call-next q t (Depth side k) m = omega arith
 call-next q t (Top side) m = omega arith
 call-next q t (Read report) m = omega arith

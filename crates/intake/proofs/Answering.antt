@@ -28,7 +28,7 @@ use Rattle.calls.specs.declared.SubmitAnswer.the-variants as answer
 use Rattle.calls.specs.Told.{joined}
 use Rattle.calls.specs.Checks.{textOf, holder, newStands, cancelStands, replaceStands}
 use Rattle.calls.specs.Submit.{unchanged, faulted, newRejected, changeRejected, newTaken, replacementTaken, cancelTaken, entering, replacing, canceling, handled, submitted}
-use Rattle.intake.specs.Intake.{Asking, Unmet, Left}
+use Rattle.intake.specs.Intake.{Ready, Asking, Unmet, Left}
 use Rattle.intake.proofs.Legibles.{replace-unmet, cancel-unmet}
 
 -- ---- by the checks
@@ -133,15 +133,33 @@ module _ (i : Instrument) (t message area : List ℕ) where
           numbers-spent h =
               rw (le-ltb (length area) 1024 room, ← p, m, ← q, eq-eqb w 0 z, ← s, lt-ltb 999998976 n h) (unchanged-left t area answer.NumbersSpent)
 
-          module _ (l : n ≤ 999998976) (venue port : List ℕ) (v : venue ≡ venueOf t) (o : port ≡ portOf t) (a : Asked) (e : a ≡ askedOf i venue port message) where
-            asks : a ≡ askedOf (instrumentOf t) (venueOf t) (portOf t) message
-            asks = e ∙ rw (v, o, market-instrument i t market-of)
+          pub ready : n ≤ 999998976 → Ready i t
+          ready l = record { market = market-of; idle = sym q ∙ z; numbers = omega arith }
 
-            pub asked-of : Asking t message a
-            asked-of = record { market = market-is; idle = sym q ∙ z; numbers = omega arith; asks = sym asks }
+-- ---- a market that can take the message
 
-            pub submitted-left : (r : SubmitAnswer) (u after : List ℕ) → Left (handled t message a) area r u after
-                → Left (submitted i t message (length area)) area r u after
-            unfolding submitted
-            submitted-left r u after h =
-                rw (le-ltb (length area) 1024 room, ← p, m, ← q, eq-eqb w 0 z, ← s, le-ltb 999998976 n l) (rw asks at h)
+module _ (i : Instrument) (t message : List ℕ) (y : Ready i t) where
+  ready-market : Market t
+  ready-market = market-facts t (of-market i t (y .market))
+
+  pub ready-long : length t ≡ tableBytes
+  ready-long = ready-market .long
+
+  module _ (venue port : List ℕ) (v : venue ≡ venueOf t) (o : port ≡ portOf t) (a : Asked) (e : a ≡ askedOf i venue port message) where
+    asks : a ≡ askedOf (instrumentOf t) (venueOf t) (portOf t) message
+    asks = e ∙ rw (v, o, market-instrument i t (y .market))
+
+    pub asked-of : Asking t message a
+    asked-of = record { market = ready-market; idle = y .idle; numbers = y .numbers; asks = sym asks }
+
+    pub submitted-left : (area : List ℕ) → 1024 ≤ length area → (r : SubmitAnswer) (u after : List ℕ) → Left (handled t message a) area r u after
+        → Left (submitted i t message (length area)) area r u after
+    unfolding submitted
+    submitted-left area room r u after h =
+        rw (
+          le-ltb (length area) 1024 room,
+          y .market,
+          eq-eqb (workOf t) 0 (y .idle),
+          le-ltb 999998976 (nextOf t) (y .numbers),
+        )
+        (rw asks at h)

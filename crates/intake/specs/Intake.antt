@@ -3,6 +3,7 @@ use mathlib.Core.Path.{_≡_}
 use mathlib.Core.Bool.{true}
 use mathlib.Core.List.{List, [], _∷_}
 use Prim.Native.Nat.{ℕ, _≤_}
+use Rattle.decimal.specs.declared.Instrument.{Instrument}
 use Rattle.decimal.specs.Reading.{isTime}
 use Rattle.fix.specs.declared.frame.Part.{Part}
 use Rattle.request.specs.declared.Terms.{Terms}
@@ -11,13 +12,19 @@ use Rattle.request.specs.Asks.{askedOf}
 use Rattle.matching.specs.declared.Order.{Order}
 use Rattle.table.specs.Heading.{venueOf, portOf, nextOf, workOf, instrumentOf}
 use Rattle.table.specs.Orders.{filled}
-use Rattle.table.specs.Market.{isPrintable}
+use Rattle.table.specs.Market.{isPrintable, isMarketOf}
 use Rattle.table.specs.Facts.{Market}
 use Rattle.ticket.specs.Legible.{Placed, isAmong}
 use Rattle.calls.specs.declared.SubmitAnswer.{SubmitAnswer}
 use Rattle.calls.specs.Told.{areaAfter}
 use Rattle.calls.specs.Checks.{textOf}
 use Rattle.calls.specs.Submit.{Submitted, sentAt}
+
+-- a market of bonds or of equities that can take a message: nothing is in work, and numbers are left
+pub record Ready (q : Instrument) (t : List ℕ) : Type 0 where
+  pub market : isMarketOf q t ≡ true
+  pub idle : workOf t ≡ 0
+  pub numbers : nextOf t ≤ 999998976
 
 -- a market with nothing in work and numbers left, to which a message asks a
 pub record Asking (t message : List ℕ) (a : Asked) : Type 0 where

@@ -1,6 +1,6 @@
 // The market for programs in C (include/kamurjesh.h). Each call of bonds, and the call of equities beside it, is the one that both has for
-// either; both writes each value of an answer through a pointer, 0 where it has none. The calls that keep a market overnight are in
-// images. A slice passes as a pointer and a length.
+// either; both writes each value of an answer through a pointer, 0 where it has none. Load is in loads, and the calls that keep a market
+// overnight are in images. A slice passes as a pointer and a length.
 ghost use mathlib.Core.Path.{_≡_};
 ghost use lib.ListN.{length};
 ghost use Rattle.decimal.specs.declared.Instrument.the-variants.{Bonds, Equities};
@@ -10,6 +10,7 @@ ghost use Rattle.calls.specs.Open.{openAnswer, openNumberOf};
 ghost use Rattle.calls.specs.Told.{areaAfter};
 ghost use Rattle.calls.specs.Submit.{submitted, submitNumber, submitLength};
 ghost use Rattle.calls.specs.Run.{ran, runNumber, runBytes, runReports, runSteps};
+ghost use Rattle.load.specs.Load.{loaded, loadNumber, loadPlace, loadFinished, loadBytes, loadReports};
 ghost use Rattle.market.specs.Depth.{depthAnswer, depthNumber, hasLevel};
 ghost use Rattle.market.specs.Top.{topAnswer};
 ghost use Rattle.report.specs.Reports.{readOf, partOf};
@@ -20,6 +21,7 @@ ghost use Rattle.kamurjesh.specs.Numbers.{levelIn, quoteOf, isThere, sta
 
 pub mod both;
 pub mod images;
+pub mod loads;
 pub mod numbers;
 
 use crate::both::copy_of;
@@ -30,6 +32,7 @@ use crate::both::read_of;
 use crate::both::run_of;
 use crate::both::submit_of;
 use crate::both::top_of;
+use crate::loads::load_of;
 use crate::numbers::is_there;
 use crate::numbers::len_of;
 use crate::numbers::start_of;
@@ -173,6 +176,70 @@ pub extern "C" fn kamurjesh_equities_run(
         bytes,
         reports,
         steps,
+    )
+}
+
+// Takes the messages of a buffer to a market of bonds, each submitted and run to its end: 0, or why it stopped, with the place of the
+// first message not submitted, the messages finished, and the bytes and reports written; or a refusal.
+#[no_mangle]
+pub extern "C" fn kamurjesh_load(
+    table: &mut [u8],
+    buffer: &[u8],
+    area: &mut [u8],
+    place: &mut u64,
+    finished: &mut u64,
+    bytes: &mut u64,
+    reports: &mut u64,
+) -> u64
+    ensures { λ r. ⌜ (r ≡ loadNumber (loaded Bonds (now (table .entry)) (now (buffer .entry)) (length (now (area .entry))) .answer))
+        × (now (place .exit) ≡ loadPlace (loaded Bonds (now (table .entry)) (now (buffer .entry)) (length (now (area .entry))) .answer))
+        × (now (finished .exit) ≡ loadFinished (loaded Bonds (now (table .entry)) (now (buffer .entry)) (length (now (area .entry))) .answer))
+        × (now (bytes .exit) ≡ loadBytes (loaded Bonds (now (table .entry)) (now (buffer .entry)) (length (now (area .entry))) .answer))
+        × (now (reports .exit) ≡ loadReports (loaded Bonds (now (table .entry)) (now (buffer .entry)) (length (now (area .entry))) .answer))
+        × (now (table .exit) ≡ loaded Bonds (now (table .entry)) (now (buffer .entry)) (length (now (area .entry))) .table)
+        × (now (area .exit) ≡ areaAfter (now (area .entry)) (loaded Bonds (now (table .entry)) (now (buffer .entry)) (length (now (area .entry))) .reports)) ⌝ }
+{
+    load_of(
+        Instrument::Bonds,
+        table,
+        buffer,
+        area,
+        place,
+        finished,
+        bytes,
+        reports,
+    )
+}
+
+// Takes the messages of a buffer to a market of equities, each submitted and run to its end: 0, or why it stopped, with the place of the
+// first message not submitted, the messages finished, and the bytes and reports written; or a refusal.
+#[no_mangle]
+pub extern "C" fn kamurjesh_equities_load(
+    table: &mut [u8],
+    buffer: &[u8],
+    area: &mut [u8],
+    place: &mut u64,
+    finished: &mut u64,
+    bytes: &mut u64,
+    reports: &mut u64,
+) -> u64
+    ensures { λ r. ⌜ (r ≡ loadNumber (loaded Equities (now (table .entry)) (now (buffer .entry)) (length (now (area .entry))) .answer))
+        × (now (place .exit) ≡ loadPlace (loaded Equities (now (table .entry)) (now (buffer .entry)) (length (now (area .entry))) .answer))
+        × (now (finished .exit) ≡ loadFinished (loaded Equities (now (table .entry)) (now (buffer .entry)) (length (now (area .entry))) .answer))
+        × (now (bytes .exit) ≡ loadBytes (loaded Equities (now (table .entry)) (now (buffer .entry)) (length (now (area .entry))) .answer))
+        × (now (reports .exit) ≡ loadReports (loaded Equities (now (table .entry)) (now (buffer .entry)) (length (now (area .entry))) .answer))
+        × (now (table .exit) ≡ loaded Equities (now (table .entry)) (now (buffer .entry)) (length (now (area .entry))) .table)
+        × (now (area .exit) ≡ areaAfter (now (area .entry)) (loaded Equities (now (table .entry)) (now (buffer .entry)) (length (now (area .entry))) .reports)) ⌝ }
+{
+    load_of(
+        Instrument::Equities,
+        table,
+        buffer,
+        area,
+        place,
+        finished,
+        bytes,
+        reports,
     )
 }
 

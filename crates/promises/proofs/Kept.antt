@@ -39,6 +39,9 @@ use Rattle.calls.specs.Told.{joined, roomAsked}
 use Rattle.calls.specs.Checks.{newStands, cancelStands, replaceStands}
 use Rattle.calls.specs.Submit.{rejecting, faulted, newRejected, changeRejected, newTaken, replacementTaken, cancelTaken, entering, replacing, canceling, handled, submitted}
 use Rattle.calls.specs.Run.{worked, ran}
+use Rattle.load.specs.declared.LoadAnswer.the-variants as load-answer
+use Rattle.load.specs.Load.{loaded, loadNumber, refuses}
+use Rattle.load.proofs.Answers.{Opens, narrow, strange, busy, went, opens}
 use Rattle.intake.proofs.Keeping.{Comes, no-room, no-market, in-work, spent, heard, comes}
 use Rattle.market.specs.declared.DepthAnswer.the-variants as depth-answer
 use Rattle.market.specs.Depth.{isSide, depthAnswer}
@@ -199,6 +202,15 @@ module _ (q : Instrument) (t : List ℕ) (m : isMarketOf q t ≡ true) where
       let x : run-answer.Ran (length (joined (w .reports))) (length (w .reports)) (w .steps) ≡ run-answer.NoMarket = rw (z, m) at e in
       let y : _≡_ {A = ℕ} 0 1 = cc in
       omega arith)
+
+  pub load-found : (buffer : List ℕ) (room : ℕ) → loaded q t buffer room .answer ≢ load-answer.NoMarket
+  load-found buffer room e = by (opens q t buffer room)
+    where
+      by : Opens q t buffer room → ⊥
+      by (narrow a x) = let n : _≡_ {A = ℕ} 1 2 = rw x at (ap loadNumber e) in omega arith
+      by (strange a n x) = not-both m n
+      by (busy a n w x) = let n : _≡_ {A = ℕ} 3 2 = rw x at (ap loadNumber e) in omega arith
+      by (went a n w x) = not-both (ap refuses e) (rw x)
 
   pub depth-found : (side k : ℕ) → depthAnswer q t side k ≢ depth-answer.NoMarket
   unfolding depthAnswer

@@ -3,9 +3,10 @@
 -- that are computed. The others are the way there, and nothing in them need be believed. Tells: what a report does to an account;
 -- OrderIds: which record has one; Exacts: events of a step; Pairs: Trades by 880; Leads: reports lead from table to table; Playing: events
 -- with their reports; Trading: the Trades of a step; Running: the reports of Run; Requested: the book after a request; Asked: the report
--- of an event that a message asks for; Submitting: the report of Submit; Opening: an opened table; Histories: calls in turn; Telling: each
--- report tells what it is of; Agreeing: steps against matching; Depths: levels add up; Spending: steps left; Putting: what Submit puts in
--- work; Minimums: what becomes of a minimum; Prices: levels said in prices; Kept: from the first table on.
+-- of an event that a message asks for; Submitting: the report of Submit; Opening: an opened table; Loading: loads as single calls;
+-- Histories: calls in turn; Telling: each report tells what it is of; Agreeing: steps against matching; Depths: levels add up; Spending:
+-- steps left; Putting: what Submit puts in work; Minimums: what becomes of a minimum; Prices: levels said in prices; Kept: from the first
+-- table on.
 pub mod Tells
 pub mod OrderIds
 pub mod Exacts
@@ -18,6 +19,7 @@ pub mod Requested
 pub mod Asked
 pub mod Submitting
 pub mod Opening
+pub mod Loading
 pub mod Histories
 pub mod Telling
 pub mod Agreeing

@@ -34,7 +34,7 @@ use Rattle.calls.specs.Run.{stepReports, stops, worked, ran}
 use Rattle.turns.proofs.Stepping.{step-book, step-work, step-modes, step-decided}
 use Rattle.turns.proofs.Taking.{goes-busy}
 use Rattle.turns.proofs.Agreeing.{run-one}
-use Rattle.promises.specs.History.{Call, Submit, Run, Depth, Top, Read, tableAfter, reportsAfter, noSubmit}
+use Rattle.promises.specs.History.{Call, Submit, Run, Load, Depth, Top, Read, tableAfter, reportsAfter, noSubmit}
 use Rattle.promises.specs.Shown.{ReportsOf}
 use Rattle.promises.specs.Minimums.{CanceledWhole, Reached}
 use Rattle.promises.proofs.Agreeing.{step-reports, reports-same, reports-append}
@@ -107,7 +107,7 @@ stepping-then t u v rs qs m n a b =
 steps-then : (t u v : List ℕ) (rs qs : List Reading) → Steps t u rs → Steps u v qs → Steps t v (rs ++ qs)
 steps-then t u v rs qs a b = record { number = a .number + b .number; by = stepping-then t u v rs qs (a .number) (b .number) (a .by) (b .by) }
 
--- Run, and calls of which Submit is no part
+-- Run, and calls of which neither Submit nor Load is a part
 worked-steps : (q : Instrument) (n : ℕ) (t : List ℕ) (room : ℕ) → instrumentOf t ≡ q → Market t → Steps t (worked n t room .table) (map (readOf q) (worked n t room .reports))
 unfolding worked
 worked-steps q zero t room k m = none-steps t
@@ -135,6 +135,7 @@ after-steps q (Run room budget ∷ cs) t m h =
     rw (map-append (readOf q) (ran q t room budget .reports) (reportsAfter q (ran q t room budget .table) cs))
     (steps-then t (ran q t room budget .table) _ (map (readOf q) (ran q t room budget .reports)) _ (ran-steps q t room budget m)
     (after-steps q cs (ran q t room budget .table) (call-keeps q t (Run room budget) m) h))
+after-steps q (Load buffer room ∷ cs) t m h = absurd (not-both h refl)
 after-steps q (Depth side k ∷ cs) t m h = after-steps q cs t m h
 after-steps q (Top side ∷ cs) t m h = after-steps q cs t m h
 after-steps q (Read report ∷ cs) t m h = after-steps q cs t m h

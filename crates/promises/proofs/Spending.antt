@@ -26,7 +26,7 @@ use Rattle.calls.specs.Told.{joined, roomAsked}
 use Rattle.calls.specs.Run.{stepReports, stops, worked, ran, runSteps}
 use Rattle.turns.proofs.Stepping.{in-work, step-book, step-work}
 use Rattle.turns.proofs.Taking.{goes-busy}
-use Rattle.promises.specs.History.{Call, Submit, Run, Depth, Top, Read, tableAfter, stepsAfter, noSubmit}
+use Rattle.promises.specs.History.{Call, Submit, Run, Load, Depth, Top, Read, tableAfter, stepsAfter, noSubmit}
 use Rattle.promises.proofs.Histories.{call-keeps}
 
 -- the steps that order w of book b can still take: none if nothing is in work
@@ -76,6 +76,7 @@ after-less q [] t m h = omega arith
 after-less q (Submit message room ∷ cs) t m h = absurd (not-both h refl)
 after-less q (Run room budget ∷ cs) t m h =
     omega (arith, ran-less q t room budget m, after-less q cs (ran q t room budget .table) (call-keeps q t (Run room budget) m) h)
+after-less q (Load buffer room ∷ cs) t m h = absurd (not-both h refl)
 after-less q (Depth side k ∷ cs) t m h = omega (arith, after-less q cs t m h)
 after-less q (Top side ∷ cs) t m h = omega (arith, after-less q cs t m h)
 after-less q (Read report ∷ cs) t m h = omega (arith, after-less q cs t m h)

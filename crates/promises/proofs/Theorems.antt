@@ -4,11 +4,12 @@
 -- reports as Read gives them.
 use mathlib.Core.Path.{_≡_, ap, _∙_}
 use mathlib.Core.Bool.{true, false}
-use mathlib.Core.List.{List, map}
+use mathlib.Core.List.{List, [], _∷_, map}
 use mathlib.Core.Logic.{_≢_, _⊎_}
 use Prim.Native.Nat.{ℕ, _+_, _*_, _≤_, _<_}
 use native.Mathlib.Nat.{le-trans}
 use lib.Dec.{leb}
+use lib.ListN.{drop}
 use Rattle.decimal.specs.declared.Instrument.{Instrument}
 use Rattle.decimal.specs.declared.Instrument.the-variants.{Equities}
 use Rattle.decimal.specs.Instruments.{highest}
@@ -28,17 +29,22 @@ use Rattle.calls.specs.declared.SubmitAnswer.the-variants as submit-answer
 use Rattle.calls.specs.declared.RunAnswer.the-variants as run-answer
 use Rattle.calls.specs.Submit.{submitted}
 use Rattle.calls.specs.Run.{ran, runSteps}
+use Rattle.load.specs.declared.LoadAnswer.the-variants as load-answer
+use Rattle.load.specs.Load.{enough, Loaded, loaded, loadNumber, loadPlace, refuses}
+use Rattle.load.specs.Resumes.{GoesOn}
+use Rattle.load.proofs.Theorems.{load-goes-on}
 use Rattle.market.specs.declared.DepthAnswer.the-variants as depth-answer
 use Rattle.market.specs.Depth.{depthAnswer}
 use Rattle.market.specs.Top.{topAnswer}
 use Rattle.market.proofs.Theorems.{top-tells-depth}
 use Rattle.intake.proofs.Theorems.{submit-keeps}
-use Rattle.promises.specs.History.{Call, tableAfter, reportsAfter, stepsAfter, noSubmit}
+use Rattle.promises.specs.History.{Call, Run, Load, tableAfter, reportsAfter, stepsAfter, noSubmit, singles, noLoad}
 use Rattle.promises.specs.Tallies.{blank, accountOf, bought, sold, tradesOf, selfTrades, unread}
 use Rattle.promises.specs.Prices.{priceOf}
 use Rattle.promises.specs.Minimums.{CanceledWhole, Reached}
 use Rattle.promises.specs.Whole.{openBy, openIn, ordersIn, overDepth}
-use Rattle.promises.proofs.Kept.{Told, after-market, after-told, account-adds, account-left, account-none, open-record, open-gone, submit-found, run-found, depth-found, buys-above}
+use Rattle.promises.proofs.Loading.{singles-table, singles-reports, singles-steps, singles-none, gone-on-table, gone-on-reports}
+use Rattle.promises.proofs.Kept.{Told, after-market, after-told, account-adds, account-left, account-none, open-record, open-gone, submit-found, run-found, load-found, depth-found, buys-above}
 use Rattle.promises.proofs.Prices.{higher-first, lower-first, meets-price, price-below}
 use Rattle.promises.proofs.Depths.{totals-open, orders-open}
 use Rattle.promises.proofs.Agreeing.{ran-ends}
@@ -69,8 +75,51 @@ module _ (q : Instrument) (before venue port code : List ℕ) (first : ℕ) (mpi
   pub run-finds-a-market : (room budget : ℕ) → ran q table room budget .answer ≢ run-answer.NoMarket
   run-finds-a-market = run-found q table a-market
 
+  pub load-finds-a-market : (buffer : List ℕ) (room : ℕ) → loaded q table buffer room .answer ≢ load-answer.NoMarket
+  load-finds-a-market = load-found q table a-market
+
   pub depth-finds-a-market : (side k : ℕ) → depthAnswer q table side k ≢ depth-answer.NoMarket
   depth-finds-a-market = depth-found q table a-market
+
+  -- ---- a load is single calls: with every load taken apart into what it does with each message, Submit and Run, the history has no load
+  -- left, and comes to the same table with the same reports in as many steps
+  abbrev takenApart : List Call
+  takenApart = singles q (opened q before venue port code first mpids modes) calls
+
+  pub no-load-left : noLoad takenApart ≡ true
+  no-load-left = singles-none q calls (opened q before venue port code first mpids modes)
+
+  pub loads-are-calls : tableAfter q (opened q before venue port code first mpids modes) takenApart ≡ table
+  loads-are-calls = singles-table q calls (opened q before venue port code first mpids modes)
+
+  pub loads-tell-calls : reportsAfter q (opened q before venue port code first mpids modes) takenApart ≡ reports
+  loads-tell-calls = singles-reports q calls (opened q before venue port code first mpids modes)
+
+  pub loads-step-as-calls : stepsAfter q (opened q before venue port code first mpids modes) takenApart ≡ stepsAfter q (opened q before venue port code first mpids modes) calls
+  loads-step-as-calls = singles-steps q calls (opened q before venue port code first mpids modes)
+
+  -- one that comes next and stops for want of room is gone on with: Run ends what it left in work, and a load of the rest of the buffer
+  -- comes to the table and the reports of one load that has room for all
+  module _ (buffer : List ℕ) (room further again wide : ℕ) where
+    abbrev stopped : Loaded
+    stopped = loaded q table buffer room
+
+    abbrev ended : List ℕ
+    ended = ran q (stopped .table) further enough .table
+
+    abbrev rest : List ℕ
+    rest = drop (loadPlace (stopped .answer)) buffer
+
+    module _ (begun : refuses (stopped .answer) ≡ false) (narrow : loadNumber (stopped .answer) ≡ 1) (idle : workOf ended ≡ 0)
+        (enough-again : loadNumber (loaded q ended rest again .answer) ≢ 1) (enough-at-once : loadNumber (loaded q table buffer wide .answer) ≢ 1) where
+      goes-on : GoesOn stopped (ran q (stopped .table) further enough) (loaded q ended rest again) (loaded q table buffer wide)
+      goes-on = load-goes-on q table buffer room further again wide begun narrow idle enough-again enough-at-once
+
+      pub gone-on-with : tableAfter q table (Load buffer room ∷ Run further enough ∷ Load rest again ∷ []) ≡ tableAfter q table (Load buffer wide ∷ [])
+      gone-on-with = gone-on-table q table buffer room further again wide goes-on
+
+      pub gone-on-told : reportsAfter q table (Load buffer room ∷ Run further enough ∷ Load rest again ∷ []) ≡ reportsAfter q table (Load buffer wide ∷ [])
+      gone-on-told = gone-on-reports q table buffer room further again wide goes-on
 
   -- ---- the best level that the heading keeps: Top answers what Depth answers for k = 0, of any side, refusals and "no such level"
   -- included

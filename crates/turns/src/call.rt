@@ -20,8 +20,9 @@ fn rests(t: &[u8], free: usize) -> bool
     (work(t) == 0) | (free < 1024)
 }
 
-// Steps within a budget; the reports of each start where those of the one before ended.
-fn steps(table: &mut [u8], area: &mut [u8], budget: u64) -> RunAnswer
+// Steps within a budget; the reports of each start where those of the one before ended. For callers that know that their table is a market: it
+// is not looked at again.
+pub fn steps(table: &mut [u8], area: &mut [u8], budget: u64) -> RunAnswer
     requires { ⌜ Market (now table) ⌝ }
     ensures { λ r. ⌜ Walked (now (table .entry)) (now (area .entry)) budget r (now (table .exit)) (now (area .exit)) ⌝ }
 {

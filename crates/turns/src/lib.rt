@@ -4,3 +4,4 @@ pub mod events;
 pub mod step;
 
 pub use call::run;
+pub use call::steps;

@@ -1,5 +1,6 @@
 // Does the commands of tests/vectors (the form is told there) on a market of bonds or of equities and writes the answer to each, line by line.
 mod images;
+mod loads;
 mod say;
 mod text;
 
@@ -326,6 +327,9 @@ fn command(q: Instrument, table: &mut [u8], letter: u8, s: &[u8]) {
     }
     if letter == b'r' {
         return run(q, table, s);
+    }
+    if letter == b'l' {
+        return loads::load(q, table, s);
     }
     if letter == b'd' {
         return depths(q, table, s);

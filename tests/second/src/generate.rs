@@ -1,6 +1,6 @@
-//! Command files made from a seed: several markets, messages good and damaged, runs that stop and go on, depths,
-//! reports handed to feeds, reports and drop copies read back whole and damaged, and tables written out and read back. The same seed and count give the
-//! same commands everywhere.
+//! Command files made from a seed: several markets, messages good and damaged, alone and in buffers, runs that stop and
+//! go on, depths, reports handed to feeds, reports and drop copies read back whole and damaged, and tables written out
+//! and read back. The same seed and count give the same commands everywhere.
 //!
 //! The generator plays its own commands on a desk, so that it knows which orders are open and what was reported.
 
@@ -32,6 +32,7 @@ pub fn generate(instrument: Instrument, seed: u64, count: u64) -> Vec<String> {
         while generator.messages < last {
             generator.turn();
             generator.keep_overnight();
+            generator.load_at_times();
         }
         generator.finish_market();
     }
@@ -241,6 +242,8 @@ struct Generator {
     seconds: u64,
     /// The number of messages at which this market's table was written out, until it is read back.
     saved: Option<u64>,
+    /// Until so many messages it is not written out again.
+    rested: u64,
 }
 
 impl Generator {
@@ -260,6 +263,7 @@ impl Generator {
             ids: 0,
             seconds: 0,
             saved: None,
+            rested: 0,
         };
         generator.say(&Command::Calls { of: instrument });
         generator
@@ -284,6 +288,7 @@ impl Generator {
         let written = match command {
             Command::Submit { area, message } => self.desk.submit(message, *area).report,
             Command::Run { area, budget } => self.desk.run(*area, *budget).bytes,
+            Command::Load { area, buffer } => self.desk.load(buffer, *area).bytes,
             other => {
                 self.desk.answer(other);
                 Vec::new()
@@ -418,15 +423,43 @@ impl Generator {
         }
     }
 
-    /// Writes the table out every 40 messages, and reads it back 10 messages later, after a look at a changed image: the
+    /// Now and then, mostly where nothing is in work, a buffer of messages: good ones and damaged ones, sometimes cut off. A
+    /// command or an answer that would be longer than a line is not said.
+    fn load_at_times(&mut self) {
+        if self.messages % 30 < 22 || self.is_in_work() && self.random.percent(90) {
+            return;
+        }
+        let mut buffer = Vec::new();
+        for _ in 0..self.random.between(2, 6) {
+            let draft = self.good_message();
+            self.messages += 1;
+            buffer.extend(if self.random.percent(self.profile.damage / 2) {
+                damaged(&mut self.random, self.instrument, &draft)
+            } else {
+                draft.bytes()
+            });
+        }
+        if self.random.percent(10) {
+            buffer.truncate(self.random.below(buffer.len().max(1)));
+        }
+        let area = self.random.pick(&[0, 1024, 1250, 1500, 2048, 3000, 4096, 6144, 7000, 7000]);
+        let command = Command::Load { area, buffer };
+        let answer = self.desk.clone().answer(&command);
+        if command.to_string().len() <= LONGEST_LINE && answer.len() <= LONGEST_LINE {
+            self.say(&command);
+        }
+    }
+
+    /// Writes the table out now and then, and reads it back 10 messages later, after a look at a changed image: the
     /// market is then what it was.
     fn keep_overnight(&mut self) {
         match self.saved {
-            None if self.messages % 40 == 20 => self.save(),
+            None if self.messages % 40 >= 20 && self.messages >= self.rested => self.save(),
             Some(before) if self.messages >= before + 10 => {
                 self.restore_damaged();
                 self.say(&Command::Restore { table: TABLE, image: IMAGE });
                 self.saved = None;
+                self.rested = self.messages + 65;
             }
             _ => {}
         }

@@ -4,7 +4,8 @@
 //!
 //! Read in this order: `shape` (digits, yields, prices, times), `instrument` (in what the bond market and the equities
 //! market differ), `message` (what is garbled), `session` (what a good message asks, or why it gets a Session Reject),
-//! `order`, `matching` (one step), `report` (what is written), `market` (the calls), `table` (its bytes), `image` (a table
+//! `order`, `matching` (one step), `report` (what is written), `market` (the calls), `batch` (many messages in one
+//! call), `table` (its bytes), `image` (a table
 //! written out and read back), `read` (reports and drop copies read back), `copy` (drop copies written). Above them stand
 //! `transcript` (command files), `compose`, `damage` and `generate` (messages made for comparison), `script`, `points` (the
 //! hand-written walk through the paper) and `samples` (messages published by others).
@@ -24,6 +25,8 @@ pub mod matching;
 pub mod report;
 
 pub mod market;
+
+pub mod batch;
 
 pub mod table;
 

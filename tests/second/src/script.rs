@@ -10,7 +10,7 @@ use crate::image::IMAGE;
 use crate::instrument::Instrument;
 use crate::market::Participant;
 use crate::table::TABLE;
-use crate::transcript::{Command, Desk};
+use crate::transcript::{Command, Desk, LARGEST_AREA};
 
 /// What must be answered to a line.
 #[derive(Clone, Debug)]
@@ -21,6 +21,8 @@ enum Expected {
     Submitted { number: u64, fields: Vec<String> },
     /// `r 0 BYTES REPORTS STEPS ..`, each report having its fields.
     Ran { steps: u64, reports: Vec<Vec<String>> },
+    /// `l NUMBER PLACE FINISHED BYTES REPORTS ..`, each report having its fields.
+    Loaded { number: u64, place: usize, finished: u64, reports: Vec<Vec<String>> },
     /// `c 0 LENGTH NEXT_AFTER COPY`, the copy having these fields.
     Copied { next_after: u64, fields: Vec<String> },
     /// `w 0` and 65 checks.
@@ -150,6 +152,25 @@ impl Script {
     pub fn run_in(&mut self, area: usize, budget: u64, steps: u64, reports: &[&[&str]]) {
         let reports = reports.iter().map(|fields| owned(fields)).collect();
         self.push(Command::Run { area, budget }, Expected::Ran { steps, reports });
+    }
+
+    /// Load of a buffer with any area, answered by a number, a place, how many messages were finished, and these reports.
+    pub fn load_in(&mut self, area: usize, buffer: &[u8], answer: (u64, usize, u64), reports: &[&[&str]]) {
+        let (number, place, finished) = answer;
+        let reports = reports.iter().map(|fields| owned(fields)).collect();
+        let command = Command::Load { area, buffer: buffer.to_vec() };
+        self.push(command, Expected::Loaded { number, place, finished, reports });
+    }
+
+    /// Load of a buffer that is loaded whole: so many messages, and these reports.
+    pub fn loaded(&mut self, buffer: &[u8], finished: u64, reports: &[&[&str]]) {
+        self.load_in(LARGEST_AREA, buffer, (0, buffer.len(), finished), reports);
+    }
+
+    /// Load answered by a refusal of the whole call.
+    pub fn load_refused(&mut self, area: usize, buffer: &[u8], number: u64) {
+        let command = Command::Load { area, buffer: buffer.to_vec() };
+        self.push(command, Expected::Whole(format!("l {number} 0 0 0 0")));
     }
 
     /// Run answered by exactly these bytes.
@@ -345,9 +366,13 @@ impl Expected {
                 let (head, bytes) = cut_words(answer, 5);
                 let wanted = format!("r 0 {} {} {steps}", bytes.len(), reports.len());
                 require(head == wanted, format!("expected: {wanted}"))?;
-                let written = bytes.split_inclusive('|').collect::<Vec<_>>();
-                let written = written.split(|field| field.starts_with("8=")).skip(1);
-                written.zip(reports).try_for_each(|(report, fields)| hold_fields(&report.concat(), fields))
+                hold_reports(&bytes, reports)
+            }
+            Expected::Loaded { number, place, finished, reports } => {
+                let (head, bytes) = cut_words(answer, 6);
+                let wanted = format!("l {number} {place} {finished} {} {}", bytes.len(), reports.len());
+                require(head == wanted, format!("expected: {wanted}"))?;
+                hold_reports(&bytes, reports)
             }
             Expected::Copied { next_after, fields } => {
                 let (head, copy) = cut_words(answer, 4);
@@ -380,6 +405,13 @@ fn cut_words(answer: &str, words: usize) -> (String, String) {
     let head: Vec<&str> = parts.by_ref().take(words).collect();
     let bytes = unescaped(parts.next().unwrap_or("")).unwrap_or_default();
     (head.join(" "), String::from_utf8_lossy(&bytes).replace('\x01', "|"))
+}
+
+/// Whether reports that stand one behind another, `|` for SOH, each have their fields.
+fn hold_reports(bytes: &str, reports: &[Vec<String>]) -> Result<(), String> {
+    let written = bytes.split_inclusive('|').collect::<Vec<_>>();
+    let written = written.split(|field| field.starts_with("8=")).skip(1);
+    written.zip(reports).try_for_each(|(report, fields)| hold_fields(&report.concat(), fields))
 }
 
 /// Whether a report, `|` for SOH, has each of these fields; `no 378` says that 378 is absent.

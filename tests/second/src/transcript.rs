@@ -3,6 +3,7 @@
 use std::fmt;
 use std::num::TryFromIntError;
 
+use crate::batch::{load, Loaded};
 use crate::copy::{copy, Copied, Feed};
 use crate::escape::{escaped, unescaped};
 use crate::image::{restore, save, NotRestored, BLOCK, DATA, IMAGE};
@@ -28,6 +29,7 @@ pub enum Command {
     Open { venue: Vec<u8>, port: Vec<u8>, code: Vec<u8>, first_number: u64, participants: Vec<Participant> },
     Submit { area: usize, message: Vec<u8> },
     Run { area: usize, budget: u64 },
+    Load { area: usize, buffer: Vec<u8> },
     Depth { side: u64, k: u64 },
     Top { side: u64 },
     PutByte { at: usize, byte: u8 },
@@ -58,6 +60,7 @@ impl Command {
             }),
             ("s", [size, message]) => Ok(Command::Submit { area: area(size)?, message: bytes(message)? }),
             ("r", [size, budget]) => Ok(Command::Run { area: area(size)?, budget: decimal(budget)? }),
+            ("l", [size, buffer]) => Ok(Command::Load { area: area(size)?, buffer: bytes(buffer)? }),
             ("b", [at, byte]) => {
                 Ok(Command::PutByte { at: place(at)?, byte: decimal(byte)?.try_into().map_err(no_byte)? })
             }
@@ -94,6 +97,7 @@ impl fmt::Display for Command {
             }
             Command::Submit { area, message } => write!(out, "s {area};{}", escaped(message)),
             Command::Run { area, budget } => write!(out, "r {area};{budget}"),
+            Command::Load { area, buffer } => write!(out, "l {area};{}", escaped(buffer)),
             Command::Depth { side, k } => write!(out, "d {side};{k}"),
             Command::Top { side } => write!(out, "t {side}"),
             Command::PutByte { at, byte } => write!(out, "b {at};{byte}"),
@@ -197,6 +201,7 @@ impl Desk {
             }
             Command::Submit { area, message } => submit_line(&self.submit(message, *area)),
             Command::Run { area, budget } => run_line(&self.run(*area, *budget)),
+            Command::Load { area, buffer } => load_line(&self.load(buffer, *area)),
             Command::Depth { side, k } => level_line("d", self.depth(*side, *k)),
             Command::Top { side } => level_line("t", top(self.calls, &self.table(), *side)),
             Command::PutByte { at, byte } => format!("b {}", self.put_byte(*at, *byte)),
@@ -242,6 +247,13 @@ impl Desk {
         match self.called() {
             Some(market) => market.run(area, budget),
             None => Ran { number: refusal_without_market(area), ..Ran::default() },
+        }
+    }
+
+    pub fn load(&mut self, buffer: &[u8], area: usize) -> Loaded {
+        match self.called() {
+            Some(market) => load(market, buffer, area),
+            None => Loaded { number: refusal_without_market(area), ..Loaded::default() },
         }
     }
 
@@ -322,6 +334,11 @@ fn submit_line(submitted: &Submitted) -> String {
 
 fn run_line(ran: &Ran) -> String {
     with_bytes(format!("r {} {} {} {}", ran.number, ran.bytes.len(), ran.reports, ran.steps), &ran.bytes)
+}
+
+fn load_line(loaded: &Loaded) -> String {
+    let Loaded { number, place, finished, bytes, reports } = loaded;
+    with_bytes(format!("l {number} {place} {finished} {} {reports}", bytes.len()), bytes)
 }
 
 fn with_bytes(line: String, bytes: &[u8]) -> String {

@@ -293,6 +293,14 @@ struct Memory {
     taken: Option<Market>,
 }
 
+/// The length of the message at the front of some bytes, by its 9.
+fn length_of(bytes: &[u8]) -> usize {
+    let text = String::from_utf8_lossy(bytes);
+    let body_length = text.split('\x01').nth(1).and_then(|field| field.strip_prefix("9=")).expect("9 stands second");
+    let front = "8=FIX.4.2|9=|".len() + body_length.len();
+    front + body_length.parse::<usize>().expect("9 is a number") + "10=xxx|".len()
+}
+
 /// A history being played.
 struct History {
     desk: Desk,
@@ -333,6 +341,7 @@ impl History {
             }
             Command::Submit { area, message } => self.play_submit(before.as_ref(), message, *area),
             Command::Run { area, budget } => self.play_run(before.as_ref(), *area, *budget),
+            Command::Load { area, buffer } => self.play_load(before.as_ref(), buffer, *area),
             Command::Calls { .. }
             | Command::Depth { .. }
             | Command::Top { .. }
@@ -411,6 +420,34 @@ impl History {
         if self.market().in_work().is_none() {
             let taken = self.memory.taken.as_ref().expect("what was in work was taken");
             assert_minimum_kept(taken, self.market(), taken.in_work().expect("it was in work"));
+        }
+    }
+
+    /// A buffer in one call: market, reports and place are those of its messages one by one.
+    fn play_load(&mut self, before: Option<&Market>, buffer: &[u8], area: usize) {
+        let loaded = self.desk.load(buffer, area);
+        assert!(loaded.bytes.len() <= area && loaded.place <= buffer.len());
+        let mut one_by_one = before.expect("a market is open").clone();
+        let (mut written, mut finished, mut rest) = (Vec::new(), 0, &buffer[..loaded.place]);
+        while !rest.is_empty() {
+            let (message, behind) = rest.split_at(length_of(rest));
+            assert!(area - written.len() >= 1024, "there is room in front of each message");
+            written.extend(one_by_one.submit(message, area - written.len()).report);
+            written.extend(one_by_one.run(area - written.len(), u64::MAX).bytes);
+            finished += u64::from(one_by_one.in_work().is_none());
+            rest = behind;
+        }
+        assert_eq!((&loaded.bytes, loaded.finished, self.market()), (&written, finished, &one_by_one));
+        match loaded.number {
+            0 => assert!(rest.is_empty() && loaded.place == buffer.len() && one_by_one.in_work().is_none()),
+            1 => assert!(area - written.len() < 1024),
+            3 => assert!(one_by_one.in_work().is_some() && written.is_empty()),
+            _ => assert!(area - written.len() >= 1024 && loaded.place < buffer.len()),
+        }
+        self.hear(before, &loaded.bytes, loaded.reports);
+        if self.market().in_work().is_some() && loaded.number != 3 {
+            self.memory.steps_left = met(self.market()) + 1;
+            self.memory.taken = self.desk.market().cloned();
         }
     }
 
@@ -505,7 +542,8 @@ fn a_generated_history_meets_every_outcome() {
         "d 3", "d 10", "t 0", "t 2", "t 3", "t 10", "x 11", "x 0 1", "x 0 2", "x 0 3", "x 0 4", "x 0 5", "x 0 6",
         "x 0 7", "103=0", "103=1", "103=6", "103=99", "102=0", "102=1", "102=2", "373=1", "373=2", "373=3", "373=4",
         "373=5", "373=6", "373=9", "373=11", "378=99", "371=110", "371=544", "371=8214", "378=100", "c 0", "c 1",
-        "c 4", "c 11", "c 17", "y 11", "y 0 1", "y 0 2", "y 0 3", "y 0 4", "w 0", "w 12", "u 0", "u 13",
+        "c 4", "c 11", "c 17", "y 11", "y 0 1", "y 0 2", "y 0 3", "y 0 4", "w 0", "w 12", "u 0", "u 13", "l 0", "l 1",
+        "l 3", "l 4", "l 5",
     ] {
         assert!(answers.contains_key(outcome), "{outcome} never came up");
     }

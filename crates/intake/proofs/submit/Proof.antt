@@ -1,5 +1,5 @@
 -- `intake::submit` meets its contract: the four refusals in their order, then what the message asks.
-use Rattle.intake.proofs.Answering.{no-room, no-market, market-long, in-work, numbers-spent, asked-of, submitted-left}
+use Rattle.intake.proofs.Answering.{no-room, no-market, market-long, in-work, numbers-spent, ready}
 use borrow.Author.Needs.{needs}
 use Rattle.intake.proofs.submit.Statement.{statement}
 use Rattle.intake.proofs.submit.Tie as tie
@@ -55,26 +55,15 @@ returns-4 c =
     (idle .before .work .ensures .0) (idle .if3 .left) _ (c .before .next .ensures) (c .if4 .taken) in
     (l .answers, (l .table-is, l .area-is))
 
-venue-requires : tie.Need-venue-requires
-venue-requires c κs = search needs
-
-port-requires : tie.Need-port-requires
-port-requires c κs = search needs
-
-asked-requires : tie.Need-asked-requires
-asked-requires c κs = search needs
-
-handle-requires : tie.Need-handle-requires
-handle-requires c κs =
-    let asks = c .before .before in
-    let left = asks .before .before .before .before in
+hear-requires : tie.Need-hear-requires
+hear-requires c κs =
+    let left = c .before .before in
     let idle = left .before .before .before in
     let found = idle .before .before .before in
     let room = found .before .before .before in
     let s = room .before .before .before .before .args in (
-      asked-of (s .q) (s .table .now) (s .message .now) (s .area .now) (room .if1 .left) _ (found .before .is-market-of .ensures) (found .if2 .left) _
-          (idle .before .work .ensures .0) (idle .if3 .left) _ (left .before .next .ensures) (left .if4 .left) _ _ (asks .before .before .venue .ensures) (asks .before .port .ensures) _
-          (asks .asked .ensures),
+      ready (s .q) (s .table .now) (s .message .now) (s .area .now) (room .if1 .left) _ (found .before .is-market-of .ensures) (found .if2 .left) _
+          (idle .before .work .ensures .0) (idle .if3 .left) _ (left .before .next .ensures) (left .if4 .left),
       search needs,
     )
 
@@ -85,19 +74,7 @@ same-length-5 : tie.Need-same-length-5
 same-length-5 c = search needs
 
 returns-5 : tie.Need-returns-5
-returns-5 c =
-    let done = c .before .before .before .before in
-    let asks = done .before .before .before in
-    let left = asks .before .before .before .before in
-    let idle = left .before .before .before in
-    let found = idle .before .before .before in
-    let room = found .before .before .before in
-    let s = room .before .before .before .before .args in
-    let l =
-    submitted-left (s .q) (s .table .now) (s .message .now) (s .area .now) (room .if1 .left) _ (found .before .is-market-of .ensures) (found .if2 .left) _
-    (idle .before .work .ensures .0) (idle .if3 .left) _ (left .before .next .ensures) (left .if4 .left) _ _ (asks .before .before .venue .ensures) (asks .before .port .ensures) _
-    (asks .asked .ensures) _ _ _ (done .handle .ensures) in
-    (l .answers, (l .table-is, l .area-is))
+returns-5 c = let l = c .before .before .before .before .hear .ensures in (l .answers, (l .table-is, l .area-is))
 
 pub submit-spec : {M : Type 1} → statement M
 submit-spec =
@@ -113,10 +90,7 @@ submit-spec =
     next-requires
     same-length-3
     returns-4
-    venue-requires
-    port-requires
-    asked-requires
-    handle-requires
+    hear-requires
     same-length-4
     same-length-5
     returns-5)

@@ -27,6 +27,8 @@ pub mod messages;
 
 pub mod minimums;
 
+pub mod morning;
+
 pub mod opening;
 
 pub mod overnight;
@@ -319,6 +321,17 @@ points! {
         a_changed_image_is_noticed
         an_image_that_is_no_market
     }
+    morning {
+        messages_lie_one_behind_another
+        book_r_in_one_call
+        buffers_cut_at_every_byte
+        lengths_that_cannot_be_read
+        garbled_messages_between_good_ones
+        areas_that_end_at_each_place_of_a_sweep
+        room_in_front_of_a_message
+        refusals_of_load_come_in_their_order
+        the_last_numbers_of_a_load
+    }
 }
 
 points! {
@@ -391,6 +404,9 @@ points! {
     }
     overnight {
         shares_are_kept_overnight
+    }
+    morning {
+        shares_in_one_call
     }
 }
 

@@ -1,7 +1,8 @@
 //! Matching, levels and calls of an equities market.
 
+use super::morning::laid;
 use super::share_examples::sells;
-use crate::compose::{new_share_order, share_cancel, share_order, share_order_of, share_replace};
+use crate::compose::{new_share_order, share_cancel, share_order, share_order_of, share_replace, Draft};
 use crate::script::Script;
 
 const BUY: u64 = 1;
@@ -285,10 +286,15 @@ pub fn a_table_full_of_shares(script: &mut Script) {
     script.say("A full table of shares: the 255th order is taken, the next is 103=0 until one is dead");
     script.open_with(["V", "P", "7"], 1, &[(10, 2)], 0);
     let sides = ["1", "2", "5", "6"];
-    for record in 1..=255 {
-        let side = sides[record % 4];
-        let draft = share_order(&record.to_string(), side, "9", if side == "1" { "1" } else { "2" });
-        script.rests(&draft.with("55", "7"));
+    let orders: Vec<Draft> = (1..=255)
+        .map(|record| {
+            let side = sides[record % 4];
+            share_order(&record.to_string(), side, "9", if side == "1" { "1" } else { "2" }).with("55", "7")
+        })
+        .collect();
+    for part in orders.chunks(38) {
+        let reports: Vec<&[&str]> = vec![&["39=0"]; part.len()];
+        script.loaded(&laid(part), part.len() as u64, &reports);
     }
     best(script, BUY, 10, 63 * 9, 63);
     best(script, SELL, 20, 192 * 9, 192);
