@@ -1,6 +1,6 @@
 -- What the two calls answer and leave, return by return.
 use mathlib.Core.Path.{_≡_, sym, ap, _∙_}
-use mathlib.Core.Bool.{Bool, true, false, not, _||_}
+use mathlib.Core.Bool.{Bool, true, false, cond, not, _||_}
 use mathlib.Core.List.{List}
 use Prim.Native.Nat.{ℕ, _≤_, _<_}
 use borrow.Author.Tests.{lt-ltb, le-ltb, eqb-true, not-true, not-false}
@@ -61,18 +61,22 @@ module _ (q : Instrument) (t image : List ℕ) where
       let z : ltb (firstBad image) 65 ≡ true = rw (← e) (lt-ltb k 65 l) in
       (rw (h, z) (ap restore.BadBlock e), rw (h, z))
 
-  pub restore-none : isWrongLength t image ≡ false → (k : ℕ) → k ≡ firstBad image → 65 ≤ k → (m : Bool) → m ≡ isMarketOf q (tableIn image) → not m ≡ true
-      → (restore.NoMarket ≡ restoredAnswer q t image) × (t ≡ tableAfter q t image)
-  unfolding restoredAnswer tableAfter
-  restore-none h k e l m f n =
-      let y : ltb (firstBad image) 65 ≡ false = rw (← e) (le-ltb k 65 l) in
-      let z : isMarketOf q (tableIn image) ≡ false = sym f ∙ not-true m n in
-      (rw (h, y, z), rw (h, y, z))
+  -- the table that an image holds is read, and stays if it is a market
+  module _ (h : isWrongLength t image ≡ false) (k : ℕ) (e : k ≡ firstBad image) (l : 65 ≤ k) (m : Bool) (f : m ≡ isMarketOf q (tableIn image))
+      (after : List ℕ) (w : after ≡ cond m (tableIn image) t) where
+    all-good : ltb (firstBad image) 65 ≡ false
+    all-good = rw (← e) (le-ltb k 65 l)
 
-  pub restore-done : isWrongLength t image ≡ false → (k : ℕ) → k ≡ firstBad image → 65 ≤ k → (m : Bool) → m ≡ isMarketOf q (tableIn image) → not m ≡ false
-      → (after : List ℕ) → after ≡ tableIn image → (restore.Restored ≡ restoredAnswer q t image) × (after ≡ tableAfter q t image)
-  unfolding restoredAnswer tableAfter
-  restore-done h k e l m f n after w =
-      let y : ltb (firstBad image) 65 ≡ false = rw (← e) (le-ltb k 65 l) in
-      let z : isMarketOf q (tableIn image) ≡ true = sym f ∙ not-false m n in
-      (rw (h, y, z), w ∙ rw (h, y, z))
+    pub restore-none : not m ≡ true → (restore.NoMarket ≡ restoredAnswer q t image) × (after ≡ tableAfter q t image)
+    unfolding restoredAnswer tableAfter
+    restore-none n =
+        let z : m ≡ false = not-true m n in
+        let y : isMarketOf q (tableIn image) ≡ false = sym f ∙ z in
+        (rw (h, all-good, y), w ∙ rw (h, all-good, y, z))
+
+    pub restore-done : not m ≡ false → (restore.Restored ≡ restoredAnswer q t image) × (after ≡ tableAfter q t image)
+    unfolding restoredAnswer tableAfter
+    restore-done n =
+        let z : m ≡ true = not-false m n in
+        let y : isMarketOf q (tableIn image) ≡ true = sym f ∙ z in
+        (rw (h, all-good, y), w ∙ rw (h, all-good, y, z))

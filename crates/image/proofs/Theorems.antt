@@ -37,7 +37,7 @@ pub image-restored : (q : Instrument) (t u : List ℕ) → Bytes t → length t 
 image-restored q t u b e f m =
     let none : firstBad (imageOf t) ≡ 65 = bad-is (imageOf t) 65 (omega arith) (λ k l. image-good t e k l b) (λ l. absurd (omega arith)) in
     let back : tableIn (imageOf t) ≡ t = table-back t e in
-    let done = restore-done q u (imageOf t) (is-long u (imageOf t) (length-image t e) f) 65 (sym none) (omega arith) true (sym (ap (isMarketOf q) back ∙ m)) refl t (sym back) in
+    let done = restore-done q u (imageOf t) (is-long u (imageOf t) (length-image t e) f) 65 (sym none) (omega arith) true (sym (ap (isMarketOf q) back ∙ m)) t (sym back) refl in
     (sym (done .0), sym (done .1))
 
 -- the image of a table that is no market of the instrument, as that of a market of the other kind, is refused, and nothing changes
@@ -46,7 +46,7 @@ pub image-refused : (q : Instrument) (t u : List ℕ) → Bytes t → length t �
 image-refused q t u b e f m =
     let none : firstBad (imageOf t) ≡ 65 = bad-is (imageOf t) 65 (omega arith) (λ k l. image-good t e k l b) (λ l. absurd (omega arith)) in
     let r =
-    restore-none q u (imageOf t) (is-long u (imageOf t) (length-image t e) f) 65 (sym none) (omega arith) false (sym (ap (isMarketOf q) (table-back t e) ∙ m)) refl in
+    restore-none q u (imageOf t) (is-long u (imageOf t) (length-image t e) f) 65 (sym none) (omega arith) false (sym (ap (isMarketOf q) (table-back t e) ∙ m)) u refl refl in
     (sym (r .0), sym (r .1))
 
 -- two tables with one image are one

@@ -7,9 +7,7 @@ use native.Mathlib.Omega.{arith}
 use lib.ListN.{length}
 use Rattle.octets.specs.Octets.{put}
 use Rattle.octets.proofs.Ranges.{Sought, sought-more, sought-here, sought-end}
-use Rattle.decimal.specs.declared.Instrument.{Instrument}
 use Rattle.table.specs.Places.{tableBytes}
-use Rattle.table.specs.Market.{isMarketOf}
 use Rattle.image.specs.Image.{imageBytes, blockOf, imageOf, keptIn, tableIn, isGood, firstBad}
 use Rattle.image.proofs.Turns.{Written, written-more, written-end, length-turn}
 use Rattle.image.proofs.Blocks.{length-block, length-image, length-front, length-tableIn}
@@ -47,6 +45,3 @@ bad-here image k g s l e h = sought-here s l (rw (← e) h)
 pub bad-end : (image : List ℕ) (k : ℕ) → Sought (badIn image) 65 k → 65 ≤ k → k ≡ firstBad image
 unfolding firstBad
 bad-end image k s l = sought-end s l
-
-pub has-is : (q : Instrument) (t image : List ℕ) (m : Bool) → t ≡ tableIn image → m ≡ isMarketOf q t → m ≡ isMarketOf q (tableIn image)
-has-is q t image m e f = f ∙ ap (isMarketOf q) e

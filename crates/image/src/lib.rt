@@ -6,9 +6,8 @@ pub mod weigh;
 pub mod whole;
 
 use crate::whole::first_bad;
-use crate::whole::has_market;
 use crate::whole::put_image;
-use crate::whole::read_image;
+use crate::whole::read_market;
 use audit::is_market_of;
 use decimal::Instrument;
 use table::places::TABLE;
@@ -57,9 +56,8 @@ pub fn restore(q: Instrument, table: &mut [u8], image: &[u8]) -> RestoreAnswer
     if bad < places::BLOCKS {
         return RestoreAnswer::BadBlock(bad);
     }
-    if !has_market(q, image) {
+    if !read_market(q, table, image) {
         return RestoreAnswer::NoMarket;
     }
-    read_image(table, image);
     RestoreAnswer::Restored
 }

@@ -1,6 +1,8 @@
-// All blocks of an image: written, looked through for a bad one, and read; and whether what is read is a market.
+// All blocks of an image: written, looked through for a bad one, and read, to stay if that makes a market.
 ghost use mathlib.Core.Path.{_≡_};
-ghost use lib.ListN.{length};
+ghost use mathlib.Core.Bool.{cond};
+ghost use Prim.Native.Nat.{_+_, _≤_};
+ghost use lib.ListN.{length, take};
 ghost use Rattle.table.specs.Places.{tableBytes};
 ghost use Rattle.table.specs.Market.{isMarketOf};
 ghost use Rattle.image.specs.Image.{imageBytes, imageOf, firstBad, tableIn};
@@ -50,13 +52,44 @@ pub fn read_image(t: &mut [u8], image: &[u8])
     }
 }
 
-// Whether the table that an image holds is a market of the instrument. It is read into an array of its own, so that a table that is refused
-// leaves the caller's as it was.
-pub fn has_market(q: Instrument, image: &[u8]) -> bool
-    requires { ⌜ length (now image) ≡ imageBytes ⌝ }
-    ensures { λ r. ⌜ r ≡ isMarketOf q (tableIn (now (image .entry))) ⌝ }
+// Copies a piece of a table, from place p on, up to which the table is copied already.
+fn copy_piece(to: &mut [u8], from: &[u8], p: usize)
+    requires { ⌜ (length (now to) ≡ tableBytes) × (length (now from) ≡ tableBytes) × (p + 4096 ≤ tableBytes)
+        × (take p (now to) ≡ take p (now from)) ⌝ }
+    ensures { λ _. ⌜ take (p + 4096) (now (to .exit)) ≡ take (p + 4096) (now (from .entry)) ⌝ }
 {
-    let mut t = [0u8; 32768];
-    read_image(&mut t, image);
-    is_market_of(q, &t)
+    let mut j = 0;
+    while j < places::PIECE {
+        to[p + j] = from[p + j];
+        j += 1;
+    }
+}
+
+// Copies a table. It goes by pieces of one length, known to the compiler, so that an array it is copied into need not be cleared first.
+fn copy_table(to: &mut [u8], from: &[u8])
+    requires { ⌜ (length (now to) ≡ tableBytes) × (length (now from) ≡ tableBytes) ⌝ }
+    ensures { λ _. ⌜ now (to .exit) ≡ now (from .entry) ⌝ }
+{
+    let mut k = 0;
+    while k < places::PIECES {
+        copy_piece(to, from, places::PIECE * k);
+        k += 1;
+    }
+}
+
+// Reads the table that an image holds, and answers whether it is a market of the instrument. Where it is not, the caller's table is put back
+// as it was, from a copy that is made first.
+pub fn read_market(q: Instrument, table: &mut [u8], image: &[u8]) -> bool
+    requires { ⌜ (length (now table) ≡ tableBytes) × (length (now image) ≡ imageBytes) ⌝ }
+    ensures { λ r. ⌜ (r ≡ isMarketOf q (tableIn (now (image .entry))))
+        × (now (table .exit) ≡ cond r (tableIn (now (image .entry))) (now (table .entry))) ⌝ }
+{
+    let mut before = [0u8; 32768];
+    copy_table(&mut before, table);
+    read_image(table, image);
+    if is_market_of(q, table) {
+        return true;
+    }
+    copy_table(table, &before);
+    false
 }
