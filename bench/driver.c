@@ -193,6 +193,17 @@ static void depth(uint64_t k, int calls)
              total == 100 && orders == 1);
 }
 
+/* A level of n sells, all apart: the best, or the last. */
+static void depth_of(unsigned n, uint64_t k, int calls)
+{
+    uint64_t found, total, orders;
+    int64_t yield;
+    must(open_market() == 0);
+    enter_sells(1, n);
+    if (calls)
+        must(market->depth(table, sizeof table, KAMURJESH_SELL, k, &found, &yield, &total, &orders) == 0 && found == (n > 0));
+}
+
 /* The second report of a trade: that of the order in work. */
 static const uint8_t *trade_report(size_t *size)
 {
@@ -267,23 +278,53 @@ static void garbling(unsigned n, int calls)
         must(submit(&m) == 5);
 }
 
-/* The n-th sell with an account of 10 characters. */
-static struct message with_account(unsigned n)
+/* The n-th sell: with no account, with an account of 10 characters, or with one of 8 and a ClOrdID of 13. */
+static struct message plain(unsigned n)
+{
+    return nth(n, KAMURJESH_SELL);
+}
+
+static struct message with_account(unsigned n, const char *account, const char *id)
 {
     char body[600];
-    snprintf(body, sizeof body, "1=ACCOUNT-%02u|11=ORDER-%06u|21=1|38=100|40=2|44=0.%03u|47=A|54=2|55=350|59=0|60=20260105-09:00:00|109=11|8060=1|",
-             n % 100, n, n);
+    snprintf(body, sizeof body, "1=%s|11=%s|21=1|38=100|40=2|44=0.%03u|47=A|54=2|55=350|59=0|60=20260105-09:00:00|109=11|8060=1|", account, id, n);
     return sent("D", body);
 }
 
+static struct message with_account_of_10(unsigned n)
+{
+    char account[32], id[32];
+    snprintf(account, sizeof account, "ACCOUNT-%02u", n % 100);
+    snprintf(id, sizeof id, "ORDER-%06u", n);
+    return with_account(n, account, id);
+}
+
+static struct message with_id_of_13(unsigned n)
+{
+    char account[32], id[32];
+    snprintf(account, sizeof account, "DESK%04u", n);
+    snprintf(id, sizeof id, "ORDER-%07u", n);
+    return with_account(n, account, id);
+}
+
+/* The n-th sell with a ClOrdID of 32 characters, chosen so that all have one key in the check, and each comes before those there: what the
+ * third eight characters gain, the last eight lose. */
+static struct message with_chosen_id(unsigned n)
+{
+    char id[64];
+    int low = (int)(n % 16), high = (int)(n / 16);
+    snprintf(id, sizeof id, "CHOSEN-ORDER-ID-AAAAAA%c%cZZZZZZ%c%c", 'A' + low, 'A' + high, 'Z' - low, 'Z' - high);
+    return with_account(n, "DESK0001", id);
+}
+
 /* The check of a table with n open orders, alone: there is no such side. */
-static void checking(unsigned n, int accounts, int calls)
+static void checking(unsigned n, struct message (*sell)(unsigned), int calls)
 {
     uint64_t found, total, orders;
     int64_t yield;
     must(open_market() == 0);
     for (unsigned i = 1; i <= n; i++)
-        enter(accounts ? with_account(i) : nth(i, KAMURJESH_SELL));
+        enter(sell(i));
     if (calls)
         must(market->depth(table, sizeof table, 3, 0, &found, &yield, &total, &orders) == 10);
 }
@@ -347,12 +388,20 @@ int main(int count, char **words)
         topping(n, calls);
     else if (sscanf(name, "depth-%u%c", &n, &rest) == 1 && n <= 126)
         depth(n, calls);
+    else if (sscanf(name, "depth-first-%u%c", &n, &rest) == 1 && n <= 254)
+        depth_of(n, 0, calls);
+    else if (sscanf(name, "depth-last-%u%c", &n, &rest) == 1 && n >= 1 && n <= 254)
+        depth_of(n, n - 1, calls);
     else if (sscanf(name, "garbled-%u%c", &n, &rest) == 1 && n >= 64 && n <= 1024)
         garbling(n, calls);
     else if (sscanf(name, "check-%u%c", &n, &rest) == 1 && n <= 254)
-        checking(n, 0, calls);
+        checking(n, plain, calls);
     else if (bonds && sscanf(name, "check-accounts-%u%c", &n, &rest) == 1 && n <= 254)
-        checking(n, 1, calls);
+        checking(n, with_account_of_10, calls);
+    else if (bonds && sscanf(name, "check-ids13-%u%c", &n, &rest) == 1 && n <= 254)
+        checking(n, with_id_of_13, calls);
+    else if (bonds && sscanf(name, "check-chosen-%u%c", &n, &rest) == 1 && n <= 254)
+        checking(n, with_chosen_id, calls);
     else if (strcmp(name, "read") == 0)
         reading(calls);
     else if (strcmp(name, "field") == 0)

@@ -1,6 +1,6 @@
 -- What the code that checks texts and the heading comes to, in the words of Market.
 use mathlib.Core.Path.{_≡_, refl, sym, ap, _∙_}
-use mathlib.Core.Bool.{Bool, true, false, not, _&&_, and-assoc, and-true}
+use mathlib.Core.Bool.{Bool, true, false, not, _&&_, and-true, and-false}
 use mathlib.Core.List.{List, [], _∷_}
 use Prim.Native.Nat.{ℕ, zero, suc, _+_, _*_, _-_, _≤_, _<_, zero-le}
 use native.Mathlib.Nat.{add-zero, sub-zero}
@@ -8,17 +8,21 @@ use native.Mathlib.Numerals.{add-one}
 use native.Mathlib.Omega.{arith}
 use lib.Dec.{eqb, leb}
 use lib.ListN.{length, getD, take, drop}
-use lib.Seq.{drop-cons, drop-drop, drop-length, take-add}
-use borrow.Author.Tests.{le-leb, lt-leb, eq-eqb, ne-eqb, eqb-true, eqb-false}
-use Rattle.octets.specs.Octets.{leAt, partAt, textAt, sameBytes, allZero}
+use lib.Seq.{drop-cons, drop-drop, take-add}
+use borrow.Author.Tests.{not-true, not-false, le-leb, lt-leb, eq-eqb, ne-eqb, eqb-true, eqb-false}
+use Rattle.octets.specs.Octets.{leAt, partAt, textAt, allZero}
 use Rattle.octets.proofs.Bools.{split, both-not-r}
+use Rattle.octets.proofs.Parts.{lent-part}
 use Rattle.octets.proofs.Zeros.{zero-append}
 use Rattle.decimal.specs.declared.Instrument.{Instrument}
 use Rattle.decimal.specs.declared.Instrument.the-variants.{Bonds, Equities}
 use Rattle.decimal.specs.Reading.{isDigit, isTime}
-use Rattle.table.specs.Heading.{workOf, stampOf, instrumentOf}
+use Rattle.table.specs.Places.{tableBytes}
+use Rattle.table.specs.Heading.{workOf, stampOf, instrumentOf, mpidAt, modeAt}
 use Rattle.table.specs.Orders.{filled}
 use Rattle.table.specs.Market.{every, isCodeCharacter, isPadded, isText, hasNames, isCash, hasStamp, hasWork}
+use Rattle.audit.specs.Rows.{boundsOf, bound, between, isFilled, listEnds}
+use Rattle.audit.proofs.Filled.{take-none, part-empty, part-more, row-bound}
 
 -- ---- two numbers that were read are the same, or differ
 pub differ-not : (a b x y : ℕ) → x ≡ a → y ≡ b → x ≡ y → not (eqb a b) ≡ false
@@ -26,38 +30,6 @@ differ-not a b x y p q e = rw (eq-eqb a b (sym p ∙ e ∙ q))
 
 pub differ-yes : (a b x y : ℕ) → x ≡ a → y ≡ b → (x ≡ y → ⊥) → not (eqb a b) ≡ true
 differ-yes a b x y p q n = rw (ne-eqb a b (λ e. n (p ∙ e ∙ sym q)))
-
--- two texts that were read are the same, or differ
-pub not-same-texts : (a b x y : List ℕ) (r : Bool) → x ≡ a → y ≡ b → r ≡ sameBytes x y → r ≡ true → not (sameBytes a b) ≡ false
-not-same-texts a b x y r p q e h =
-    let g : sameBytes a b ≡ true = rw (p, q) at (sym e ∙ h) in
-    rw g
-
-pub not-other-texts : (a b x y : List ℕ) (r : Bool) → x ≡ a → y ≡ b → r ≡ sameBytes x y → r ≡ false → not (sameBytes a b) ≡ true
-not-other-texts a b x y r p q e h =
-    let g : sameBytes a b ≡ false = rw (p, q) at (sym e ∙ h) in
-    rw g
-
--- ---- a loop over the bytes of a text that has passed i of them: at the start, one turn on, and where it stops
-pub record Tested (f : ℕ → Bool) (s : List ℕ) (good : Bool) (i : ℕ) : Type 0 where
-  pub within : i ≤ length s
-  pub left : (good && every f (drop i s)) ≡ every f s
-
-pub tested-none : {f : ℕ → Bool} {s : List ℕ} → Tested f s true 0
-tested-none = record { within = zero-le; left = refl }
-
-pub tested-more : {f : ℕ → Bool} {s : List ℕ} {good : Bool} {i : ℕ} → Tested f s good i → i < length s → Tested f s (good && f (getD s i 0)) (i + 1)
-unfolding every
-tested-more {f} {s} {good} {i} p l =
-    let turn : every f (drop i s) ≡ (f (getD s i 0) && every f (drop (i + 1) s)) = rw (drop-cons s i 0 l, add-one) in
-    record { within = omega arith; left = and-assoc good (f (getD s i 0)) (every f (drop (i + 1) s)) ∙ rw (← turn) (p .left) }
-
-pub tested-end : {f : ℕ → Bool} {s : List ℕ} {good : Bool} {i : ℕ} → Tested f s good i → length s ≤ i → good ≡ every f s
-unfolding every
-tested-end {f} {s} {good} {i} p l =
-    let e : i ≡ length s = omega (arith, p .within) in
-    let z : every f (drop i s) ≡ true = rw (e, drop-length) in
-    sym (and-true good) ∙ rw z at (p .left)
 
 -- ---- zeros: n bytes are zero exactly if their number is; parts in a row
 both-zero : (x r : ℕ) → eqb (x + 256 * r) 0 ≡ (eqb x 0 && eqb r 0)
@@ -91,27 +63,85 @@ sum-zero x y =
     (λ f. rw (e, f) (ne-eqb (x + y) 0 (λ z. eqb-false y 0 f (omega arith)))))
     (λ e. rw e (ne-eqb (x + y) 0 (λ z. eqb-false x 0 e (omega arith))))
 
-sum-join : (t : List ℕ) (p m n x y : ℕ) → eqb x 0 ≡ allZero (partAt t p m) → y ≡ leAt n t (p + m) → p + m + n ≤ length t
-    → eqb (x + y) 0 ≡ allZero (partAt t p (m + n))
-sum-join t p m n x y e f h = sum-zero x y ∙ zero-join t p m n e (zeros-read n t (p + m) y f h)
+-- two parts in a row: where the first is not zero the whole is not, and where it is the second tells
+zero-first : (t : List ℕ) (p m n : ℕ) (a : Bool) → a ≡ allZero (partAt t p m) → a ≡ false → false ≡ allZero (partAt t p (m + n))
+zero-first t p m n a e f = sym (ap (λ (b : Bool). b && allZero (partAt t (p + m) n)) f) ∙ zero-join t p m n e refl
 
-pub sum-four : (t : List ℕ) (p a b c d : ℕ) → a ≡ leAt 4 t p → b ≡ leAt 4 t (p + 4) → c ≡ leAt 4 t (p + 8) → d ≡ leAt 4 t (p + 12) → p + 16 ≤ length t
-    → eqb (a + b + c + d) 0 ≡ allZero (partAt t p 16)
-sum-four t p a b c d e f g h l =
-    sum-join t p 12 4 (a + b + c) d
-    (sum-join t p 8 4 (a + b) c (sum-join t p 4 4 a b (zeros-read 4 t p a e (omega arith)) f (omega arith)) g (omega arith)) h (omega arith)
+zero-second : (t : List ℕ) (p m n : ℕ) (a z : Bool) → a ≡ allZero (partAt t p m) → a ≡ true → z ≡ allZero (partAt t (p + m) n) → z ≡ allZero (partAt t p (m + n))
+zero-second t p m n a z e f g = sym (ap (λ (b : Bool). b && z) f) ∙ zero-join t p m n e g
 
-pub sum-unused : (t : List ℕ) (p a b x : ℕ) → eqb a 0 ≡ allZero (partAt t p 16) → eqb b 0 ≡ allZero (partAt t (p + 16) 16) → x ≡ leAt 2 t (p + 32)
-    → p + 34 ≤ length t → eqb (a + b + x) 0 ≡ allZero (partAt t p 34)
-sum-unused t p a b x e f g l =
-    let two : eqb (a + b) 0 ≡ allZero (partAt t p 32) = sum-zero a b ∙ zero-join t p 16 16 e f in
-    sum-join t p 32 2 (a + b) x two g (omega arith)
+-- the room of an account, by the sum of its first two numbers
+module _ (t : List ℕ) (p a b : ℕ) (e : a ≡ leAt 4 t p) (f : b ≡ leAt 4 t (p + 4)) (l : p + 10 ≤ length t) where
+  eight : eqb (a + b) 0 ≡ allZero (partAt t p 8)
+  eight = sum-zero a b ∙ zero-join t p 4 4 (zeros-read 4 t p a e (omega arith)) (zeros-read 4 t (p + 4) b f (omega arith))
+
+  pub empty-not : (a + b ≡ 0 → ⊥) → false ≡ allZero (partAt t p 10)
+  empty-not n = zero-first t p 8 2 (eqb (a + b) 0) eight (ne-eqb (a + b) 0 n)
+
+  pub empty-is : (z : Bool) → a + b ≡ 0 → z ≡ allZero (partAt t (p + 8) 2) → z ≡ allZero (partAt t p 10)
+  empty-is z h g = zero-second t p 8 2 (eqb (a + b) 0) z eight (eq-eqb (a + b) 0 h) g
+
+-- the unused bytes, by the first 32 of them
+module _ (t : List ℕ) (p : ℕ) (a : Bool) (e : a ≡ allZero (take (p + 32 - p) (drop p t))) where
+  most : a ≡ allZero (partAt t p 32)
+  most = e ∙ ap allZero (lent-part t p 32)
+
+  pub unused-not : not a ≡ true → false ≡ allZero (partAt t p 34)
+  unused-not n = zero-first t p 32 2 a most (not-true a n)
+
+  pub unused-is : (z : Bool) → not a ≡ false → z ≡ allZero (partAt t (p + 32) 2) → z ≡ allZero (partAt t p 34)
+  unused-is z n g = zero-second t p 32 2 a z most (not-false a n) g
+
+-- ---- a loop that has found nothing from entry n up to entry k: at the start, one turn on, where it stops, and at the end
+mpids-turn : (t : List ℕ) (k : ℕ) → length t ≡ tableBytes → k < 8
+    → allZero (partAt t (56 + 4 * k) (4 * (8 - k))) ≡ (eqb (mpidAt t k) 0 && allZero (partAt t (56 + 4 * (k + 1)) (4 * (8 - (k + 1)))))
+mpids-turn t k s l =
+    let a : 4 * (8 - k) ≡ 4 + 4 * (8 - (k + 1)) = omega arith in
+    let b : 56 + 4 * (k + 1) ≡ 56 + 4 * k + 4 = omega arith in
+    rw (a, b) (sym (zero-join t (56 + 4 * k) 4 (4 * (8 - (k + 1))) (number-zero 4 t (56 + 4 * k) (omega arith)) refl))
+
+modes-turn : (t : List ℕ) (k : ℕ) → length t ≡ tableBytes → k < 8
+    → allZero (partAt t (88 + k) (8 - k)) ≡ (eqb (modeAt t k) 0 && allZero (partAt t (88 + (k + 1)) (8 - (k + 1))))
+unfolding allZero
+modes-turn t k s l =
+    let a : 8 - k ≡ suc (8 - (k + 1)) = omega arith in
+    let b : 88 + k + 1 ≡ 88 + (k + 1) = omega arith in
+    rw (a, part-more t (88 + k) (8 - (k + 1)) (omega arith), b)
+
+pub record Ending (t : List ℕ) (n k : ℕ) : Type 0 where
+  pub within : k ≤ 8
+  pub left : listEnds t k ≡ listEnds t n
+
+pub ending-none : {t : List ℕ} {n : ℕ} → n ≤ 8 → Ending t n n
+ending-none l = record { within = l; left = refl }
+
+module _ {t : List ℕ} {n k m d : ℕ} (s : length t ≡ tableBytes) (p : Ending t n k) (l : k < 8) (e : m ≡ mpidAt t k) (f : d ≡ modeAt t k) where
+  pub ending-more : m + d ≡ 0 → Ending t n (k + 1)
+  unfolding listEnds
+  ending-more z =
+      let a : m ≡ 0 = omega arith in
+      let b : d ≡ 0 = omega arith in
+      let turn : listEnds t k ≡ listEnds t (k + 1) = rw (mpids-turn t k s l, modes-turn t k s l, ← e, ← f, a, b) in
+      record { within = omega arith; left = sym turn ∙ p .left }
+
+  pub ending-stop : (m + d ≡ 0 → ⊥) → false ≡ listEnds t n
+  unfolding listEnds
+  ending-stop z =
+      let both : (eqb m 0 && eqb d 0) ≡ false = sym (sum-zero m d) ∙ ne-eqb (m + d) 0 z in
+      let turn : listEnds t k ≡ false =
+      rw (mpids-turn t k s l, modes-turn t k s l, ← e, ← f) (split (eqb m 0)
+      (λ g. let h : eqb d 0 ≡ false = rw g at both in rw (g, h, and-false))
+      (λ g. rw g)) in
+      sym turn ∙ p .left
+
+pub ending-end : {t : List ℕ} {n k : ℕ} → Ending t n k → 8 ≤ k → true ≡ listEnds t n
+unfolding listEnds allZero
+ending-end {t} {n} {k} p l =
+    let e : k ≡ 8 = omega (arith, p .within) in
+    let none : listEnds t 8 ≡ true = rw (part-empty t (56 + 4 * 8), part-empty t (88 + 8)) in
+    sym (ap (listEnds t) e ∙ none) ∙ p .left
 
 -- ---- CashMargin and MarginTransactionType: a bond order has neither
-take-none : (xs : List ℕ) → take 0 xs ≡ []
-take-none [] = refl
-take-none (x ∷ xs) = refl
-
 part-two : (t : List ℕ) (p : ℕ) → p + 2 ≤ length t → partAt t p 2 ≡ getD t p 0 ∷ getD t (p + 1) 0 ∷ []
 unfolding partAt
 part-two t p l =
@@ -132,22 +162,12 @@ cash-equities t p r cash margin c d e f g =
     g ∙ rw (e, f, d, one)
 
 -- ---- a text of no bytes is zeros in all its room
-part-empty : (t : List ℕ) (p : ℕ) → partAt t p 0 ≡ []
-unfolding partAt
-part-empty t p = take-none (drop p t)
-
-text-empty : (f : ℕ → Bool) (room : ℕ) (t : List ℕ) (p : ℕ) (z : Bool) → getD t p 0 ≡ 0 → z ≡ allZero (partAt t (p + 1) room) → z ≡ isText f 0 room t p
+pub text-empty : (f : ℕ → Bool) (room : ℕ) (t : List ℕ) (p n : ℕ) (z : Bool) → n ≡ getD t p 0 → n ≡ 0 → z ≡ allZero (partAt t (p + 1) room)
+    → z ≡ isText f 0 room t p
 unfolding isText isPadded textAt every
-text-empty f room t p z e h = h ∙ rw (e, part-empty, add-zero, sub-zero, le-leb 0 room zero-le)
-
-pub account-none : (f : ℕ → Bool) (t : List ℕ) (p n : ℕ) (a b c : Bool) → n ≡ getD t p 0 → n ≡ 0 → a ≡ allZero (partAt t (p + 1) 4)
-    → b ≡ allZero (partAt t (p + 5) 4) → c ≡ allZero (partAt t (p + 9) 2) → (a && b && c) ≡ isText f 0 10 t p
-account-none f t p n a b c e z g h i =
-    let five : p + 5 ≡ p + 1 + 4 = omega arith in
-    let nine : p + 9 ≡ p + 1 + 8 = omega arith in
-    let u : b ≡ allZero (partAt t (p + 1 + 4) 4) = rw (← five) h in
-    let v : c ≡ allZero (partAt t (p + 1 + 8) 2) = rw (← nine) i in
-    text-empty f 10 t p (a && b && c) (sym e ∙ z) (zero-join t (p + 1) 8 2 (zero-join t (p + 1) 4 4 g u) v)
+text-empty f room t p n z d e h =
+    let g : getD t p 0 ≡ 0 = sym d ∙ e in
+    h ∙ rw (g, part-empty, add-zero, sub-zero, le-leb 0 room zero-le)
 
 -- ---- a text: too short, too long, or tested by its bytes and the zeros behind it
 module _ (f : ℕ → Bool) (least room : ℕ) (t : List ℕ) (p n : ℕ) (e : n ≡ getD t p 0) where
@@ -159,25 +179,32 @@ module _ (f : ℕ → Bool) (least room : ℕ) (t : List ℕ) (p n : ℕ) (e : n
   unfolding isText
   text-long l = rw (← e, lt-leb n room l, both-not-r (leb least n) false refl)
 
-  pub text-whole : (xs ys : List ℕ) (a b : Bool) → least ≤ n → n ≤ room → xs ≡ textAt t p → ys ≡ partAt t (p + 1 + n) (room - n)
-      → a ≡ every f xs → b ≡ allZero ys → (a && b) ≡ isText f least room t p
-  unfolding isText isPadded
-  text-whole xs ys a b l m x y g h = rw (g, h, x, y, ← e, le-leb least n l, le-leb n room m)
+pub text-whole : (low span : List ℕ) (least room : ℕ) (t : List ℕ) (p n : ℕ) (r : Bool) → n ≡ getD t p 0 → least ≤ n → n ≤ room
+    → r ≡ isFilled low span room t (p + 1) n → r ≡ isText (between low span) least room t p
+unfolding isText isPadded isFilled textAt
+text-whole low span least room t p n r e l m g = g ∙ rw (← e, le-leb least n l, le-leb n room m)
+
+-- ---- the bounds of two rows that are known
+pub text-of : (x y least room : ℕ) (t : List ℕ) (p : ℕ) (low span : List ℕ) (a : Bool) → low ≡ boundsOf x → span ≡ boundsOf y
+    → a ≡ isText (between low span) least room t p → a ≡ isText (λ c. leb x c && leb c (x + y)) least room t p
+text-of x y least room t p low span a e f h =
+    h ∙ ap (λ (b : ℕ). isText (λ c. leb b c && leb c (b + bound span)) least room t p) (row-bound low x e)
+    ∙ ap (λ (b : ℕ). isText (λ c. leb x c && leb c (x + b)) least room t p) (row-bound span y f)
 
 -- ---- the heading: the names, the code by what the market trades
+module _ (t low span : List ℕ) (q : Instrument) (a : Bool) where
+  pub code-digits : q ≡ Bonds → low ≡ boundsOf 48 → span ≡ boundsOf 9 → a ≡ isText (between low span) 1 9 t 18 → a ≡ isText (isCodeCharacter q) 1 9 t 18
+  unfolding isCodeCharacter isDigit
+  code-digits k e f h = rw k (text-of 48 9 1 9 t 18 low span a e f h)
 
-pub code-digits : (t : List ℕ) (a : Bool) → a ≡ isText (λ x. leb 48 x && leb x 57) 1 9 t 18 → a ≡ isText (isCodeCharacter Bonds) 1 9 t 18
-unfolding isCodeCharacter isDigit
-code-digits t a e = e
+  pub code-graphic : q ≡ Equities → low ≡ boundsOf 33 → span ≡ boundsOf 93 → a ≡ isText (between low span) 1 9 t 18 → a ≡ isText (isCodeCharacter q) 1 9 t 18
+  unfolding isCodeCharacter
+  code-graphic k e f h = rw k (text-of 33 93 1 9 t 18 low span a e f h)
 
-pub code-graphic : (t : List ℕ) (a : Bool) → a ≡ isText (λ x. leb 33 x && leb x 126) 1 9 t 18 → a ≡ isText (isCodeCharacter Equities) 1 9 t 18
-unfolding isCodeCharacter
-code-graphic t a e = e
-
-pub names-are : (t : List ℕ) (q : Instrument) (a b c : Bool) → q ≡ instrumentOf t → a ≡ isText (λ x. leb 33 x && leb x 126) 1 8 t 0
-    → b ≡ isText (λ x. leb 33 x && leb x 126) 1 8 t 9 → c ≡ isText (isCodeCharacter q) 1 9 t 18 → (a && b && c) ≡ hasNames t
+pub names-are : (t : List ℕ) (q : Instrument) (low span : List ℕ) (a b c : Bool) → q ≡ instrumentOf t → low ≡ boundsOf 33 → span ≡ boundsOf 93
+    → a ≡ isText (between low span) 1 8 t 0 → b ≡ isText (between low span) 1 8 t 9 → c ≡ isText (isCodeCharacter q) 1 9 t 18 → (a && b && c) ≡ hasNames t
 unfolding hasNames
-names-are t q a b c e f g h = rw (f, g, h, e)
+names-are t q low span a b c e l m f g h = rw (text-of 33 93 1 8 t 0 low span a l m f, text-of 33 93 1 8 t 9 low span b l m g, h, e)
 
 -- ---- the order in work and its 52
 module _ (t : List ℕ) (w : ℕ) (e : w ≡ workOf t) where

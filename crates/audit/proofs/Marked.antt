@@ -3,27 +3,31 @@
 use mathlib.Core.Path.{_≡_, refl, sym, ap, _∙_}
 use mathlib.Core.Bool.{Bool, true, false, not, _&&_}
 use mathlib.Core.List.{List}
-use Prim.Native.Nat.{ℕ, suc, _+_, _*_, _/_, _%_, _≤_, _<_, zero-le}
+use Prim.Native.Nat.{ℕ, suc, _+_, _≤_, _<_}
 use native.Mathlib.Decide.{ℕ-discrete}
 use native.Mathlib.Nat.{not-suc-le-zero}
 use native.Mathlib.Numerals.{add-one}
 use native.Mathlib.Omega.{arith}
 use borrow.Author.Tests.{ne-eqb, lt-ltb, le-ltb, eqb-true, not-false}
 use lib.Dec.{eqb, ltb}
-use lib.ListN.{length, getD, set, drop, length-set}
-use lib.Seq.{getD-set-same, getD-set-other, drop-cons, drop-length}
-use Rattle.octets.specs.Octets.{sameBytes}
+use lib.ListN.{length, getD, set, length-set}
+use lib.Seq.{getD-set-same, getD-set-other}
+use Rattle.octets.specs.Octets.{sameBytes, Bytes}
 use Rattle.octets.proofs.Bools.{split, both-i, both-not-l, both-not-r}
 use Rattle.octets.proofs.Parts.{not-same}
-use Rattle.octets.proofs.Ranges.{all-from}
+use Rattle.octets.specs.Tests.{allUpTo}
+use Rattle.octets.proofs.Ranges.{all-none, all-from}
+use Rattle.octets.proofs.Searches.{all-ext}
 use Rattle.matching.specs.declared.Order.{Order}
 use Rattle.matching.specs.Matching.{at}
 use Rattle.table.specs.Heading.{nextOf}
 use Rattle.table.specs.Orders.{clOrdIdAt, orderAt, filled, bookOf}
-use Rattle.table.specs.Market.{isFreshId, isFresh, areFresh, hasPlaces, hasOrderIds}
+use Rattle.table.specs.Market.{hasOrders, isFreshId, hasIds, isFresh, areFresh, hasPlaces, hasOrderIds}
 use Rattle.table.proofs.Books.{length-book, at-book}
 use Rattle.table.proofs.Fresh.{fresh-ext}
-use Rattle.audit.specs.Checking.{digest, keyOf, numberKey, numberAt}
+use Rattle.audit.specs.declared.marks.Id.{Id}
+use Rattle.audit.specs.Checking.{idFrom, idAt, sameId, keyOf, lowPart, highPart, isUnseen, numberKey, numberAt}
+use Rattle.audit.proofs.Rooms.{id-is, same-id-is}
 
 -- ---- the first j keys have a mark: at the start, one more, and what a key without a mark tells
 pub record Marked (key : ℕ → ℕ) (mark : List ℕ) (j : ℕ) : Type 0 where
@@ -54,53 +58,42 @@ marked-more {key} {mark} {j} k m e small =
         apart (yes q) = absurd (n (ap key q ∙ sym e))
         apart (no d) = omega (arith, d)
 
--- ---- the number of a text, of which i bytes were passed
-pub record Keyed (s : List ℕ) (h i : ℕ) : Type 0 where
-  pub within : i ≤ length s
-  pub small : h < 72057594037927936
-  pub left : digest h (drop i s) ≡ digest 0 s
-
-pub keyed-none : {s : List ℕ} → Keyed s 0 0
-keyed-none = record { within = zero-le; small = omega arith; left = refl }
-
-pub keyed-more : {s : List ℕ} {h i : ℕ} (x : ℕ) → Keyed s h i → i < length s → x ≡ getD s i 0 → Keyed s ((h * 10 + x) % 72057594037927936) (i + 1)
-unfolding digest
-keyed-more {s} {h} {i} x k l e =
-    let z : digest h (drop i s) ≡ digest ((h * 10 + x) % 72057594037927936) (drop (i + 1) s) = rw (drop-cons s i 0 l, e, add-one) in
-    record { within = omega arith; small = omega arith; left = sym z ∙ k .left }
-
-pub keyed-end : {s : List ℕ} {h i : ℕ} → Keyed s h i → length s ≤ i → h % 4194301 ≡ keyOf s
-unfolding digest keyOf
-keyed-end {s} {h} {i} k l =
-    let e : i ≡ length s = omega (arith, k .within) in
-    let z : digest h (drop i s) ≡ h = rw (e, drop-length) in
-    ap (λ (x : ℕ). x % 4194301) (sym z ∙ k .left)
-
 -- ---- ClOrdIDs: one whose key is that of none before is new
 abbrev pub idKey : List ℕ → ℕ → ℕ
-idKey t i = keyOf (clOrdIdAt t (i + 1))
+idKey t i = keyOf (idAt t (i + 1))
 
 abbrev pub lowKey : List ℕ → ℕ → ℕ
-lowKey t i = idKey t i % 2048
+lowKey t i = lowPart (idKey t i)
 
 abbrev pub highKey : List ℕ → ℕ → ℕ
-highKey t i = idKey t i / 2048
+highKey t i = highPart (idKey t i)
 
-pub id-new : (t : List ℕ) (j : ℕ) → ((i : ℕ) → i < j → idKey t i ≡ idKey t j → ⊥) → isFreshId t j ≡ true
-unfolding isFreshId
-id-new t j h =
-    all-from (λ i. not (sameBytes (clOrdIdAt t (i + 1)) (clOrdIdAt t (j + 1)))) j (λ i l.
-    ap not (not-same (clOrdIdAt t (i + 1)) (clOrdIdAt t (j + 1)) (λ e. h i l (ap keyOf e))))
+module _ (t : List ℕ) (long : length t ≡ 32768) (n : ℕ) (e : n ≡ filled t) (most : n ≤ 255) (h : hasOrders t ≡ true) where
+  id-new : (j : ℕ) → j < n → ((i : ℕ) → i < j → idKey t i ≡ idKey t j → ⊥) → isFreshId t j ≡ true
+  unfolding isFreshId
+  id-new j m f =
+      all-from (λ i. not (sameBytes (clOrdIdAt t (i + 1)) (clOrdIdAt t (j + 1)))) j (λ i l.
+      ap not (not-same (clOrdIdAt t (i + 1)) (clOrdIdAt t (j + 1)) (λ g.
+      f i l (ap keyOf (id-is t long n e most h i (omega arith) ∙ ap (λ (xs : List ℕ). idFrom xs 0) g ∙ sym (id-is t long n e most h j m))))))
 
--- the same by the marks of both halves, of which one is not there
-pub id-unmarked : (t : List ℕ) (j x y : ℕ) {low high : List ℕ} → Marked (lowKey t) low j → Marked (highKey t) high j → x ≡ lowKey t j → y ≡ highKey t j
-    → (not (eqb (getD low x 0) 0) && not (eqb (getD high y 0) 0)) ≡ false → isFreshId t j ≡ true
-id-unmarked t j x y {low} {high} m k e f h =
-    split (eqb (getD low x 0) 0)
-    (λ z. id-new t j (λ i l same. unmarked x m e (eqb-true _ 0 z) i l (ap (λ (q : ℕ). q % 2048) same)))
-    (λ z.
-    let g : not (eqb (getD high y 0) 0) ≡ false = rw z at h in
-    id-new t j (λ i l same. unmarked y k f (eqb-true _ 0 (not-false _ g)) i l (ap (λ (q : ℕ). q / 2048) same)))
+  -- the same by the marks of both parts, of which one is not there
+  pub id-unmarked : (j x y : ℕ) {low high : List ℕ} → j < n → Marked (lowKey t) low j → Marked (highKey t) high j → x ≡ lowKey t j → y ≡ highKey t j
+      → (not (eqb (getD low x 0) 0) && not (eqb (getD high y 0) 0)) ≡ false → isFreshId t j ≡ true
+  id-unmarked j x y {low} {high} l m k p q f =
+      split (eqb (getD low x 0) 0)
+      (λ z. id-new j l (λ i o same. unmarked x m p (eqb-true _ 0 z) i o (ap lowPart same)))
+      (λ z.
+      let g : not (eqb (getD high y 0) 0) ≡ false = rw z at f in
+      id-new j l (λ i o same. unmarked y k q (eqb-true _ 0 (not-false _ g)) i o (ap highPart same)))
+
+  -- one record, compared
+  pub id-old : Bytes t → (i j : ℕ) (x y : Id) (r : Bool) → j < n → i < j → x ≡ idAt t (i + 1) → y ≡ idAt t (j + 1) → r ≡ sameId x y → r ≡ true
+      → not (sameBytes (clOrdIdAt t (i + 1)) (clOrdIdAt t (j + 1))) ≡ false
+  id-old b i j x y r l m p q f g = rw (← same-id-is t long n e most h b i j (omega arith) l, ← p, ← q, ← f, g)
+
+  pub id-other : Bytes t → (i j : ℕ) (x y : Id) (r : Bool) → j < n → i < j → x ≡ idAt t (i + 1) → y ≡ idAt t (j + 1) → r ≡ sameId x y → r ≡ false
+      → not (sameBytes (clOrdIdAt t (i + 1)) (clOrdIdAt t (j + 1))) ≡ true
+  id-other b i j x y r l m p q f g = rw (← same-id-is t long n e most h b i j (omega arith) l, ← p, ← q, ← f, g)
 
 -- ---- order k + 1 of the book is record k + 1
 pub at-record : (t : List ℕ) (n k : ℕ) → n ≡ filled t → k < n → at (bookOf t) (suc k) ≡ orderAt t (k + 1)
@@ -131,6 +124,58 @@ module _ (f : ℕ → ℕ) (next : ℕ) where
 
   pub number-good : (j x : ℕ) → x ≡ f (j + 1) → x < next → isFresh f j ≡ true → fresh j ≡ true
   number-good j x h m g = both-i (lt-ltb _ _ (rw h at m)) g
+
+-- ---- the numbers seen: those of the first j records
+pub record Noted (f : ℕ → ℕ) (seen : List ℕ) (j : ℕ) : Type 0 where
+  pub size : length seen ≡ 256
+  pub seen-at : (i : ℕ) → i < j → getD seen i 0 ≡ f (i + 1)
+
+pub noted-none : {f : ℕ → ℕ} (seen : List ℕ) → length seen ≡ 256 → Noted f seen 0
+noted-none seen h = record { size = h; seen-at = λ i l. absurd (not-suc-le-zero l) }
+
+pub noted-more : {f : ℕ → ℕ} {seen : List ℕ} {j : ℕ} (x : ℕ) → Noted f seen j → x ≡ f (j + 1) → j < 256 → Noted f (set seen j x) (j + 1)
+noted-more {f} {seen} {j} x m e l =
+    record {
+      size = length-set seen j x ∙ m .size;
+      seen-at = λ i k. go i k (ℕ-discrete i j);
+    }
+  where
+    go : (i : ℕ) → i < j + 1 → Dec (i ≡ j) → getD (set seen j x) i 0 ≡ f (i + 1)
+    go i k (yes q) = rw q (getD-set-same seen j x 0 (omega (arith, m .size)) ∙ e)
+    go i k (no n) = getD-set-other seen j i x 0 n ∙ m .seen-at i (omega (arith, n))
+
+-- a number that is none of them is new
+pub unseen-fresh : {f : ℕ → ℕ} {seen : List ℕ} {j : ℕ} (x : ℕ) (r : Bool) → Noted f seen j → x ≡ f (j + 1) → r ≡ isUnseen seen x j → r ≡ isFresh f j
+unfolding isUnseen isFresh
+unseen-fresh {f} {seen} {j} x r m e h =
+    h ∙ all-ext (λ i. not (eqb (getD seen i 0) x)) (λ i. not (eqb (f (i + 1)) (f (j + 1)))) j (λ i l. rw (m .seen-at i l, e))
+
+-- looked for among the first i
+pub record Unseen (seen : List ℕ) (x n : ℕ) (u : Bool) (i : ℕ) : Type 0 where
+  pub within : i ≤ n
+  pub test : u ≡ isUnseen seen x i
+
+pub unseen-none : {seen : List ℕ} {x n : ℕ} → Unseen seen x n true 0
+unfolding isUnseen
+unseen-none {seen} {x} = record { within = omega arith; test = sym (all-none _) }
+
+pub unseen-more : {seen : List ℕ} {x n i : ℕ} {u : Bool} → Unseen seen x n u i → i < n → Unseen seen x n (u && not (eqb (getD seen i 0) x)) (i + 1)
+unfolding isUnseen allUpTo
+unseen-more {seen} {x} {n} {i} {u} h l = record { within = omega arith; test = rw (add-one i, h .test) }
+
+pub unseen-end : {seen : List ℕ} {x n i : ℕ} {u : Bool} → Unseen seen x n u i → n ≤ i → u ≡ isUnseen seen x n
+unseen-end {seen} {x} {n} {i} {u} h l =
+    let q : i ≡ n = omega (arith, h .within) in
+    rw (← q) (h .test)
+
+-- of no record
+pub none-fresh : (f : ℕ → ℕ) (next n : ℕ) → n ≡ 0 → true ≡ areFresh f next n
+unfolding areFresh
+none-fresh f next n e = rw e (sym (all-none _))
+
+pub none-ids : (t : List ℕ) (n : ℕ) → n ≡ filled t → n ≡ 0 → true ≡ hasIds t
+unfolding hasIds
+none-ids t n e z = rw (sym e ∙ z) (sym (all-none (isFreshId t)))
 
 -- ---- the places of the book, and the OrderIDs, are numbers of the filled records
 place-read : (t : List ℕ) (i : ℕ) → 1 ≤ i → i ≤ filled t → at (bookOf t) i .place ≡ numberAt t 56 i

@@ -1,100 +1,116 @@
 // Whether a table is a market: the clauses on the book and the order in work.
 ghost use mathlib.Core.Path.{_≡_};
-ghost use mathlib.Core.Bool.{cond};
+ghost use mathlib.Core.Bool.{true, cond, _&&_};
 ghost use Prim.Native.Nat.{_+_, _≤_, _<_};
+ghost use lib.Dec.{eqb};
 ghost use lib.ListN.{length};
 ghost use Rattle.matching.specs.Matching.{countOf, opposed};
-ghost use Rattle.table.specs.Places.{tableBytes};
+ghost use Rattle.octets.specs.Octets.{partAt, sameBytes};
+ghost use Rattle.table.specs.Places.{tableBytes, bestByte, bestBytes};
+ghost use Rattle.table.specs.Heading.{workOf};
 ghost use Rattle.table.specs.Orders.{orderAt, filled, bookOf};
-ghost use Rattle.audit.specs.Widths.{Narrow};
-ghost use Rattle.table.specs.Market.{isDone, noIoc, noCross, hasNumbers, isBook, hasDecision, hasBest};
-ghost use Rattle.audit.specs.Checking.{lowWith, highWith};
+ghost use Rattle.table.specs.Market.{hasOrders, hasNumbers, isBook, hasDecision, hasBest};
+ghost use Rattle.audit.specs.Widths.{Narrow, Roomy, RoomySides};
+ghost use Rattle.audit.specs.Checking.{withOpen, withOrder, sidesOf, rowOf};
 use crate::marks::has_places;
 use crate::sound::has_open;
+use crate::sound::used;
 use matching::Order;
-use table::best::best_of;
+use matching::ahead;
+use table::best::BestLevel;
 use table::best::write_best;
-use table::heading::work;
 use table::places;
-use table::record::buys_at;
-use table::record::level_at;
 use table::record::load;
-use table::record::open_at;
 
-// Whether an order is no open IOC and no open Fill or Kill.
-fn is_done(o: Order) -> bool
-    requires { ⌜ Narrow o ⌝ }
-    ensures { λ r. ⌜ r ≡ isDone o ⌝ }
-{
-    !(o.is_immediate() & has_open(o))
+// The best level of each side, and whether no IOC and no Fill or Kill is open.
+pub struct Sides {
+    pub buy: BestLevel,
+    pub sell: BestLevel,
+    pub done: bool,
 }
 
-// Whether record i is no open IOC and no open Fill or Kill; a Day order is asked for nothing else.
-fn is_done_at(t: &[u8], i: usize) -> bool
-    requires { ⌜ (length (now t) ≡ tableBytes) × (i < 256) ⌝ }
-    ensures { λ r. ⌜ r ≡ isDone (orderAt (now (t .entry)) i) ⌝ }
+// The best level of a side so far, c, with an order on a level of it of which x is open.
+fn with_open(side: u64, c: BestLevel, level: u64, x: u64) -> BestLevel
+    requires { ⌜ Roomy c × (x < 4294967296) ⌝ }
+    ensures { λ r. ⌜ r ≡ withOpen side c level x ⌝ }
 {
-    if t[places::RECORD * i + places::TIF] == 0 {
-        return true;
+    if (c.level == 0) | ahead(side, level, c.level) {
+        return BestLevel {
+            level,
+            total: x,
+            orders: 1,
+        };
     }
-    is_done(load(t, i))
+    if level == c.level {
+        return BestLevel {
+            level,
+            total: c.total + x,
+            orders: c.orders + 1,
+        };
+    }
+    c
 }
 
-// Whether no IOC and no Fill or Kill among the n filled records is open, apart from order w.
-fn no_ioc(t: &[u8], n: usize, w: usize) -> bool
-    requires { ⌜ (length (now t) ≡ tableBytes) × (n ≡ filled (now t)) × (n ≤ 255) ⌝ }
-    ensures { λ r. ⌜ r ≡ noIoc (bookOf (now (t .entry))) w ⌝ }
+// Both sides so far, with one order more.
+fn with_order(s: Sides, o: Order) -> Sides
+    requires { ⌜ RoomySides s × Narrow o ⌝ }
+    ensures { λ r. ⌜ r ≡ withOrder s o ⌝ }
 {
+    let used = used(o);
+    if o.qty <= used {
+        return s;
+    }
+    let buy = s.buy;
+    let sell = s.sell;
+    let done = s.done & !o.is_immediate();
+    if o.side == 1 {
+        let more = with_open(1, buy, o.level, o.qty - used);
+        return Sides {
+            buy: more,
+            sell,
+            done,
+        };
+    }
+    let more = with_open(2, sell, o.level, o.qty - used);
+    Sides {
+        buy,
+        sell: more,
+        done,
+    }
+}
+
+// Both sides so far, with record k unless it is order w.
+fn with_record(t: &[u8], k: usize, w: usize, s: Sides) -> Sides
+    requires { ⌜ (length (now t) ≡ tableBytes) × (k < 256) × RoomySides s ⌝ }
+    ensures { λ r. ⌜ r ≡ cond (eqb k w) s (withOrder s (orderAt (now (t .entry)) k)) ⌝ }
+{
+    if k == w {
+        return s;
+    }
+    with_order(s, load(t, k))
+}
+
+// Both sides of the n filled records, apart from order w.
+fn both_sides(t: &[u8], n: usize, w: usize) -> Sides
+    requires { ⌜ (length (now t) ≡ tableBytes) × (n ≡ filled (now t)) × (n ≤ 255) ⌝ }
+    ensures { λ r. ⌜ r ≡ sidesOf (bookOf (now (t .entry))) w n ⌝ }
+{
+    let none = BestLevel {
+        level: 0,
+        total: 0,
+        orders: 0,
+    };
+    let mut s = Sides {
+        buy: none,
+        sell: none,
+        done: true,
+    };
     let mut k = 0;
     while k < n {
-        if !((k + 1 == w) | is_done_at(t, k + 1)) {
-            return false;
-        }
+        s = with_record(t, k + 1, w, s);
         k += 1;
     }
-    true
-}
-
-// The lowest open buy level so far, with record i unless it is set apart.
-fn low_with(t: &[u8], i: usize, low: u64, apart: bool) -> u64
-    requires { ⌜ (length (now t) ≡ tableBytes) × (i < 256) × (low < 4294967297) ⌝ }
-    ensures { λ r. ⌜ (r ≡ lowWith low apart (orderAt (now (t .entry)) i)) × (r < 4294967297) ⌝ }
-{
-    let level = level_at(t, i);
-    if !apart & open_at(t, i) & buys_at(t, i) & (level < low) {
-        level
-    } else {
-        low
-    }
-}
-
-// One more than the highest open sell level so far, with record i unless it is set apart.
-fn high_with(t: &[u8], i: usize, high: u64, apart: bool) -> u64
-    requires { ⌜ (length (now t) ≡ tableBytes) × (i < 256) × (high < 4294967297) ⌝ }
-    ensures { λ r. ⌜ (r ≡ highWith high apart (orderAt (now (t .entry)) i)) × (r < 4294967297) ⌝ }
-{
-    let level = level_at(t, i);
-    if !apart & open_at(t, i) & !buys_at(t, i) & (high < level + 1) {
-        level + 1
-    } else {
-        high
-    }
-}
-
-// Whether every open buy level is above every open sell level among the n filled records, apart from order w.
-fn no_cross(t: &[u8], n: usize, w: usize) -> bool
-    requires { ⌜ (length (now t) ≡ tableBytes) × (n ≡ filled (now t)) × (n ≤ 255) ⌝ }
-    ensures { λ r. ⌜ r ≡ noCross (bookOf (now (t .entry))) w ⌝ }
-{
-    let mut low: u64 = 4294967296;
-    let mut high: u64 = 0;
-    let mut k = 0;
-    while k < n {
-        low = low_with(t, k + 1, low, k + 1 == w);
-        high = high_with(t, k + 1, high, k + 1 == w);
-        k += 1;
-    }
-    high <= low
+    s
 }
 
 // One more than had if r is open and opposite to o, else had.
@@ -158,26 +174,32 @@ pub fn has_decision(t: &[u8], n: usize, w: usize, d: u64) -> bool
     (d == 1) & (0 < load(t, w).minimum_of())
 }
 
-// Whether the heading keeps the best levels of the n filled records, or zeros while an order is in work.
-pub fn has_best(t: &[u8], n: usize) -> bool
-    requires { ⌜ (length (now t) ≡ tableBytes) × (n ≡ filled (now t)) ⌝ }
-    ensures { λ r. ⌜ r ≡ hasBest (now (t .entry)) ⌝ }
+// Whether the heading keeps the best levels of these sides, or zeros while an order, w, is in work.
+fn has_best(t: &[u8], w: usize, s: Sides) -> bool
+    ensures { λ r. ⌜ r ≡ sameBytes (partAt (now (t .entry)) bestByte bestBytes) (rowOf w s) ⌝ }
 {
     let kept = octets::part_at(t, places::BEST, places::BEST_BYTES);
     let mut row = [0u8; 31];
-    if work(t) != 0 {
+    if w != 0 {
         return octets::same(kept, &row);
     }
-    let buy = best_of(t, n, 1);
-    let sell = best_of(t, n, 2);
+    let buy = s.buy;
+    let sell = s.sell;
     write_best(&mut row, 0, buy, sell);
     octets::same(kept, &row)
 }
 
-// Whether the book of the n filled records is one of a market, with order w in work and this next number.
+// Whether the book of the n filled records is one of a market, with order w in work, and the best levels are those of the book.
 pub fn is_book(t: &[u8], n: usize, w: usize, next: u64) -> bool
-    requires { ⌜ (length (now t) ≡ tableBytes) × (n ≡ filled (now t)) × (n ≤ 255) × (next < 4294967296) ⌝ }
-    ensures { λ r. ⌜ r ≡ isBook (bookOf (now (t .entry))) w next ⌝ }
+    requires { ⌜ (length (now t) ≡ tableBytes) × (n ≡ filled (now t)) × (n ≤ 255) × (next < 4294967296) × (w ≡ workOf (now t)) × (w ≤ n) × (hasOrders (now t) ≡ true) ⌝ }
+    ensures { λ r. ⌜ r ≡ (isBook (bookOf (now (t .entry))) w next && hasBest (now (t .entry))) ⌝ }
 {
-    has_places(t, n, next) & no_ioc(t, n, w) & no_cross(t, n, w) & has_numbers(t, n, w, next)
+    let s = both_sides(t, n, w);
+    let buy = s.buy.level;
+    let sell = s.sell.level;
+    has_places(t, n, next)
+        & s.done
+        & ((buy == 0) | (sell < buy))
+        & has_numbers(t, n, w, next)
+        & has_best(t, w, s)
 }

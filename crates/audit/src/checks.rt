@@ -9,7 +9,8 @@ ghost use Rattle.octets.specs.Tests.{allUpTo};
 ghost use Rattle.table.specs.Places.{tableBytes, codeByte, codeRoom};
 ghost use Rattle.table.specs.Heading.{instrumentOf, mpidAt, entries};
 ghost use Rattle.table.specs.Orders.{filled};
-ghost use Rattle.table.specs.Market.{every, isCodeCharacter, isText, hasNames, isEntry, hasList, hasSettings, hasNext, hasStamp, hasWork, hasKind};
+ghost use Rattle.audit.specs.Rows.{boundsOf, AreRows, between, isFilled, listEnds};
+ghost use Rattle.table.specs.Market.{isCodeCharacter, isText, hasNames, isEntry, hasList, hasSettings, hasNext, hasStamp, hasWork, hasKind};
 use decimal::Instrument;
 use table::entries::mode_at;
 use table::entries::mpid_at;
@@ -18,15 +19,35 @@ use table::heading::stamp;
 use table::heading::work;
 use table::places;
 
-// Whether every byte is from low to high. There is no way out of the loop but its end, so that many bytes are taken a turn.
-pub fn all_within(s: &[u8], low: u8, high: u8) -> bool
-    ensures { λ r. ⌜ r ≡ every (λ x. leb low x && leb x high) (now (s .entry)) ⌝ }
+// A row of bounds: x 32 times, and 32 zeros.
+pub fn bounds_of(x: u8) -> [u8; 64]
+    ensures { λ r. ⌜ r ≡ boundsOf x ⌝ }
 {
+    let bounds = [x; 32];
+    let mut row = [0u8; 64];
+    octets::copy_into(&mut row, 0, &bounds);
+    row
+}
+
+// Whether x is low or one of the span bytes above it. What is below low wraps and is above any span, so that one comparison tells.
+fn is_in(x: u8, low: u8, span: u8) -> bool
+    requires { ⌜ low + span < 256 ⌝ }
+    ensures { λ r. ⌜ r ≡ (leb low x && leb x (low + span)) ⌝ }
+{
+    std::num::wrapping_sub_u8(x, low) <= span
+}
+
+// Whether of the room bytes from place p on n are within the bounds of two rows, and zeros stand behind them. There is no way out of the
+// loop but its end, so that many bytes are taken a turn.
+fn is_filled(low: &[u8], span: &[u8], t: &[u8], p: usize, n: usize, room: usize) -> bool
+    requires { ⌜ (p + room ≤ length (now t)) × (n ≤ room) × (room ≤ 32) × AreRows (now low) (now span) ⌝ }
+    ensures { λ r. ⌜ r ≡ isFilled (now (low .entry)) (now (span .entry)) room (now (t .entry)) p n ⌝ }
+{
+    let e = 32 - n;
     let mut good = true;
     let mut i = 0;
-    while i < s.len() {
-        let x = s[i];
-        good = good & ((low <= x) & (x <= high));
+    while i < room {
+        good = good & is_in(t[p + i], low[e + i], span[e + i]);
         i += 1;
     }
     good
@@ -39,10 +60,10 @@ pub fn room_left(room: usize, n: usize) -> usize
     if n < room { room - n } else { 0 }
 }
 
-// Whether a text of least to room bytes, each from low to high, stands at place p, and zeros behind it.
-pub fn is_text(t: &[u8], p: usize, least: usize, room: usize, low: u8, high: u8) -> bool
-    requires { ⌜ (p + 1 + room ≤ length (now t)) × (room < 256) ⌝ }
-    ensures { λ r. ⌜ r ≡ isText (λ x. leb low x && leb x high) least room (now (t .entry)) p ⌝ }
+// Whether a text of least to room bytes, each within the bounds of two rows, stands at place p, and zeros behind it.
+pub fn is_text(low: &[u8], span: &[u8], t: &[u8], p: usize, least: usize, room: usize) -> bool
+    requires { ⌜ (p + 1 + room ≤ length (now t)) × (room ≤ 32) × AreRows (now low) (now span) ⌝ }
+    ensures { λ r. ⌜ r ≡ isText (between (now (low .entry)) (now (span .entry))) least room (now (t .entry)) p ⌝ }
 {
     let n = octets::wide(t[p]) as usize;
     if n < least {
@@ -51,8 +72,7 @@ pub fn is_text(t: &[u8], p: usize, least: usize, room: usize, low: u8, high: u8)
     if room < n {
         return false;
     }
-    let q = p + 1 + n;
-    all_within(octets::text_at(t, p), low, high) & octets::all_zero(octets::part_at(t, q, room - n))
+    is_filled(low, span, t, p + 1, n, room)
 }
 
 // Whether the n bytes from place p on are zero, as one number.
@@ -63,25 +83,22 @@ pub fn zeros_at(t: &[u8], p: usize, n: usize) -> bool
     octets::le_at(t, p, n) == 0
 }
 
-// The sum of the four numbers of four bytes from place p on: it is 0 exactly if all the bytes are.
-pub fn sum_of_four(t: &[u8], p: usize) -> u64
-    requires { ⌜ p + 16 ≤ length (now t) ⌝ }
-    ensures { λ r. ⌜ (eqb r 0 ≡ allZero (partAt (now (t .entry)) p 16)) × (r < 17179869184) ⌝ }
-{
-    octets::le_at(t, p, 4)
-        + octets::le_at(t, p + 4, 4)
-        + octets::le_at(t, p + 8, 4)
-        + octets::le_at(t, p + 12, 4)
-}
-
 // Whether the code is one that such a market may have.
 fn has_code(q: Instrument, t: &[u8]) -> bool
     requires { ⌜ length (now t) ≡ tableBytes ⌝ }
     ensures { λ r. ⌜ r ≡ isText (isCodeCharacter q) 1 codeRoom (now (t .entry)) codeByte ⌝ }
 {
     match q {
-        Instrument::Bonds => is_text(t, places::CODE, 1, places::CODE_ROOM, 48, 57),
-        Instrument::Equities => is_text(t, places::CODE, 1, places::CODE_ROOM, 33, 126),
+        Instrument::Bonds => {
+            let low = bounds_of(48);
+            let span = bounds_of(9);
+            is_text(&low, &span, t, places::CODE, 1, places::CODE_ROOM)
+        }
+        Instrument::Equities => {
+            let low = bounds_of(33);
+            let span = bounds_of(93);
+            is_text(&low, &span, t, places::CODE, 1, places::CODE_ROOM)
+        }
     }
 }
 
@@ -90,8 +107,10 @@ fn has_names(q: Instrument, t: &[u8]) -> bool
     requires { ⌜ (length (now t) ≡ tableBytes) × (q ≡ instrumentOf (now t)) ⌝ }
     ensures { λ r. ⌜ r ≡ hasNames (now (t .entry)) ⌝ }
 {
-    is_text(t, places::VENUE, 1, places::ID_ROOM, 33, 126)
-        & is_text(t, places::PORT, 1, places::ID_ROOM, 33, 126)
+    let low = bounds_of(33);
+    let span = bounds_of(93);
+    is_text(&low, &span, t, places::VENUE, 1, places::ID_ROOM)
+        & is_text(&low, &span, t, places::PORT, 1, places::ID_ROOM)
         & has_code(q, t)
 }
 
@@ -135,15 +154,27 @@ fn are_entries(t: &[u8], n: usize) -> bool
     true
 }
 
+// Whether zeros stand behind the n entries: from entry n on no MPID and no mode.
+fn ends_list(t: &[u8], n: usize) -> bool
+    requires { ⌜ (length (now t) ≡ tableBytes) × (n ≤ 8) ⌝ }
+    ensures { λ r. ⌜ r ≡ listEnds (now (t .entry)) n ⌝ }
+{
+    let mut k = n;
+    while k < places::MOST_MPIDS {
+        if mpid_at(t, k) + mode_at(t, k) != 0 {
+            return false;
+        }
+        k += 1;
+    }
+    true
+}
+
 // Whether the list of n MPIDs is one, with zeros behind it.
 fn has_list(t: &[u8], n: usize) -> bool
     requires { ⌜ (length (now t) ≡ tableBytes) × (n ≡ entries (now t)) × (n ≤ 8) ⌝ }
     ensures { λ r. ⌜ r ≡ hasList (now (t .entry)) ⌝ }
 {
-    (1 <= n)
-        & are_entries(t, n)
-        & octets::all_zero(octets::part_at(t, places::MPIDS + 4 * n, 4 * (places::MOST_MPIDS - n)))
-        & octets::all_zero(octets::part_at(t, places::MODES + n, places::MOST_MPIDS - n))
+    (1 <= n) & are_entries(t, n) & ends_list(t, n)
 }
 
 // Whether the settings keep the ranges of opening; q is what the market trades, n the number of MPIDs.

@@ -2,6 +2,7 @@
 pub mod book;
 pub mod checks;
 pub mod marks;
+pub mod rank;
 pub mod sound;
 pub mod whole;
 

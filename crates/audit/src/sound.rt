@@ -1,51 +1,66 @@
 // Whether a table is a market: the clauses on each order by itself.
 ghost use mathlib.Core.Path.{_≡_};
-ghost use mathlib.Core.Bool.{_&&_};
+ghost use mathlib.Core.Bool.{_&&_, _||_};
 ghost use Prim.Native.Nat.{_+_, _*_, _≤_, _<_};
-ghost use lib.Dec.{leb};
+ghost use lib.Dec.{eqb};
 ghost use lib.ListN.{length};
 ghost use Rattle.octets.specs.Octets.{allZero, partAt};
 ghost use Rattle.octets.specs.Tests.{allUpTo};
 ghost use Rattle.decimal.specs.declared.Instrument.the-variants.{Equities};
 ghost use Rattle.decimal.specs.Instruments.{highest};
-ghost use Rattle.matching.specs.Matching.{isOpen, isSideOf};
+ghost use Rattle.matching.specs.Matching.{isOpen, isSideOf, isImmediate};
 ghost use Rattle.matching.specs.Held.{mayMinimum};
 ghost use Rattle.table.specs.Places.{tableBytes};
 ghost use Rattle.table.specs.Heading.{instrumentOf, entries};
 ghost use Rattle.table.specs.Orders.{cashAt, marginAt, marksAt, filled};
 ghost use Rattle.audit.specs.Widths.{Narrow};
+ghost use Rattle.audit.specs.Rows.{boundsOf, AreRows, between};
 ghost use Rattle.table.specs.Market.{isText, isCash, isMarked, isRecord, isRanged, isKnown, isWithin, isShut, isPriced, isOrder, hasOrders};
+use crate::checks::bounds_of;
 use crate::checks::is_text;
-use crate::checks::sum_of_four;
 use crate::checks::zeros_at;
 use decimal::Instrument;
 use matching::Order;
-use table::entries::is_listed;
+use table::entries::mpid_at;
 use table::places;
 use table::record::capacity;
 use table::record::classification;
+use table::record::four_at;
 use table::record::load;
 use table::record::order_id;
 
-// Whether an account or none stands at place p. Most orders have none, and then all its room is zeros.
-fn is_account(t: &[u8], p: usize) -> bool
-    requires { ⌜ p + 11 ≤ length (now t) ⌝ }
-    ensures { λ r. ⌜ r ≡ isText (λ x. leb 32 x && leb x 126) 0 10 (now (t .entry)) p ⌝ }
+// Whether the ten bytes of an account's room, from place p on, are zero.
+fn is_empty(t: &[u8], p: usize) -> bool
+    requires { ⌜ p + 10 ≤ length (now t) ⌝ }
+    ensures { λ r. ⌜ r ≡ allZero (partAt (now (t .entry)) p 10) ⌝ }
 {
-    if octets::wide(t[p]) == 0 {
-        return zeros_at(t, p + 1, 4) & zeros_at(t, p + 5, 4) & zeros_at(t, p + 9, 2);
+    if four_at(t, p) + four_at(t, p + 4) != 0 {
+        return false;
     }
-    is_text(t, p, 0, places::ACCOUNT_ROOM, 32, 126)
+    zeros_at(t, p + 8, 2)
 }
 
-// Whether the 34 bytes at the end of a record that nothing uses, from place p on, are zero: the sum of their nine numbers is.
+// Whether an account or none stands at place p, by rows of bounds. Most orders have none, and then all its room is zeros.
+fn is_account(low: &[u8], span: &[u8], t: &[u8], p: usize) -> bool
+    requires { ⌜ (p + 11 ≤ length (now t)) × AreRows (now low) (now span) ⌝ }
+    ensures { λ r. ⌜ r ≡ isText (between (now (low .entry)) (now (span .entry))) 0 10 (now (t .entry)) p ⌝ }
+{
+    if octets::wide(t[p]) == 0 {
+        return is_empty(t, p + 1);
+    }
+    is_text(low, span, t, p, 0, places::ACCOUNT_ROOM)
+}
+
+// Whether the 34 bytes at the end of a record that nothing uses, from place p on, are zero.
 fn is_unused(t: &[u8], p: usize) -> bool
     requires { ⌜ p + 34 ≤ length (now t) ⌝ }
     ensures { λ r. ⌜ r ≡ allZero (partAt (now (t .entry)) p 34) ⌝ }
 {
-    let most = sum_of_four(t, p) + sum_of_four(t, p + 16);
-    let x = octets::le_at(t, p + 32, 2);
-    most + x == 0
+    let e = p + 32;
+    if !octets::all_zero(&t[p..e]) {
+        return false;
+    }
+    zeros_at(t, e, 2)
 }
 
 // Whether CashMargin and MarginTransactionType are those of an equities order.
@@ -73,34 +88,49 @@ fn is_marked(q: Instrument, t: &[u8], i: usize) -> bool
     ensures { λ r. ⌜ r ≡ isMarked q (marksAt (now (t .entry)) i) ⌝ }
 {
     let capacity = capacity(t, i);
+    if !((capacity == 65) | (capacity == 80)) {
+        return false;
+    }
     let class = classification(t, i);
-    ((capacity == 65) | (capacity == 80))
-        & ((class == 1) | ((3 <= class) & (class <= 6)))
-        & has_cash(q, t, i)
+    if !((class == 1) | ((3 <= class) & (class <= 6))) {
+        return false;
+    }
+    has_cash(q, t, i)
 }
 
-// Whether the texts, the marks, the OrderID and the unused bytes of record i are in order.
-fn is_record(q: Instrument, t: &[u8], i: usize) -> bool
-    requires { ⌜ (length (now t) ≡ tableBytes) × (q ≡ instrumentOf (now t)) × (i < 256) ⌝ }
+// Whether the texts, the marks, the OrderID and the unused bytes of record i are in order; low and span are the rows of the bounds of
+// its texts.
+fn is_record(q: Instrument, low: &[u8], span: &[u8], t: &[u8], i: usize) -> bool
+    requires { ⌜ (length (now t) ≡ tableBytes) × (q ≡ instrumentOf (now t)) × (now low ≡ boundsOf 32) × (now span ≡ boundsOf 94) × (i < 256) ⌝ }
     ensures { λ r. ⌜ r ≡ isRecord (now (t .entry)) i ⌝ }
 {
     let b = places::RECORD * i;
-    is_text(t, b, 1, places::CL_ORD_ID_ROOM, 32, 126)
-        & is_account(t, b + places::ACCOUNT)
-        & is_marked(q, t, i)
-        & (1 <= order_id(t, i))
-        & is_unused(t, b + places::RECORD_END)
+    if !is_text(low, span, t, b, 1, places::CL_ORD_ID_ROOM) {
+        return false;
+    }
+    if !is_account(low, span, t, b + places::ACCOUNT) {
+        return false;
+    }
+    if !is_marked(q, t, i) {
+        return false;
+    }
+    if order_id(t, i) == 0 {
+        return false;
+    }
+    is_unused(t, b + places::RECORD_END)
 }
 
-// Whether MinQty is one that the time in force allows.
-fn may_minimum(o: Order) -> bool
-    ensures { λ r. ⌜ r ≡ mayMinimum o ⌝ }
+// Whether the time in force is one, and MinQty one that it allows.
+fn is_timed(o: Order) -> bool
+    ensures { λ r. ⌜ r ≡ ((eqb (o .tif) 0 || isImmediate o) && mayMinimum o) ⌝ }
 {
     if o.tif == 3 {
-        o.minqty <= o.qty
-    } else {
-        o.minqty == 0
+        return o.minqty <= o.qty;
     }
+    if o.tif == 0 {
+        return o.minqty == 0;
+    }
+    (o.tif == 4) & (o.minqty == 0)
 }
 
 // Whether a side is one of the market's; either market has 1 and 2.
@@ -131,25 +161,28 @@ fn is_ranged(q: Instrument, top: u64, o: Order) -> bool
     requires { ⌜ top ≡ highest q ⌝ }
     ensures { λ r. ⌜ r ≡ isRanged q o ⌝ }
 {
-    is_side(q, o.side)
-        & ((o.tif == 0) | o.is_immediate())
-        & may_minimum(o)
-        & (1 <= o.level)
-        & (o.level <= top)
-        & (1 <= o.qty)
-        & (o.qty <= 999999999)
-        & (1 <= o.place)
+    if !is_side(q, o.side) {
+        return false;
+    }
+    if !is_timed(o) {
+        return false;
+    }
+    (1 <= o.level) & (o.level <= top) & (1 <= o.qty) & (o.qty <= 999999999) & (1 <= o.place)
 }
 
-// Whether an MPID is none, or one of the n that are listed.
+// Whether an MPID is none, or one of the n that are listed. All places of the list are looked at, so that no way out depends on where it
+// stands.
 fn is_known(t: &[u8], n: usize, m: u64) -> bool
     requires { ⌜ (length (now t) ≡ tableBytes) × (n ≡ entries (now t)) × (n ≤ 8) ⌝ }
     ensures { λ r. ⌜ r ≡ isKnown (now (t .entry)) m ⌝ }
 {
-    if m == 0 {
-        return true;
+    let mut found = m == 0;
+    let mut k = 0;
+    while k < places::MOST_MPIDS {
+        found = found | ((mpid_at(t, k) == m) & (k < n));
+        k += 1;
     }
-    is_listed(t, n, m)
+    found
 }
 
 // What is executed, decremented and canceled.
@@ -192,18 +225,29 @@ fn is_priced(q: Instrument, top: u64, o: Order) -> bool
     (o.executed <= o.sum) & (o.sum <= o.executed * top)
 }
 
-// Whether record i is an order; q is what the market trades, top its highest level, n the number of MPIDs.
-fn is_order(q: Instrument, top: u64, t: &[u8], n: usize, i: usize) -> bool
-    requires { ⌜ (length (now t) ≡ tableBytes) × (q ≡ instrumentOf (now t)) × (top ≡ highest q) × (n ≡ entries (now t)) × (n ≤ 8) × (i < 256) ⌝ }
+// Whether record i is an order; q is what the market trades, low and span are the rows of the bounds of its texts, top its highest level,
+// n the number of MPIDs.
+fn is_order(q: Instrument, low: &[u8], span: &[u8], top: u64, t: &[u8], n: usize, i: usize) -> bool
+    requires { ⌜ (length (now t) ≡ tableBytes) × (q ≡ instrumentOf (now t)) × (now low ≡ boundsOf 32) × (now span ≡ boundsOf 94) × (top ≡ highest q) × (n ≡ entries (now t)) × (n ≤ 8) × (i < 256) ⌝ }
     ensures { λ r. ⌜ r ≡ isOrder (now (t .entry)) i ⌝ }
 {
+    if !is_record(q, low, span, t, i) {
+        return false;
+    }
     let o = load(t, i);
-    is_record(q, t, i)
-        & is_ranged(q, top, o)
-        & is_known(t, n, o.mpid)
-        & is_within(o)
-        & is_shut(o)
-        & is_priced(q, top, o)
+    if !is_within(o) {
+        return false;
+    }
+    if !is_shut(o) {
+        return false;
+    }
+    if !is_priced(q, top, o) {
+        return false;
+    }
+    if !is_ranged(q, top, o) {
+        return false;
+    }
+    is_known(t, n, o.mpid)
 }
 
 // Whether each of the m filled records is; q is what the market trades, n the number of MPIDs.
@@ -212,9 +256,11 @@ pub fn has_orders(q: Instrument, t: &[u8], n: usize, m: usize) -> bool
     ensures { λ r. ⌜ r ≡ hasOrders (now (t .entry)) ⌝ }
 {
     let top = highest(q);
+    let low = bounds_of(32);
+    let span = bounds_of(94);
     let mut k = 0;
     while k < m {
-        if !is_order(q, top, t, n, k + 1) {
+        if !is_order(q, &low, &span, top, t, n, k + 1) {
             return false;
         }
         k += 1;

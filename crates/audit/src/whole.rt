@@ -1,13 +1,12 @@
 // Whether a table is a market: all the clauses.
 ghost use mathlib.Core.Path.{_≡_};
-ghost use mathlib.Core.Bool.{_&&_};
+ghost use mathlib.Core.Bool.{true, _&&_};
 ghost use Prim.Native.Nat.{_≤_};
 ghost use lib.ListN.{length};
 ghost use Rattle.table.specs.Places.{tableBytes};
 ghost use Rattle.table.specs.Heading.{nextOf, workOf, decidedOf};
 ghost use Rattle.table.specs.Orders.{filled, bookOf};
-ghost use Rattle.table.specs.Market.{isBook, hasDecision, hasBest, isMarket, isMarketOf};
-use crate::book::has_best;
+ghost use Rattle.table.specs.Market.{hasSettings, hasNext, hasWork, hasKind, restZero, hasOrders, isBook, hasDecision, hasBest, isMarket, isMarketOf};
 use crate::book::has_decision;
 use crate::book::is_book;
 use crate::checks::has_kind;
@@ -27,14 +26,29 @@ use table::heading::next;
 use table::heading::work;
 use table::places;
 
+// Whether the heading is one of a market, each of the n filled records is an order, and nothing stands behind them.
+fn has_records(t: &[u8], n: usize) -> bool
+    requires { ⌜ (length (now t) ≡ tableBytes) × (n ≡ filled (now t)) × (n ≤ 255) ⌝ }
+    ensures { λ r. ⌜ r ≡ (hasSettings (now (t .entry)) && hasNext (now (t .entry)) && hasWork (now (t .entry)) && hasKind (now (t .entry)) && restZero (now (t .entry)) && hasOrders (now (t .entry))) ⌝ }
+{
+    let q = instrument(t);
+    let m = entries(t);
+    has_settings(q, t, m)
+        & has_next(t)
+        & has_work(t, n)
+        & has_kind(t)
+        & octets::rest_zero(t, places::RECORD * (n + 1))
+        & has_orders(q, t, m, n)
+}
+
 // Whether the book of the n filled records is one of a market, the decision one that the order in work can have, and the best levels
 // those of the book.
 fn has_book(t: &[u8], n: usize) -> bool
-    requires { ⌜ (length (now t) ≡ tableBytes) × (n ≡ filled (now t)) × (n ≤ 255) ⌝ }
+    requires { ⌜ (length (now t) ≡ tableBytes) × (n ≡ filled (now t)) × (n ≤ 255) × (workOf (now t) ≤ n) × (hasOrders (now t) ≡ true) ⌝ }
     ensures { λ r. ⌜ r ≡ (isBook (bookOf (now (t .entry))) (workOf (now (t .entry))) (nextOf (now (t .entry))) && hasDecision (bookOf (now (t .entry))) (workOf (now (t .entry))) (decidedOf (now (t .entry))) && hasBest (now (t .entry))) ⌝ }
 {
     let w = work(t);
-    is_book(t, n, w, next(t)) & has_decision(t, n, w, decided(t)) & has_best(t, n)
+    is_book(t, n, w, next(t)) & has_decision(t, n, w, decided(t))
 }
 
 // Whether these bytes are a market.
@@ -44,18 +58,11 @@ pub fn is_market(t: &[u8]) -> bool
     if t.len() != places::TABLE {
         return false;
     }
-    let q = instrument(t);
-    let m = entries(t);
     let n = filled(t);
-    has_settings(q, t, m)
-        & has_next(t)
-        & has_work(t, n)
-        & has_kind(t)
-        & octets::rest_zero(t, places::RECORD * (n + 1))
-        & has_orders(q, t, m, n)
-        & has_ids(t, n)
-        & has_order_ids(t, n)
-        & has_book(t, n)
+    if !has_records(t, n) {
+        return false;
+    }
+    has_ids(t, n) & has_order_ids(t, n) & has_book(t, n)
 }
 
 // Whether they are a market of bonds, or one of equities.

@@ -128,12 +128,24 @@ decimal-is-in (suc j) n h f =
 pub decimal-is : (n : ℕ) → n < 2 ^ 64 → decimal n ≡ places (length (decimal n)) n
 decimal-is n f = sym (decimal-is-in 19 n (omega arith) f)
 
--- writing as many digits as a number has is writing it
+-- one digit, two, and as many as a number has: writing them is writing it
+pub small-room : (n : ℕ) {area : List ℕ} {at : ℕ} → n < 10 → Room area at (decimal n) → Room area at ((48 + n) ∷ [])
+small-room n h r = rw (decimal-small n h) at r
+
+pub small-wrote : (n : ℕ) {area : List ℕ} {at next : ℕ} {after : List ℕ} → n < 10 → Wrote area at ((48 + n) ∷ []) next after → Wrote area at (decimal n) next after
+small-wrote n h w = rw (decimal-small n h) w
+
 pub decimal-room : (n k : ℕ) {area : List ℕ} {at : ℕ} → n < 2 ^ 64 → k ≡ length (decimal n) → Room area at (decimal n) → Room area at (places k n)
 decimal-room n k {area} {at} f e r = rw (e, ← decimal-is n f) r
 
 pub decimal-wrote : (n k : ℕ) {area : List ℕ} {at next : ℕ} {after : List ℕ} → n < 2 ^ 64 → k ≡ length (decimal n) → Wrote area at (places k n) next after → Wrote area at (decimal n) next after
 decimal-wrote n k f e w = rw (e, ← decimal-is n f) at w
+
+pub two-room : (n : ℕ) {area : List ℕ} {at : ℕ} → 10 ≤ n → n < 100 → Room area at (decimal n) → Room area at (places 2 n)
+two-room n h l r = decimal-room n 2 (omega (arith, l)) (sym (length-two n h l)) r
+
+pub two-wrote : (n : ℕ) {area : List ℕ} {at next : ℕ} {after : List ℕ} → 10 ≤ n → n < 100 → Wrote area at (places 2 n) next after → Wrote area at (decimal n) next after
+two-wrote n h l w = decimal-wrote n 2 (omega (arith, l)) (sym (length-two n h l)) w
 
 -- ---- the loop that writes from the last digit: i digits of m are still to be written
 pub record Left (area : List ℕ) (at k n i m : ℕ) (now : List ℕ) : Type 0 where
@@ -158,17 +170,45 @@ left-more area at k n (suc j) m now l h =
     let e : suc j - 1 ≡ j = omega arith in
     record { within = omega (arith, l .within); kept = simp length-set (l .kept); end = rw e (turn ∙ l .end) }
 
--- there is a place for the next digit
-pub left-place : (area : List ℕ) (at k n i m : ℕ) (now : List ℕ) → Room area at (places k n) → Left area at k n i m now → 0 < i → at + (i - 1) < length now
-left-place area at k n i m now r l h = omega (arith, r .fits, length-places k n, l .within, l .kept)
+-- two digits a turn
+module _ (area : List ℕ) (at k n i m : ℕ) (now : List ℕ) (l : Left area at k n i m now) where
+  pub left-two : 1 < i → Left area at k n (i - 2) (m / 100) (set (set now (at + (i - 2) + 1) (48 + m % 100 % 10)) (at + (i - 2)) (48 + m % 100 / 10))
+  left-two h =
+      let a : i - 1 - 1 ≡ i - 2 = omega arith in
+      let b : m / 10 / 10 ≡ m / 100 = omega arith in
+      let c : at + (i - 1) ≡ at + (i - 2) + 1 = omega (arith, h) in
+      let d : m % 10 ≡ m % 100 % 10 = omega arith in
+      let e : m / 10 % 10 ≡ m % 100 / 10 = omega arith in
+      rw (a, b, c, d, e) at (left-more area at k n (i - 1) (m / 10) _ (left-more area at k n i m now l (omega (arith, h))) (omega (arith, h)))
 
-pub left-fits : (area : List ℕ) (at k n i m : ℕ) (now : List ℕ) → Room area at (places k n) → Left area at k n i m now → length area < 2 ^ 64 → 0 < i → Fits w64 (at + (i - 1))
-left-fits area at k n i m now r l f h = record { fits = omega (arith, left-place area at k n i m now r l h, l .kept) }
+  -- there is a place for them
+  pub left-place : Room area at (places k n) → 1 < i → at + (i - 2) + 1 < length now
+  left-place r h = omega (arith, r .fits, length-places k n, l .within, l .kept)
 
-pub left-none : (area : List ℕ) (at k n i m : ℕ) (now : List ℕ) → Left area at k n i m now → i ≤ 0 → Wrote area at (places k n) (at + k) now
-unfolding places put
-left-none area at k n zero m now l h = record { place = omega (arith, length-places k n); bytes-in = l .end }
-left-none area at k n (suc i) m now l h = absurd (not-suc-le-zero h)
+  pub left-fits : Room area at (places k n) → length area < 2 ^ 64 → 1 < i → Fits w64 (at + (i - 2) + 1)
+  left-fits r f h = record { fits = omega (arith, left-place r h, l .kept) }
+
+  pub left-fits-first : Room area at (places k n) → length area < 2 ^ 64 → 1 < i → Fits w64 (at + (i - 2))
+  left-fits-first r f h = record { fits = omega (arith, left-place r h, l .kept) }
+
+  pub left-place-first : Room area at (places k n) → 1 < i → (x : ℕ) → at + (i - 2) < length (set now (at + (i - 2) + 1) x)
+  left-place-first r h x = simp length-set (omega (arith, left-place r h))
+
+  -- one digit is left, or none
+  pub left-first : Room area at (places k n) → i ≡ 1 → at < length now
+  left-first r e = omega (arith, r .fits, length-places k n, l .within, l .kept)
+
+  pub left-end : Room area at (places k n) → length area < 2 ^ 64 → Fits w64 (at + k)
+  left-end r f = record { fits = omega (arith, r .fits, length-places k n) }
+
+  pub left-none : i ≡ 0 → Wrote area at (places k n) (at + k) now
+  unfolding places put
+  left-none e = let z : put now at (places i m) ≡ now = rw e in record { place = omega (arith, length-places k n); bytes-in = sym z ∙ l .end }
+
+pub left-one : (area : List ℕ) (at k n i m : ℕ) (now : List ℕ) → Left area at k n i m now → i ≡ 1 → Wrote area at (places k n) (at + k) (set now at (48 + m % 10))
+left-one area at k n i m now l e =
+    let a : at + (i - 1) ≡ at = omega (arith, e) in
+    rw a at (left-none area at k n (i - 1) (m / 10) _ (left-more area at k n i m now l (omega (arith, e))) (omega (arith, e)))
 
 -- ---- counting: k digits are counted, and those of m are not yet
 pub record Counted (n k m : ℕ) : Type 0 where

@@ -4,10 +4,13 @@ use crate::Instrument;
 use crate::Said;
 ghost use mathlib.Core.Path.{_≡_};
 ghost use Prim.Native.Nat.{ℕ, _+_, _-_, _*_, _^_, _≤_, _<_};
+ghost use mathlib.Core.Bool.{true, _&&_};
+ghost use lib.Dec.{leb};
 ghost use lib.ListN.{length, take, drop, getD};
+ghost use Rattle.octets.specs.Tests.{allUpTo};
 ghost use Rattle.decimal.specs.declared.Instrument.the-variants.{Bonds, Equities};
 ghost use Rattle.decimal.specs.Writing.{Scale};
-ghost use Rattle.decimal.specs.Reading.{isDigit, digitOf, digitRun, number, numOf, fractionOf, sizeOf, levelOf, isTimeLength, twoAt, millisShaped, timeShaped, timeRanged, isTime};
+ghost use Rattle.decimal.specs.Reading.{isDigit, digitOf, digitRun, number, numOf, fractionOf, sizeOf, levelOf, twoAt, timeShaped, timeRanged, isTime};
 
 // Whether a byte is a digit.
 pub fn is_digit(b: u8) -> bool
@@ -174,48 +177,48 @@ pub fn read_level(q: Instrument, s: &[u8]) -> Said
     }
 }
 
-// The number that the two digits at place `i` say: below 100 exactly where both are digits.
-fn two_at(s: &[u8], i: usize) -> u64
-    requires { ⌜ i < 100 ⌝ }
-    ensures { λ r. ⌜ r ≡ twoAt (now (s .entry)) i ⌝ }
+// Whether each byte that `s` starts with is between those of `least` and `most` at its place. There is no way out of the loop but its
+// end, so that the compiler takes 16 bytes at once.
+fn between(s: &[u8], least: &[u8], most: &[u8]) -> bool
+    requires { ⌜ (length (now least) ≤ length (now s)) × (length (now most) ≡ length (now least)) ⌝ }
+    ensures { λ r. ⌜ r ≡ allUpTo (λ k. leb (getD (now (least .entry)) k 0) (getD (now (s .entry)) k 0) && leb (getD (now (s .entry)) k 0) (getD (now (most .entry)) k 0))
+        (length (now (least .entry))) ⌝ }
 {
-    digit(byte_at(s, i)) * 10 + digit(byte_at(s, i + 1))
-}
-
-// Whether a time may have this length.
-pub fn is_time_length(n: usize) -> bool
-    ensures { λ r. ⌜ r ≡ isTimeLength n ⌝ }
-{
-    (n == 17) | (n == 21)
-}
-
-// Whether nothing stands behind the seconds of a time, or a point and three digits.
-fn millis_shaped(s: &[u8]) -> bool
-    ensures { λ r. ⌜ r ≡ millisShaped (now (s .entry)) ⌝ }
-{
-    (s.len() == 17) | ((byte_at(s, 17) == b'.') & (two_at(s, 18) < 100) & is_digit(byte_at(s, 20)))
+    let mut good = true;
+    let mut i = 0;
+    while i < least.len() {
+        good = good & ((least[i] <= s[i]) & (s[i] <= most[i]));
+        i += 1;
+    }
+    good
 }
 
 // Whether the digits and marks of a time stand where they do in one.
 pub fn time_shaped(s: &[u8]) -> bool
     ensures { λ r. ⌜ r ≡ timeShaped (now (s .entry)) ⌝ }
 {
-    is_time_length(s.len())
-        & (two_at(s, 0) < 100)
-        & (two_at(s, 2) < 100)
-        & (two_at(s, 4) < 100)
-        & (two_at(s, 6) < 100)
-        & (byte_at(s, 8) == b'-')
-        & (two_at(s, 9) < 100)
-        & (byte_at(s, 11) == b':')
-        & (two_at(s, 12) < 100)
-        & (byte_at(s, 14) == b':')
-        & (two_at(s, 15) < 100)
-        & millis_shaped(s)
+    if s.len() == 17 {
+        return between(s, b"00000000-00:00:00", b"99999999-99:99:99");
+    }
+    if s.len() == 21 {
+        return between(s, b"00000000-00:00:00.000", b"99999999-99:99:99.999");
+    }
+    false
 }
 
-// Whether month, day, hour, minute and second are in their ranges.
+// The number that the two digits at place `i` of a time say.
+fn two_at(s: &[u8], i: usize) -> u64
+    requires { ⌜ (i + 1 < length (now s)) × (twoAt (now s) i < 100) ⌝ }
+    ensures { λ r. ⌜ r ≡ twoAt (now (s .entry)) i ⌝ }
+{
+    let a = octets::wide(s[i]);
+    let b = octets::wide(s[i + 1]);
+    a * 10 + b - 528
+}
+
+// Whether month, day, hour, minute and second are in their ranges, where digits and marks stand as they do in a time.
 pub fn time_ranged(s: &[u8]) -> bool
+    requires { ⌜ timeShaped (now s) ≡ true ⌝ }
     ensures { λ r. ⌜ r ≡ timeRanged (now (s .entry)) ⌝ }
 {
     let month = two_at(s, 4);
@@ -233,5 +236,8 @@ pub fn time_ranged(s: &[u8]) -> bool
 pub fn is_time(s: &[u8]) -> bool
     ensures { λ r. ⌜ r ≡ isTime (now (s .entry)) ⌝ }
 {
-    time_shaped(s) & time_ranged(s)
+    if !time_shaped(s) {
+        return false;
+    }
+    time_ranged(s)
 }

@@ -18,17 +18,23 @@ pub fn put_byte(out: &mut [u8], at: usize, b: u8) -> usize
     at + 1
 }
 
-// The last k digits of n, its zeros with them.
+// The last k digits of n, its zeros with them, two a turn.
 pub fn put_places(out: &mut [u8], at: usize, k: usize, n: u64) -> usize
     requires { ⌜ Room (now out) at (places k n) ⌝ }
     ensures { λ r. ⌜ Wrote (now (out .entry)) at (places k n) r (now (out .exit)) ⌝ }
 {
     let mut i = k;
     let mut m = n;
-    while i > 0 {
-        i -= 1;
-        out[at + i] = 48 + (m % 10) as u8;
-        m = m / 10;
+    while i > 1 {
+        i -= 2;
+        let two = m % 100;
+        out[at + i + 1] = 48 + (two % 10) as u8;
+        out[at + i] = 48 + (two / 10) as u8;
+        m = m / 100;
+    }
+    if i == 1 {
+        out[at] = 48 + (m % 10) as u8;
+        return at + k;
     }
     at + k
 }
@@ -60,6 +66,12 @@ pub fn put_decimal(out: &mut [u8], at: usize, n: u64) -> usize
     requires { ⌜ Room (now out) at (decimal n) ⌝ }
     ensures { λ r. ⌜ Wrote (now (out .entry)) at (decimal n) r (now (out .exit)) ⌝ }
 {
+    if n < 10 {
+        return put_byte(out, at, 48 + n as u8);
+    }
+    if n < 100 {
+        return put_places(out, at, 2, n);
+    }
     let k = digits(n);
     put_places(out, at, k, n)
 }

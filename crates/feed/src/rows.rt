@@ -48,7 +48,7 @@ fn copy_field(field: Field, number: u64, width: usize) -> Field
     Field { tag, value }
 }
 
-// The row of a copy.
+// The row of a copy. A field is taken from the row only where it moves or changes; the others are passed by their tags.
 pub fn copy_row(fields: [Field; 36], number: u64, width: usize) -> [Field; 36]
     ensures { λ r. ⌜ r ≡ copyRow number width fields ⌝ }
 {
@@ -61,15 +61,17 @@ pub fn copy_row(fields: [Field; 36], number: u64, width: usize) -> [Field; 36]
     let mut i = 0;
     while i < 35 {
         let at = i;
-        let field = row[at];
-        let tag = field.tag;
+        let first = row[at];
+        let tag = first.tag;
         behind = behind | (tag > 797);
         i += 1;
         if behind {
+            let field = row[at];
             row[at] = held;
             held = field;
         } else {
             if is_new(tag) {
+                let field = row[at];
                 row[at] = copy_field(field, number, width);
             }
         }

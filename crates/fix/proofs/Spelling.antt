@@ -12,8 +12,8 @@ use lib.Seq.{drop-cons}
 use mir.Syntax.{w64}
 use mir.Val.{Fits}
 use mathlib.Core.Logic.{⊎-elim}
-use borrow.Author.Tests.{eq-eqb, ne-eqb, eqb-true, le-ltb, le-leb, lt-leb}
-use Rattle.octets.proofs.Bools.{split, both-l, both-r}
+use borrow.Author.Tests.{eq-eqb, ne-eqb, eqb-true, eqb-false, ltb-true, le-ltb, le-leb, lt-leb, not-true}
+use Rattle.octets.proofs.Bools.{split, not-both, both-l, both-r}
 use Rattle.octets.proofs.Places.{below-or}
 use Rattle.decimal.specs.Reading.{isDigit, digitOf, runOf, digitRun}
 use Rattle.decimal.proofs.Scans.{rest-is, run-step, run-within, scan-more, scan-stop, scan-end}
@@ -109,6 +109,42 @@ module _ (s : List ℕ) (n i : ℕ) (inv : Spelled s n i) where
 number-of : (t : Bool) (n k : ℕ) → ((cond t (record { number = n; digits = k }) none) .number ≡ 0 → ⊥) → t ≡ true
 number-of true n k h = refl
 number-of false n k h = absurd (h refl)
+
+-- no digits, no tag; and a tag is not 0, since its first digit is not
+leading-least : (n : ℕ) (s : List ℕ) → n ≤ leading n s
+unfolding leading
+leading-least n [] = omega arith
+leading-least n (b ∷ s) = split (isDigit b) (λ y. rw y (omega (arith, leading-least (n * 10 + (b - 48)) s))) (λ d. rw d (omega arith))
+
+leading-some : (s : List ℕ) → startsTag s ≡ true → 1 ≤ leading 0 s
+unfolding startsTag leading runOf
+leading-some [] y = absurd (not-both y refl)
+leading-some (b ∷ s) y =
+    let n : eqb b 48 ≡ false = not-true (eqb b 48) (search (both-l, both-r)) in
+    let k : ltb 0 (cond (isDigit b) (suc (runOf isDigit s)) 0) ≡ true = search both-l in
+    split (isDigit b)
+    (λ d. rw d (omega (arith, leading-least (0 * 10 + (b - 48)) s, digit-low b d, eqb-false b 48 n)))
+    (λ d. absurd (not-both (rw d at k) refl))
+
+module _ (s : List ℕ) (t : Tag) (e : t ≡ tagOf s) where
+  pub digits-none : t .digits ≡ 0 → t .number ≡ 0
+  unfolding tagOf startsTag
+  digits-none h =
+      split (startsTag s)
+      (λ y.
+      let k : ltb 0 (digitRun s) ≡ true = search both-l in
+      let d : digitRun s ≡ 0 = rw (e, y) at h in
+      absurd (omega (arith, ltb-true 0 (digitRun s) k)))
+      (λ n. rw (e, n))
+
+  pub digits-some : (t .digits ≡ 0 → ⊥) → t .number ≡ 0 → ⊥
+  unfolding tagOf
+  digits-some h z =
+      split (startsTag s)
+      (λ y.
+      let d : leading 0 s ≡ 0 = rw (e, y) at z in
+      omega (arith, leading-some s y))
+      (λ n. h (rw (e, n)))
 
 -- a tag's `=` follows its digits
 pub tag-equals : (s : List ℕ) (t : Tag) → t ≡ tagOf s → (t .number ≡ 0 → ⊥) → getD s (t .digits) 0 ≡ 61

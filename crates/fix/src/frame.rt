@@ -53,7 +53,7 @@ pub struct Places {
     pub target: Part,
 }
 
-// The sum of the bytes in one byte that wraps.
+// The sum of the bytes in one byte that wraps. There is no way out of the loop but its end, so that the compiler takes 32 bytes a turn.
 pub fn checksum(s: &[u8]) -> u8
     ensures { λ r. ⌜ r ≡ checkSum (now (s .entry)) ⌝ }
 {
@@ -212,9 +212,9 @@ fn lined(s: &[u8], row: &[u16; 1023], m: usize, t: usize, sum: u8) -> Frame
     settled(s, count, a, h, b, place(row, m), t, sum)
 }
 
-// The parts of a message whose fields the row holds, or garbled: the header comes first, and 10 last.
-fn ordered(s: &[u8], row: &[u16; 1023], count: usize, from: usize, sum: u8) -> Frame
-    requires { ⌜ (length (now s) ≤ 1024) × Rowed (now s) (now row) count from sum ⌝ }
+// The parts of a message whose fields the row holds, or garbled: the header comes first, and 10 last, from place `from` on.
+fn ordered(s: &[u8], row: &[u16; 1023], count: usize, from: usize) -> Frame
+    requires { ⌜ (length (now s) ≤ 1024) × Rowed (now s) (now row) count from ⌝ }
     ensures { λ r. ⌜ r ≡ frameOf (now (s .entry)) ⌝ }
 {
     if count < 8 {
@@ -227,7 +227,7 @@ fn ordered(s: &[u8], row: &[u16; 1023], count: usize, from: usize, sum: u8) -> F
     if row[m * 3] != 10 {
         return Frame::Garbled;
     }
-    lined(s, row, m, from, sum)
+    lined(s, row, m, from, checksum(&s[..from]))
 }
 
 // The parts of a message, or garbled. The row takes the places of its fields.
@@ -246,7 +246,7 @@ pub fn framed_in(s: &[u8], row: &mut [u16; 1023]) -> Frame
         return Frame::Garbled;
     }
     match walk(s, row) {
-        Walked::Whole { count, from, sum } => ordered(s, row, count, from, sum),
+        Walked::Whole { count, from } => ordered(s, row, count, from),
         Walked::Wrong => Frame::Garbled,
     }
 }

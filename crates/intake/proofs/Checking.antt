@@ -17,17 +17,21 @@ use Rattle.matching.specs.declared.Order.{Order}
 use Rattle.matching.specs.Matching.{openOf}
 use Rattle.matching.specs.Held.{Covered}
 use Rattle.table.specs.Heading.{isListed}
-use Rattle.table.specs.Orders.{orderAt, filled, recordFor}
+use Rattle.table.specs.Orders.{orderAt, filled, recordWith, recordFor}
 use Rattle.table.specs.Facts.{Market}
 use Rattle.table.proofs.Same.{filled-few}
 use Rattle.table.proofs.Lookups.{market-sound}
 use Rattle.calls.specs.declared.Standing.{Standing}
 use Rattle.calls.specs.declared.Standing.the-variants.{Stands, Fails}
 use Rattle.calls.specs.Checks.{textOf, holder, isCode, newStands, changeStands, cancelStands, andAbove, replaceStands}
-use Rattle.intake.proofs.Standing.{holder-few, change-holds}
+use Rattle.intake.proofs.Standing.{holder-few, holder-is, change-holds}
 
 pub holder-of-is : (t message : List ℕ) (p : Part) (xs : List ℕ) (k : ℕ) → xs ≡ textOf message p → k ≡ holder t xs → k ≡ holder t (textOf message p)
 holder-of-is t message p xs k e q = rw (← e) q
+
+pub holder-among : (t message : List ℕ) (p : Part) (xs : List ℕ) (n k : ℕ) → n ≡ filled t → xs ≡ textOf message p → k ≡ recordWith t n xs
+    → k ≡ holder t (textOf message p)
+holder-among t message p xs n k e q r = holder-of-is t message p xs k q (holder-is t xs n k e r)
 
 pub stranger-is : (t : List ℕ) (m : ℕ) (f : Bool) → f ≡ isListed t m → (ltb 0 m && not f) ≡ (ltb 0 m && not (isListed t m))
 stranger-is t m f e = rw e

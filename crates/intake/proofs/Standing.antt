@@ -91,6 +91,9 @@ pub holder-is : (t xs : List ℕ) (n k : ℕ) → n ≡ filled t → k ≡ recor
 unfolding holder
 holder-is t xs n k e q = rw (← e) q
 
+pub holder-small : (t : List ℕ) (n k : ℕ) → n ≡ filled t → k ≤ n → k ≤ 255
+holder-small t n k e l = omega (arith, filled-few t)
+
 pub code-is : (t xs ys : List ℕ) (r : Bool) → ys ≡ codeOf t → r ≡ sameBytes xs ys → r ≡ isCode t xs
 code-is t xs ys r e q = rw (← e) q
 

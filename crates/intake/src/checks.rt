@@ -6,7 +6,7 @@ ghost use lib.Dec.{ltb};
 ghost use lib.ListN.{length};
 ghost use Rattle.table.specs.Places.{tableBytes};
 ghost use Rattle.table.specs.Heading.{isListed};
-ghost use Rattle.table.specs.Orders.{filled, recordFor};
+ghost use Rattle.table.specs.Orders.{filled};
 ghost use Rattle.table.specs.Facts.{Market};
 ghost use Rattle.calls.specs.declared.Standing.the-variants.{Stands};
 ghost use Rattle.calls.specs.Checks.{textOf, holder, isCode, newStands, changeStands, cancelStands, andAbove, replaceStands};
@@ -15,9 +15,11 @@ use fix::frame::Part;
 use request::Cancellation;
 use request::NewOrder;
 use request::Replacement;
-use table::book::filled;
+use table::book::record_for;
 use table::entries::entries;
 use table::entries::is_listed;
+use table::ids::count;
+use table::ids::find_id;
 use table::record::load;
 
 // The text that stands at a part of the message.
@@ -27,30 +29,29 @@ pub fn text_of(message: &[u8], p: Part) -> &[u8]
     octets::part_at(message, p.start, p.len)
 }
 
-// The record that has a ClOrdID; 0 if none has.
+// The record of a market that has a ClOrdID; 0 if none has.
 pub fn holder(t: &[u8], clordid: &[u8]) -> usize
-    requires { ⌜ length (now t) ≡ tableBytes ⌝ }
+    requires { ⌜ Market (now t) ⌝ }
     ensures { λ r. ⌜ (r ≡ holder (now (t .entry)) (now (clordid .entry))) × (r ≤ 255) ⌝ }
 {
-    let n = filled(t);
-    table::book::find_id(t, n, clordid)
+    let n = count(t);
+    find_id(t, n, clordid)
 }
 
 // The record that has the ClOrdID at a part of the message; 0 if none has.
 pub fn holder_of(t: &[u8], message: &[u8], p: Part) -> usize
-    requires { ⌜ length (now t) ≡ tableBytes ⌝ }
+    requires { ⌜ Market (now t) ⌝ }
     ensures { λ r. ⌜ (r ≡ holder (now (t .entry)) (textOf (now (message .entry)) p)) × (r ≤ 255) ⌝ }
 {
     holder(t, text_of(message, p))
 }
 
-// The record that a new order takes; 0 if every order is open.
-pub fn record_for(t: &[u8]) -> usize
-    requires { ⌜ length (now t) ≡ tableBytes ⌝ }
-    ensures { λ r. ⌜ (r ≡ recordFor (now (t .entry))) × (r ≤ 255) ⌝ }
+// The same where n records are filled.
+fn holder_among(t: &[u8], n: usize, message: &[u8], p: Part) -> usize
+    requires { ⌜ Market (now t) × (n ≡ filled (now t)) ⌝ }
+    ensures { λ r. ⌜ r ≡ holder (now (t .entry)) (textOf (now (message .entry)) p) ⌝ }
 {
-    let n = filled(t);
-    table::book::record_for(t, n)
+    find_id(t, n, text_of(message, p))
 }
 
 // Whether a code is the market's.
@@ -70,8 +71,8 @@ fn is_stranger(t: &[u8], mpid: u64) -> bool
 }
 
 // A new order: another code, a strange MPID, a ClOrdID in the table, no record that it can take.
-pub fn new_stands(t: &[u8], message: &[u8], o: NewOrder) -> Standing
-    requires { ⌜ length (now t) ≡ tableBytes ⌝ }
+pub fn new_stands(t: &[u8], n: usize, message: &[u8], o: NewOrder) -> Standing
+    requires { ⌜ Market (now t) × (n ≡ filled (now t)) ⌝ }
     ensures { λ r. ⌜ r ≡ newStands (now (t .entry)) (now (message .entry)) o ⌝ }
 {
     if !is_code(t, text_of(message, o.code)) {
@@ -80,10 +81,10 @@ pub fn new_stands(t: &[u8], message: &[u8], o: NewOrder) -> Standing
     if is_stranger(t, o.terms.mpid) {
         return Standing::Fails(99);
     }
-    if holder_of(t, message, o.id) != 0 {
+    if holder_among(t, n, message, o.id) != 0 {
         return Standing::Fails(6);
     }
-    if record_for(t) == 0 {
+    if record_for(t, n) == 0 {
         return Standing::Fails(0);
     }
     Standing::Stands

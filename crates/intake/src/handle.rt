@@ -21,6 +21,7 @@ use request::Asked;
 use request::Cancellation;
 use request::NewOrder;
 use request::Replacement;
+use table::ids::count;
 
 // A new order is entered, or rejected.
 fn enters(table: &mut [u8], message: &[u8], area: &mut [u8], o: NewOrder) -> SubmitAnswer
@@ -28,8 +29,9 @@ fn enters(table: &mut [u8], message: &[u8], area: &mut [u8], o: NewOrder) -> Sub
     ensures { λ r. ⌜ Left (entering (now (table .entry)) (now (message .entry)) o (newStands (now (table .entry)) (now (message .entry)) o))
         (now (area .entry)) r (now (table .exit)) (now (area .exit)) ⌝ }
 {
-    match new_stands(table, message, o) {
-        Standing::Stands => enter(table, message, area, o),
+    let n = count(table);
+    match new_stands(table, n, message, o) {
+        Standing::Stands => enter(table, n, message, area, o),
         Standing::Fails(reason) => reject_new(table, message, area, o, reason),
     }
 }

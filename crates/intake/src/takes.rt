@@ -16,7 +16,6 @@ ghost use Rattle.calls.specs.declared.Standing.the-variants.{Stands};
 ghost use Rattle.calls.specs.Checks.{textOf, holder, newStands, cancelStands, replaceStands};
 ghost use Rattle.calls.specs.Submit.{sentAt, noText, causeOf, marksOf, newOrderOf, newTaken, replacementTaken, cancelTaken};
 ghost use Rattle.intake.specs.Intake.{orderWith, Asking, Left};
-use crate::checks::record_for;
 use crate::checks::text_of;
 use calls::SubmitAnswer;
 use fix::frame::Part;
@@ -29,6 +28,7 @@ use request::Replacement;
 use request::Terms;
 use table::best::clear_best;
 use table::best::put_best;
+use table::book::record_for;
 use table::heading::next;
 use table::heading::put_next;
 use table::heading::put_work;
@@ -142,19 +142,25 @@ fn write_new(t: &mut [u8], message: &[u8], k: usize, orderid: u64, o: NewOrder, 
 }
 
 // A new order takes a record, with the number of its report as its OrderID, and is in work.
-pub fn enter(table: &mut [u8], message: &[u8], area: &mut [u8], o: NewOrder) -> SubmitAnswer
-    requires { ⌜ Asking (now table) (now message) (Enters o) × (newStands (now table) (now message) o ≡ Stands) × (1024 ≤ length (now area)) ⌝ }
+pub fn enter(
+    table: &mut [u8],
+    n: usize,
+    message: &[u8],
+    area: &mut [u8],
+    o: NewOrder,
+) -> SubmitAnswer
+    requires { ⌜ Asking (now table) (now message) (Enters o) × (n ≡ Orders·filled (now table)) × (newStands (now table) (now message) o ≡ Stands) × (1024 ≤ length (now area)) ⌝ }
     ensures { λ r. ⌜ Left (newTaken (now (table .entry)) (now (message .entry)) o) (now (area .entry)) r (now (table .exit)) (now (area .exit)) ⌝ }
 {
-    let n = next(table);
-    let k = record_for(table);
-    let order = new_order(o.terms, n);
-    write_new(table, message, k, n, o, order);
+    let number = next(table);
+    let k = record_for(table, n);
+    let order = new_order(o.terms, number);
+    write_new(table, message, k, number, o, order);
     let e = Event::Accepted {
         order: k as u64,
         entered: order,
     };
-    let len = tell(area, table, message, n, cause_alone(o.time), e);
+    let len = tell(area, table, message, number, cause_alone(o.time), e);
     raise_and_work(table, k, message, o.time);
     SubmitAnswer::Taken(len)
 }

@@ -36,9 +36,9 @@ use crate::numbers::total_of;
 use decimal::Instrument;
 use feed::copy;
 use feed::read_copy;
+use kinds::kind_read;
 use market::depth;
 use market::open;
-use market::read;
 use market::run;
 use market::submit;
 use market::top;
@@ -157,8 +157,7 @@ pub fn top_of(
 pub fn read_of(q: Instrument, report: &[u8], kind: &mut u64) -> u64
     ensures { λ r. ⌜ (r ≡ readNumber (readOf q (now (report .entry)) .kind)) × (now (kind .exit) ≡ kindNumber (readOf q (now (report .entry)) .kind)) ⌝ }
 {
-    let reading = read(q, report);
-    let is = reading.kind;
+    let is = kind_read(q, report);
     *kind = kind_number(is);
     read_number(is)
 }

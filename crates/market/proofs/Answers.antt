@@ -1,18 +1,20 @@
 -- The answers of the calls, test by test in the order of the refusals.
 use mathlib.Core.Path.{_≡_, refl, sym, _∙_}
-use mathlib.Core.Bool.{Bool, true, false, cond, not}
+use mathlib.Core.Bool.{Bool, true, false, not}
 use mathlib.Core.List.{List}
 use Prim.Native.Nat.{ℕ, _≤_, _<_}
 use native.Mathlib.Omega.{arith}
 use lib.Dec.{eqb}
 use lib.ListN.{length}
-use borrow.Author.Tests.{eq-eqb, ne-eqb}
+use borrow.Author.Tests.{eq-eqb, ne-eqb, not-false}
 use Rattle.decimal.specs.declared.Instrument.{Instrument}
 use Rattle.matching.specs.declared.Depth.{Depth}
 use Rattle.matching.specs.Depth.{depth}
 use Rattle.table.specs.Places.{tableBytes}
 use Rattle.table.specs.Heading.{workOf}
+use Rattle.table.specs.declared.best.BestLevel.{BestLevel}
 use Rattle.table.specs.Orders.{bookOf}
+use Rattle.table.specs.Best.{inWords, bestAt}
 use Rattle.table.specs.Market.{isMarketOf}
 use Rattle.table.specs.Facts.{Market}
 use Rattle.table.proofs.Instruments.{of-market}
@@ -23,6 +25,7 @@ use Rattle.calls.specs.declared.OpenAnswer.the-variants.{Opened, BadSetting}
 use Rattle.calls.specs.Open.{openAnswer}
 use Rattle.market.specs.declared.DepthAnswer.the-variants.{NoMarket, InWork, BadSide, Found}
 use Rattle.market.specs.Depth.{isSide, depthAnswer}
+use Rattle.market.proofs.Tops.{market-words}
 
 -- what the check of a market says
 module _ (i : Instrument) (t : List ℕ) (f : Bool) (p : f ≡ isMarketOf i t) where
@@ -61,6 +64,14 @@ module _ (i : Instrument) (t : List ℕ) (side k : ℕ) (f : Bool) (p : f ≡ is
       pub depth-bad : not g ≡ true → BadSide ≡ depthAnswer i t side k
       unfolding depthAnswer
       depth-bad h = rw (some-market i t f p m, idle, ← s, h)
+
+      -- the best level, as the heading keeps it
+      pub depth-best : not g ≡ false → k ≡ 0 → (b : BestLevel) → b ≡ bestAt t side → (d : Depth) → d ≡ inWords b → Found d ≡ depthAnswer i t side k
+      unfolding depthAnswer
+      depth-best h e b x d y =
+          let w0 : workOf t ≡ 0 = omega arith in
+          let found : inWords (bestAt t side) ≡ depth (bookOf t) side 0 = market-words t (checked i t f p m) w0 side (sym s ∙ not-false g h) in
+          rw (some-market i t f p m, idle, ← s, h, e, y, x, found)
 
       pub depth-found : not g ≡ false → (d : Depth) → d ≡ depth (bookOf t) side k → Found d ≡ depthAnswer i t side k
       unfolding depthAnswer

@@ -1,11 +1,10 @@
 -- The laws that looking for a level wants: the next level, an order on and at the end; the levels one after another; the
--- sums of a level, an order on and at the end.
+-- sums of a level.
 use mathlib.Core.Path.{_≡_, refl, sym, ap, _∙_}
-use mathlib.Core.Bool.{Bool, true, false, cond, _&&_, _||_}
+use mathlib.Core.Bool.{_&&_, _||_}
 use mathlib.Core.List.{List}
 use mathlib.Core.Logic.{⊎-elim}
-use Prim.Native.Nat.{ℕ, zero, suc, _+_, _*_, _-_, _≤_, _<_}
-use native.Mathlib.Nat.{add-zero}
+use Prim.Native.Nat.{ℕ, zero, suc, _+_, _≤_, _<_}
 use native.Mathlib.Numerals.{add-one}
 use native.Mathlib.Omega.{arith}
 use lib.Dec.{eqb}
@@ -16,16 +15,15 @@ use Rattle.octets.proofs.Places.{below-or}
 use Rattle.decimal.specs.declared.Instrument.{Instrument}
 use Rattle.decimal.specs.Instruments.{highest}
 use Rattle.matching.specs.declared.Order.{Order}
-use Rattle.matching.specs.declared.Depth.{Depth}
 use Rattle.matching.specs.declared.Depth.the-variants.{Level, NoLevel}
-use Rattle.matching.specs.Matching.{Book, at, buys, ahead, sumOver, countOf}
-use Rattle.matching.specs.Depth.{stands, behind, nearer, next, levelAt, onLevel, share, total, orders, depth}
+use Rattle.matching.specs.Matching.{Book, at, buys, ahead}
+use Rattle.matching.specs.Depth.{stands, behind, nearer, next, levelAt, total, orders, depth}
 use Rattle.matching.specs.Held.{Sound}
 use Rattle.matching.specs.Quoted.{AllQuoted}
-use Rattle.matching.proofs.Levels.{total-room}
+use Rattle.table.specs.declared.best.BestLevel.{BestLevel}
 use Rattle.table.specs.Orders.{orderAt, filled, bookOf}
+use Rattle.table.specs.Best.{standsOn}
 use Rattle.table.specs.Facts.{Market}
-use Rattle.table.proofs.Same.{filled-few}
 use Rattle.table.proofs.Books.{length-book, at-book}
 use Rattle.table.proofs.Lookups.{market-sound}
 
@@ -76,68 +74,16 @@ none-behind b s i (suc k) p h =
 pub level-none : (b : Book) (s i k x : ℕ) → x ≡ levelAt b s i → x ≡ 0 → i ≤ k → 0 ≡ levelAt b s k
 level-none b s i k x p z h = sym (none-behind b s i k (sym p ∙ z) h)
 
-pub level-end : (b : Book) (s i k x : ℕ) → i ≤ k → k ≤ i → x ≡ levelAt b s i → x ≡ levelAt b s k
-level-end b s i k x h l p = let e : i ≡ k = omega arith in p ∙ rw e
-
 -- ---- the sums of a level
 
--- a sum over the first orders, one on
-sum-one : (f : Order → ℕ) (b : Book) (i c v : ℕ) (r : Order) → at b (suc i) ≡ r → c ≡ sumOver f b i → v ≡ c + f r → v ≡ sumOver f b (i + 1)
-unfolding sumOver
-sum-one f b i c v r e p q = rw (q, p, add-one i, e)
+module _ (b : Book) (s l : ℕ) (r : BestLevel) (e : r ≡ standsOn b s l) where
+  pub sums-total : r .total ≡ total b s l
+  unfolding standsOn
+  sums-total = ap (λ (x : BestLevel). x .total) e
 
-sum-end : (f : Order → ℕ) (b : Book) (i n c : ℕ) → i ≤ n → n ≤ i → c ≡ sumOver f b i → c ≡ sumOver f b n
-sum-end f b i n c h l p = let e : i ≡ n = omega arith in p ∙ rw e
-
--- what has been added up over the first i orders
-pub record Summed (t : List ℕ) (s l i had count : ℕ) : Type 0 where
-  pub added : had ≡ sumOver (share s l) (bookOf t) i
-  pub counted : count ≡ countOf (onLevel s l) (bookOf t) i
-  pub few : count ≤ i
-
-module _ (t : List ℕ) (n s l : ℕ) where
-  pub sums-none : Summed t s l 0 0 0
-  unfolding countOf sumOver
-  sums-none = record { added = refl; counted = refl; few = omega arith }
-
-  module _ (m : Market t) (e : n ≡ filled t) (i had count : ℕ) (h : i < n) (p : Summed t s l i had count) where
-    -- there is room for one more
-    pub sums-room : had ≤ 254 * 999_999_999
-    sums-room =
-        let z = length-book t in
-        let f = filled-few t in
-        rw (p .added) (total-room (bookOf t) s (λ k j. m .held .sound k j) l i (omega arith) (omega arith))
-
-    module _ (r : Order) (q : r ≡ orderAt t (i + 1)) (v : ℕ) (w : v ≡ had + share s l r) (f : Bool) (g : f ≡ onLevel s l r) where
-      there : at (bookOf t) (suc i) ≡ r
-      there = loaded t n i r e h q
-
-      pub sums-yes : f ≡ true → Summed t s l (i + 1) v (count + 1)
-      unfolding countOf
-      sums-yes y =
-          record {
-            added = sum-one (share s l) (bookOf t) i had v r there (p .added) w;
-            counted = sum-one (λ o. cond (onLevel s l o) 1 0) (bookOf t) i count (count + 1) r there (p .counted) (rw (← g, y));
-            few = omega (arith, p .few);
-          }
-
-      pub sums-no : f ≡ false → Summed t s l (i + 1) v count
-      unfolding countOf
-      sums-no y =
-          record {
-            added = sum-one (share s l) (bookOf t) i had v r there (p .added) w;
-            counted = sum-one (λ o. cond (onLevel s l o) 1 0) (bookOf t) i count count r there (p .counted) (rw (← g, y, add-zero));
-            few = omega (arith, p .few);
-          }
-
-  pub sums-total : (i had count : ℕ) → n ≡ filled t → i ≤ n → n ≤ i → Summed t s l i had count → had ≡ total (bookOf t) s l
-  unfolding total
-  sums-total i had count e h k p = sum-end (share s l) (bookOf t) i (length (bookOf t)) had (omega (arith, length-book t)) (omega (arith, length-book t)) (p .added)
-
-  pub sums-orders : (i had count : ℕ) → n ≡ filled t → i ≤ n → n ≤ i → Summed t s l i had count → count ≡ orders (bookOf t) s l
-  unfolding orders countOf
-  sums-orders i had count e h k p =
-      sum-end (λ o. cond (onLevel s l o) 1 0) (bookOf t) i (length (bookOf t)) count (omega (arith, length-book t)) (omega (arith, length-book t)) (p .counted)
+  pub sums-orders : r .orders ≡ orders b s l
+  unfolding standsOn
+  sums-orders = ap (λ (x : BestLevel). x .orders) e
 
 -- ---- what a market may have
 

@@ -2,6 +2,7 @@
 // table, a message, a report area may be any bytes of any length. Each contract says what is answered and what every lent byte is
 // afterwards, by the definitions of the crate calls.
 pub mod front;
+pub mod ladder;
 pub mod levels;
 
 use crate::front::has_heading;
@@ -82,7 +83,8 @@ fn is_side(side: u64) -> bool
     (side == 1) | (side == 2)
 }
 
-// The k-th level of a side from the best. Refused if the table is no such market, an order is in work, or the side is none.
+// The k-th level of a side from the best, the best itself as the heading keeps it. Refused if the table is no such market, an order is in work,
+// or the side is none.
 pub fn depth(q: Instrument, table: &[u8], side: u64, k: u64) -> DepthAnswer
     ensures { λ r. ⌜ r ≡ depthAnswer q (now (table .entry)) side k ⌝ }
 {
@@ -94,6 +96,9 @@ pub fn depth(q: Instrument, table: &[u8], side: u64, k: u64) -> DepthAnswer
     }
     if !is_side(side) {
         return DepthAnswer::BadSide;
+    }
+    if k == 0 {
+        return DepthAnswer::Found(in_words(best_at(table, side)));
     }
     DepthAnswer::Found(level(table, side, k))
 }

@@ -286,10 +286,6 @@ module _ (b : Book) (s : ℕ) (sound : (k : ℕ) → In b k → Sound (at b k)) 
       (λ t. rw t (open-most (at b k) (sound k (record { low = p; high = omega arith }))))
       (λ t. rw t (omega arith)))
 
-  -- so one order more can be added, of at most 255
-  pub total-room : (l n : ℕ) → n < length b → length b ≤ 255 → sumOver (share s l) b n ≤ 254 * 999_999_999
-  total-room l n h m = omega (arith, total-most l n (omega arith))
-
   -- ---- a level in numbers
 
   -- what an order adds to its level is 1 to 999,999,999

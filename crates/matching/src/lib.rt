@@ -1,9 +1,9 @@
-// The matching of orders by value: which meet, which is better, what a meeting comes to, an order after an event, and what
-// an order adds to a level. The book itself is the table's.
+// The matching of orders by value: which meet, which is better, what a meeting comes to, and an order after an event. The book itself is
+// the table's.
 ghost use mathlib.Core.Path.{_≡_};
-ghost use Prim.Native.Nat.{_+_, _*_, _≤_, min};
+ghost use Prim.Native.Nat.{min};
 ghost use Rattle.matching.specs.Matching.{openOf, isOpen, isBuy, isImmediate, minimumOf, opposite, sameOwner, opposed, meets, better, faces, prevention, meeting, ending, placeAfter, change, preventedReports, reports, buys, crosses, ahead};
-ghost use Rattle.matching.specs.Depth.{onSide, stands, behind, nearer, onLevel, share};
+ghost use Rattle.matching.specs.Depth.{onSide, stands, behind, nearer};
 ghost use Rattle.matching.specs.Held.{Covered, Sound, May};
 
 // One order: the eleven numbers that matching needs. Side 1 buys and any other sells; time in force 0 is Day, 3 IOC and 4 Fill or Kill; the level is
@@ -276,25 +276,6 @@ impl Order {
             return self.level;
         }
         c
-    }
-
-    // An open order of a side at a level.
-    pub fn on_level(self, side: u64, level: u64) -> bool
-        requires { ⌜ Covered self ⌝ }
-        ensures { λ r. ⌜ r ≡ onLevel side level self ⌝ }
-    {
-        self.stands(side) & (self.level == level)
-    }
-
-    // A level's total so far and what this order adds to it: the totals of 255 orders stay far below 2^64.
-    pub fn add_share(self, side: u64, level: u64, had: u64) -> u64
-        requires { ⌜ Sound self × (had ≤ 254 * 999_999_999) ⌝ }
-        ensures { λ r. ⌜ r ≡ had + share side level self ⌝ }
-    {
-        if self.on_level(side, level) {
-            return had + self.open_of();
-        }
-        had
     }
 }
 

@@ -1,16 +1,16 @@
 -- Zero bytes: "every byte is zero" against the single bytes and in a row of lists; the loop that tests it; zeros written.
 use mathlib.Core.Path.{_≡_, refl, sym, ap, _∙_}
-use mathlib.Core.Bool.{Bool, true, _&&_, and-assoc, and-true}
+use mathlib.Core.Bool.{Bool, true, false, _&&_, and-assoc, and-comm, and-true}
 use mathlib.Core.List.{List, [], _∷_, _++_, append-nil}
-use Prim.Native.Nat.{ℕ, zero, suc, _+_, _-_, _≤_, _<_, zero-le}
+use Prim.Native.Nat.{ℕ, zero, suc, _+_, _*_, _-_, _≤_, _<_, zero-le}
 use native.Mathlib.Numerals.{add-one}
 use native.Mathlib.Omega.{arith}
-use borrow.Author.Tests.{eq-eqb, eqb-true}
+use borrow.Author.Tests.{eq-eqb, ne-eqb, eqb-true}
 use lib.Dec.{eqb}
 use lib.ListN.{length, getD, set, take, drop, replicate, length-replicate, length-drop, drop-of-length-le}
 use lib.Seq.{drop-cons, drop-length, sets-eq, take-all}
 use Rattle.octets.specs.Octets.{put, allZero}
-use Rattle.octets.proofs.Bools.{both-i, both-l, both-r, split}
+use Rattle.octets.proofs.Bools.{both-i, both-l, both-r, both-not-r, split}
 
 -- against the single bytes, and as one list
 pub zero-at : (xs : List ℕ) → allZero xs ≡ true → (k : ℕ) → getD xs k 0 ≡ 0
@@ -74,6 +74,44 @@ gathered-end {t} {zero} {i} g l =
     let e : i ≡ length t = omega (arith, g .within) in
     let z : allZero (drop i t) ≡ true = rw e (zero-none t) in
     sym (and-true zero) ∙ rw z at (g .left)
+
+-- ---- a loop that keeps the greatest of the bytes: the greater of two, a byte kept in place k, one turn on
+pub greater-first : (x y : ℕ) → y ≤ x → eqb x 0 ≡ (eqb x 0 && eqb y 0)
+greater-first x y l = split (eqb x 0) (λ e. rw (e, eq-eqb y 0 (omega (arith, eqb-true x 0 e)))) (λ e. rw e)
+
+pub greater-second : (x y : ℕ) → x < y → eqb y 0 ≡ (eqb x 0 && eqb y 0)
+greater-second x y l = rw (ne-eqb y 0 (λ e. omega arith)) (sym (both-not-r (eqb x 0) false refl))
+
+zero-set : (xs : List ℕ) (k v x : ℕ) → k < length xs → eqb v 0 ≡ (eqb (getD xs k 0) 0 && eqb x 0) → allZero (set xs k v) ≡ (allZero xs && eqb x 0)
+unfolding allZero
+zero-set [] k v x l e = absurd (omega arith)
+zero-set (y ∷ xs) zero v x l e = rw e (split (eqb y 0) (λ z. rw z (and-comm (eqb x 0) (allZero xs))) (λ z. rw z))
+zero-set (y ∷ xs) (suc k) v x l e = rw (zero-set xs k v x (omega arith) e) (sym (and-assoc (eqb y 0) (allZero xs) (eqb x 0)))
+
+pub kept-more : (t most : List ℕ) (p k v : ℕ) → k < length most → p + k < length t → eqb v 0 ≡ (eqb (getD most k 0) 0 && eqb (getD t (p + k) 0) 0)
+    → (allZero (set most k v) && allZero (drop (p + (k + 1)) t)) ≡ (allZero most && allZero (drop (p + k) t))
+unfolding allZero
+kept-more t most p k v l m e =
+    let q : p + (k + 1) ≡ suc (p + k) = omega arith in
+    rw (zero-set most k v (getD t (p + k) 0) l e, drop-cons t (p + k) 0 m, q) (and-assoc (allZero most) (eqb (getD t (p + k) 0) 0) (allZero (drop (suc (p + k)) t)))
+
+-- nothing gathered yet, two rows of 128 bytes more, and the end
+pub kept-none : (t : List ℕ) (p : ℕ) → (allZero (replicate 128 0) && allZero (drop (p + 256 * 0) t)) ≡ allZero (drop p t)
+kept-none t p = let q : p + 256 * 0 ≡ p = omega arith in rw (zero-replicate 128, q)
+
+pub kept-two : (t most most′ most″ : List ℕ) (p j : ℕ) → length most ≡ 128 → length most′ ≡ 128
+    → (allZero most′ && allZero (drop (p + 256 * j + length most) t)) ≡ (allZero most && allZero (drop (p + 256 * j) t))
+    → (allZero most″ && allZero (drop (p + 256 * j + 128 + length most′) t)) ≡ (allZero most′ && allZero (drop (p + 256 * j + 128) t))
+    → (allZero most″ && allZero (drop (p + 256 * (j + 1)) t)) ≡ (allZero most && allZero (drop (p + 256 * j) t))
+kept-two t most most′ most″ p j a b d e =
+    let q : p + 256 * (j + 1) ≡ p + 256 * j + 128 + 128 = omega arith in
+    rw q (rw b at e ∙ rw a at d)
+
+pub kept-end : (t most : List ℕ) (p i j n : ℕ) (a b : Bool) → (allZero most && allZero (drop (p + 256 * j) t)) ≡ allZero (drop p t) → j ≤ n → n ≤ j
+    → i ≡ p + 256 * n → a ≡ allZero most → b ≡ allZero (take (length t - i) (drop i t)) → (a && b) ≡ allZero (drop p t)
+kept-end t most p i j n a b h l m e f g =
+    let q : p + 256 * j ≡ i = omega arith in
+    rw (f, g, zero-lent t i) (rw q at h)
 
 -- ---- zeros written: a turn of the loop, and a whole list
 pub put-zero-more : (n k : ℕ) (t : List ℕ) (p : ℕ) → k < n

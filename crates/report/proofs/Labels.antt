@@ -8,13 +8,14 @@ use native.Mathlib.Omega.{arith}
 use native.Mathlib.Nat.{not-suc-le-zero}
 use lib.Dec.{ltb, eqb}
 use lib.ListN.{length, drop, getD, length-drop, length-append}
-use lib.Seq.{getD-drop}
-use mir.Syntax.{w64}
+use lib.Seq.{getD-drop, drop-cons}
+use mir.Syntax.{w8, w64}
 use mir.Val.{Fits}
-use borrow.Author.Tests.{eq-eqb, ne-eqb}
+use borrow.Author.Tests.{eq-eqb, ne-eqb, ltb-true, ltb-false}
 use Rattle.octets.proofs.Bools.{split}
 use Rattle.decimal.specs.Writing.{decimal, places}
-use Rattle.decimal.proofs.Digits.{decimal-is, length-places}
+use Rattle.decimal.proofs.Digits.{decimal-is, length-places, length-more}
+use Rattle.decimal.proofs.RoundTrip.{decimal-some}
 use Rattle.report.specs.Fields.{label, written}
 use Rattle.report.specs.Parse.{starts}
 
@@ -108,6 +109,35 @@ module _ (s : List ℕ) (at tag k i m : ℕ) (c : Matching s at tag k i m) (h : 
 
   pub match-not : (getD s (at + (i - 1)) 0 ≡ 48 + m % 10 → ⊥) → false ≡ starts (label tag) (drop at s)
   match-not n = turn-other s at tag k (i - 1) m one-less n
+
+-- ---- two digits
+two-below : (tag : ℕ) → tag < 2 ^ 64 → 2 ≡ length (decimal tag) → tag < 100
+two-below tag f e =
+    split (ltb tag 100)
+    (λ t. ltb-true tag 100 t)
+    (λ t. let h : 100 ≤ tag = ltb-false tag 100 t in
+    absurd (omega (arith, length-more tag (omega arith) f, length-more (tag / 10) (omega arith) (omega arith), decimal-some (tag / 10 / 10) (omega arith))))
+
+module _ (s : List ℕ) (at tag k : ℕ) (h : at ≤ length s) (f : tag < 2 ^ 64) (e : k ≡ length (decimal tag)) (two : k ≡ 2) where
+  below : tag < 100
+  below = two-below tag f (sym two ∙ e)
+
+  pub two-fits : Fits w8 (tag / 10)
+  two-fits = record { fits = omega (arith, below) }
+
+  pub two-sum : Fits w8 (48 + tag / 10)
+  two-sum = record { fits = omega (arith, below) }
+
+  pub two-is : k < length s - at → getD s (at + k) 0 ≡ 61 → (eqb (getD s at 0) (48 + tag / 10) && eqb (getD s (at + 1) 0) (48 + tag % 10)) ≡ starts (label tag) (drop at s)
+  unfolding places
+  two-is l q =
+      let c : Matching s at tag 2 2 tag = rw two at (label-start s at tag k h f e l q) in
+      let w : tag / 10 % 10 ≡ tag / 10 = omega (arith, below) in
+      let d : drop at s ≡ getD s at 0 ∷ drop (suc at) s = drop-cons s at 0 (omega arith) in
+      sym
+      (turn s at tag 2 1 tag c
+      ∙ ap (λ (p : List ℕ). starts (places 1 (tag / 10)) p && eqb (getD s (at + 1) 0) (48 + tag % 10)) d
+      ∙ rw w (split (eqb (getD s at 0) (48 + tag / 10)) (λ t. rw t) (λ t. rw t)))
 
 -- ---- labels of other tags
 

@@ -214,7 +214,7 @@ length-found (Found (Level q l) next) n from len e = let z : _≡_ {A = ℕ} 0 1
 length-found (Found (Mean q l) next) n from len e = let z : _≡_ {A = ℕ} 0 1 = cc in absurd (omega arith)
 length-found Wrong n from len e = let z : _≡_ {A = ℕ} 0 1 = cc in absurd (omega arith)
 
-body-found : (s : List ℕ) (from len : ℕ) → bodyAt s ≡ Body from len → (starts (written 8 version) s ≡ true) × (fieldAt s 10 lengthSlot ≡ Found (Number len) from)
+pub body-found : (s : List ℕ) (from len : ℕ) → bodyAt s ≡ Body from len → (starts (written 8 version) s ≡ true) × (fieldAt s 10 lengthSlot ≡ Found (Number len) from)
 unfolding bodyAt
 body-found s from len e =
     split (starts (written 8 version) s)

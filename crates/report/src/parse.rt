@@ -9,14 +9,15 @@ use crate::Value;
 use crate::values::pick_value;
 use decimal::write::digits;
 ghost use mathlib.Core.Path.{_≡_};
-ghost use Prim.Native.Nat.{_+_, _≤_};
+ghost use Prim.Native.Nat.{_+_, _≤_, _<_};
 ghost use lib.ListN.{length, drop};
 ghost use mathlib.Core.Bool.{true, cond};
 ghost use Rattle.decimal.specs.Writing.{decimal};
 ghost use Rattle.report.specs.Fields.{label};
+ghost use Rattle.report.specs.Search.{Passes, Cleared};
 ghost use Rattle.report.specs.Parse.{starts, lenTo, valueAt, fieldAt, rowOf, readRow, hop, placeOf};
 
-// Whether the tag of k digits and `=` stand at a place.
+// Whether the tag of k digits and `=` stand at a place. Most tags have two.
 pub fn label_at(s: &[u8], at: usize, tag: u64, k: usize) -> bool
     requires { ⌜ (at ≤ length (now s)) × (k ≡ length (decimal tag)) ⌝ }
     ensures { λ r. ⌜ r ≡ starts (label tag) (drop at (now (s .entry))) ⌝ }
@@ -26,6 +27,9 @@ pub fn label_at(s: &[u8], at: usize, tag: u64, k: usize) -> bool
     }
     if s[at + k] != b'=' {
         return false;
+    }
+    if k == 2 {
+        return (s[at] == 48 + (tag / 10) as u8) & (s[at + 1] == 48 + (tag % 10) as u8);
     }
     let mut i = k;
     let mut m = tag;
@@ -150,6 +154,44 @@ fn past(s: &[u8], at: usize) -> usize
     e
 }
 
+// Whether a field with a tag of k digits may begin behind the byte at place i: an SOH stands there, and where the label would end its last digit
+// and `=`.
+fn may_begin(s: &[u8], i: usize, tag: u64, k: usize) -> bool
+    requires { ⌜ (i + k + 1 < length (now s)) × (k ≡ length (decimal tag)) ⌝ }
+    ensures { λ r. ⌜ Passes tag (now (s .entry)) i 1 r ⌝ }
+{
+    (s[i] == 1) & (s[i + k] == 48 + (tag % 10) as u8) & (s[i + k + 1] == b'=')
+}
+
+// The same for the 32 bytes from a place on. All are looked at with no way out between them, so that the compiler takes sixteen at a time.
+fn may_soon(s: &[u8], at: usize, tag: u64, k: usize) -> bool
+    requires { ⌜ (at + k + 32 < length (now s)) × (k ≡ length (decimal tag)) ⌝ }
+    ensures { λ r. ⌜ Passes tag (now (s .entry)) at 32 r ⌝ }
+{
+    let mut any = false;
+    let mut j = 0;
+    while j < 32 {
+        any = any | may_begin(s, at + j, tag, k);
+        j += 1;
+    }
+    any
+}
+
+// A place up to which no field with a tag of k digits begins, once the one at the first place does not.
+fn clear(s: &[u8], at: usize, tag: u64, k: usize) -> usize
+    requires { ⌜ (at ≤ length (now s)) × (k ≡ length (decimal tag)) ⌝ }
+    ensures { λ r. ⌜ Cleared tag (now (s .entry)) at r ⌝ }
+{
+    let mut to = at;
+    while s.len() - to > k + 32 {
+        if may_soon(s, to, tag, k) {
+            return to;
+        }
+        to += 32;
+    }
+    to
+}
+
 // The place of the first field with a tag, or the end where there is none.
 pub fn place_of(s: &[u8], tag: u64) -> usize
     ensures { λ r. ⌜ r ≡ placeOf (label tag) true (now (s .entry)) ⌝ }
@@ -160,7 +202,7 @@ pub fn place_of(s: &[u8], tag: u64) -> usize
         if label_at(s, at, tag, k) {
             return at;
         }
-        at = past(s, at);
+        at = past(s, clear(s, at, tag, k));
     }
     at
 }

@@ -27,6 +27,7 @@ ghost use mathlib.Core.Path.{_≡_};
 ghost use Prim.Native.Nat.{_≤_};
 ghost use lib.ListN.{length};
 ghost use Rattle.report.specs.Parse.{fieldAt};
+ghost use Rattle.report.specs.Slots.{slotsOf};
 ghost use Rattle.report.specs.Reports.{lengthIn, lengthSlot, bodyAt, trailerAt, readFramed, executionFor, firstOf, kindOf, oneReason, agreed, refused, readingOf, readOf, partOf};
 
 // 9, where the body ends within the n bytes.
@@ -86,7 +87,7 @@ fn length_at(s: &[u8]) -> Got
 }
 
 // 8 and 9: where the body begins, and how long it is.
-fn body_at(s: &[u8]) -> Frame
+pub fn body_at(s: &[u8]) -> Frame
     ensures { λ r. ⌜ r ≡ bodyAt (now (s .entry)) ⌝ }
 {
     let version = [56u8, 61, 70, 73, 88, 46, 52, 46, 50, 1];
@@ -98,7 +99,7 @@ fn body_at(s: &[u8]) -> Frame
 }
 
 // 10: whether the bytes from a place on are the trailer of those before it.
-fn trailer_at(s: &[u8], end: usize) -> bool
+pub fn trailer_at(s: &[u8], end: usize) -> bool
     requires { ⌜ end ≤ length (now s) ⌝ }
     ensures { λ r. ⌜ r ≡ trailerAt (now (s .entry)) end ⌝ }
 {

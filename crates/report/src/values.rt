@@ -19,7 +19,7 @@ ghost use lib.ListN.{length};
 ghost use Rattle.report.specs.Shapes.{oneIn, numberIn, listedIn, wordIn, orderIdIn, allFrom, textIn, placeIn, timeIn, quoteIn, averageIn, valueIn};
 
 // One of five characters.
-fn pick_one(v: &[u8], a: u8, b: u8, c: u8, d: u8, e: u8) -> Pick
+pub fn pick_one(v: &[u8], a: u8, b: u8, c: u8, d: u8, e: u8) -> Pick
     ensures { λ r. ⌜ r ≡ oneIn a b c d e (now (v .entry)) ⌝ }
 {
     if v.len() != 1 {
@@ -33,7 +33,7 @@ fn pick_one(v: &[u8], a: u8, b: u8, c: u8, d: u8, e: u8) -> Pick
 }
 
 // A number.
-fn pick_number(said: Said) -> Pick
+pub fn pick_number(said: Said) -> Pick
     ensures { λ r. ⌜ r ≡ numberIn said ⌝ }
 {
     match said {
@@ -43,7 +43,7 @@ fn pick_number(said: Said) -> Pick
 }
 
 // One of eight numbers.
-fn pick_listed(said: Said, a: u8, b: u8, c: u8, d: u8, e: u8, f: u8, g: u8, h: u8) -> Pick
+pub fn pick_listed(said: Said, a: u8, b: u8, c: u8, d: u8, e: u8, f: u8, g: u8, h: u8) -> Pick
     ensures { λ r. ⌜ r ≡ listedIn a b c d e f g h said ⌝ }
 {
     match said {
@@ -76,7 +76,7 @@ pub fn word_length(z: u8) -> usize
 }
 
 // A word.
-fn pick_word(v: &[u8], w: u8, x: u8, y: u8, z: u8) -> Pick
+pub fn pick_word(v: &[u8], w: u8, x: u8, y: u8, z: u8) -> Pick
     ensures { λ r. ⌜ r ≡ wordIn w x y z (now (v .entry)) ⌝ }
 {
     let word = [w, x, y, z];
@@ -88,7 +88,7 @@ fn pick_word(v: &[u8], w: u8, x: u8, y: u8, z: u8) -> Pick
 }
 
 // An OrderID, 1 to 999,999,999, or NONE.
-fn pick_order_id(v: &[u8]) -> Pick
+pub fn pick_order_id(v: &[u8]) -> Pick
     ensures { λ r. ⌜ r ≡ orderIdIn (now (v .entry)) ⌝ }
 {
     let word = [78u8, 79, 78, 69];
@@ -121,7 +121,7 @@ pub fn all_from(v: &[u8], low: u8) -> bool
 }
 
 // 1 to `most` characters.
-fn pick_text(v: &[u8], from: usize, most: usize, low: u8) -> Pick
+pub fn pick_text(v: &[u8], from: usize, most: usize, low: u8) -> Pick
     ensures { λ r. ⌜ r ≡ textIn most low from (now (v .entry)) ⌝ }
 {
     if v.len() == 0 {
@@ -137,7 +137,7 @@ fn pick_text(v: &[u8], from: usize, most: usize, low: u8) -> Pick
 }
 
 // A text that says a number, by its place.
-fn pick_place(said: Said, from: usize, len: usize) -> Pick
+pub fn pick_place(said: Said, from: usize, len: usize) -> Pick
     ensures { λ r. ⌜ r ≡ placeIn from len said ⌝ }
 {
     match said {
@@ -147,7 +147,7 @@ fn pick_place(said: Said, from: usize, len: usize) -> Pick
 }
 
 // A time.
-fn pick_time(v: &[u8], from: usize) -> Pick
+pub fn pick_time(v: &[u8], from: usize) -> Pick
     ensures { λ r. ⌜ r ≡ timeIn from (now (v .entry)) ⌝ }
 {
     if is_time(v) {
@@ -157,7 +157,7 @@ fn pick_time(v: &[u8], from: usize) -> Pick
 }
 
 // A yield or a price.
-fn pick_quote(q: Instrument, said: Said) -> Pick
+pub fn pick_quote(q: Instrument, said: Said) -> Pick
     ensures { λ r. ⌜ r ≡ quoteIn q said ⌝ }
 {
     match said {
@@ -167,7 +167,7 @@ fn pick_quote(q: Instrument, said: Said) -> Pick
 }
 
 // AvgPx.
-fn pick_average(q: Instrument, said: Said) -> Pick
+pub fn pick_average(q: Instrument, said: Said) -> Pick
     ensures { λ r. ⌜ r ≡ averageIn q said ⌝ }
 {
     match said {

@@ -33,7 +33,7 @@ use Rattle.request.specs.declared.Asked.{Asked}
 use Rattle.request.specs.declared.Asked.the-variants.{Garbled, Refused, Enters, Replaces, Cancels}
 use Rattle.request.specs.Session.{kindOf, needed, optional, oneOf, belongs, listed, judge, orElse, firstFailing, minimumClashes, marginClashes, firstClashing, firstMissing}
 use Rattle.request.specs.Asks.{lengthFound, saidIn, lengthIn, hasIn, textIn, termsIn, requestIn, refusalOf, completed, agreed, afterBody, bodyAsked, isKnown, bodyOf, headAsked, askedOf}
-use Rattle.request.specs.Gathers.{slots, slot, Starts, Admitted, keptSays, keptLens, known, Gathered, Walked, firstUnset, rowAt, hasRow, textRow, termsRow, requestRow, completedRow, agreedRow}
+use Rattle.request.specs.Gathers.{slots, slot, Starts, Admitted, keptSays, keptLens, known, Gathered, Walked, firstUnset, rowAt, hasRow, textRow, termsRow, requestRow, Blank, outcomeRow, completedBy, agreedBy}
 use Rattle.request.proofs.Keys.{eachIs}
 use Rattle.request.proofs.Gathering.{says-means}
 
@@ -194,13 +194,17 @@ module _ (q : Instrument) (k : Kind) (b : List ℕ) (from : ℕ) (says lens : Li
   unfolding firstClashing minimumClashes known listed belongs oneOf
   clashes = rw (has 110 refl, has 59 refl, has 38 refl, at 59 refl, at 38 refl, at 110 refl, margins q)
 
-  complete : (h : Head) → completedRow q k h says lens ≡ completed q k h b from
-  unfolding completedRow completed
-  complete h = rw (unset-missing (needed q k) (all-needed q k), requests k h)
+  complete : (h : Head) → outcomeRow k h says lens (completedBy q k lens) ≡ completed q k h b from
+  unfolding completedBy completed
+  complete h =
+      let t : ℕ = firstMissing (needed q k) (fieldsOf b) in
+      rw (unset-missing (needed q k) (all-needed q k)) (split (eqb t 0) (λ y. rw y (requests k h)) (λ n. rw n))
 
-  agree : (h : Head) → agreedRow q k h says lens ≡ agreed q k h b from
-  unfolding agreedRow agreed
-  agree h = rw (clashes, complete h)
+  agree : (h : Head) → outcomeRow k h says lens (agreedBy q k says lens) ≡ agreed q k h b from
+  unfolding agreedBy agreed
+  agree h =
+      let t : ℕ = firstClashing q (hasIn b) (saidIn q b from) in
+      rw clashes (split (eqb t 0) (λ y. rw y (complete h)) (λ n. rw n))
 
 -- ---- the request of each type, by the rows
 module _ (k : Kind) (h : Head) (says lens : List ℕ) (id code : Part) (ei : id ≡ textRow says lens 11) (ec : code ≡ textRow says lens 55) where
@@ -223,36 +227,41 @@ pub request-unknown : (k : Kind) (h : Head) (says lens : List ℕ) (r : Asked) �
 unfolding requestRow
 request-unknown k h says lens r ek er = er ∙ rw ek
 
--- ---- the answer, from the last step back
-module _ (q : Instrument) (k : Kind) (h : Head) (says lens : List ℕ) (t : ℕ) (e : t ≡ firstUnset (needed q k) lens) (r : Asked) where
-  pub completes-missing : (t ≡ 0 → ⊥) → r ≡ refusalOf h 1 t → r ≡ completedRow q k h says lens
-  unfolding completedRow
-  completes-missing d g = g ∙ rw (← e, ne-eqb t 0 d)
+-- ---- the verdict, from the last step back
+module _ (q : Instrument) (k : Kind) (lens : List ℕ) (t : ℕ) (e : t ≡ firstUnset (needed q k) lens) where
+  pub completes-missing : (t ≡ 0 → ⊥) → Verdict.Fails 1 t ≡ completedBy q k lens
+  unfolding completedBy
+  completes-missing d = rw (← e, ne-eqb t 0 d)
 
-  pub completes-is : t ≡ 0 → r ≡ requestRow k h says lens → r ≡ completedRow q k h says lens
-  unfolding completedRow
-  completes-is z g = g ∙ rw (← e, eq-eqb t 0 z)
+  pub completes-is : t ≡ 0 → Verdict.Passes ≡ completedBy q k lens
+  unfolding completedBy
+  completes-is z = rw (← e, eq-eqb t 0 z)
 
-module _ (q : Instrument) (k : Kind) (h : Head) (says lens : List ℕ) (t : ℕ) (e : t ≡ firstClashing q (hasRow lens) (rowAt says)) (r : Asked) where
-  pub agrees-clash : (t ≡ 0 → ⊥) → r ≡ refusalOf h 5 t → r ≡ agreedRow q k h says lens
-  unfolding agreedRow
-  agrees-clash d g = g ∙ rw (← e, ne-eqb t 0 d)
+module _ (q : Instrument) (k : Kind) (says lens : List ℕ) (t : ℕ) (e : t ≡ firstClashing q (hasRow lens) (rowAt says)) where
+  pub agrees-clash : (t ≡ 0 → ⊥) → Verdict.Fails 5 t ≡ agreedBy q k says lens
+  unfolding agreedBy
+  agrees-clash d = rw (← e, ne-eqb t 0 d)
 
-  pub agrees-is : t ≡ 0 → r ≡ completedRow q k h says lens → r ≡ agreedRow q k h says lens
-  unfolding agreedRow
-  agrees-is z g = g ∙ rw (← e, eq-eqb t 0 z)
+  pub agrees-is : t ≡ 0 → (r : Verdict) → r ≡ completedBy q k lens → r ≡ agreedBy q k says lens
+  unfolding agreedBy
+  agrees-is z r g = g ∙ rw (← e, eq-eqb t 0 z)
 
-module _ (q : Instrument) (k : Kind) (h : Head) (b x : List ℕ) (from : ℕ) (v : Verdict) (says lens : List ℕ) (eb : b ≡ x) (w : Walked q k b from v says lens) (r : Asked) where
-  pub decides-fails : (reason tag : ℕ) → v ≡ Verdict.Fails reason tag → r ≡ refusalOf h reason tag → r ≡ bodyAsked q k h x from
+module _ (q : Instrument) (k : Kind) (h : Head) (b x : List ℕ) (from : ℕ) (v : Verdict) (says lens : List ℕ) (eb : b ≡ x) (w : Walked q k b from v says lens) where
+  pub decides-fails : (reason tag : ℕ) → v ≡ Verdict.Fails reason tag → outcomeRow k h says lens (Verdict.Fails reason tag) ≡ bodyAsked q k h x from
   unfolding bodyAsked
-  decides-fails reason tag g er = er ∙ rw (← eb) (rw (← w .verdict, g))
+  decides-fails reason tag g = rw (← eb) (rw (← w .verdict, g))
 
-  pub decides-passes : v ≡ Verdict.Passes → r ≡ agreedRow q k h says lens → r ≡ bodyAsked q k h x from
+  pub decides-passes : v ≡ Verdict.Passes → (r : Verdict) → r ≡ agreedBy q k says lens → outcomeRow k h says lens r ≡ bodyAsked q k h x from
   unfolding bodyAsked
-  decides-passes g er = er ∙ agree q k b from says lens (w .rows g) (sym (w .verdict) ∙ g) h ∙ rw (← eb) (rw (← w .verdict, g))
+  decides-passes g r er =
+      ap (outcomeRow k h says lens) er ∙ agree q k b from says lens (w .rows g) (sym (w .verdict) ∙ g) h ∙ rw (← eb) (rw (← w .verdict, g))
 
-pub starts : (s v row : List ℕ) (start len : ℕ) → v ≡ partAt s start len → Held row start 7 (fieldsOf (partAt s start len)) → Starts v row start (replicate slots 0) (replicate slots 0)
-starts s v row start len e h = record { no-says = refl; no-lens = refl; held = rw e h }
+pub starts : (s v row : List ℕ) (start len : ℕ) (says lens : List ℕ) → v ≡ partAt s start len → Held row start 7 (fieldsOf (partAt s start len))
+    → Blank says lens → Starts v row start says lens
+starts s v row start len says lens e h n = record { no-says = n .no-says; no-lens = n .no-lens; held = rw e h }
+
+pub blank : Blank (replicate slots 0) (replicate slots 0)
+blank = record { no-says = refl; no-lens = refl }
 
 -- ---- the type
 module _ (v : List ℕ) (a : Bool) (ea : a ≡ sameBytes v (68 ∷ [])) where
@@ -275,7 +284,7 @@ module _ (v : List ℕ) (a : Bool) (ea : a ≡ sameBytes v (68 ∷ [])) where
       kind-unknown h = rw (sym ea ∙ ha, sym ec ∙ hc, sym ed ∙ h)
 
 -- ---- the head
-module _ (q : Instrument) (venue port s : List ℕ) (h : Head) (eh : h ≡ headOf s) (r : Asked) where
+module _ (q : Instrument) (venue port s : List ℕ) (h : Head) (eh : h ≡ headOf s) (says lens : List ℕ) where
   value-35 : partAt s (h .kind .start) (h .kind .len) ≡ valueOf s 35
   unfolding headOf
   value-35 = rw eh (value-part s 35)
@@ -292,33 +301,45 @@ module _ (q : Instrument) (venue port s : List ℕ) (h : Head) (eh : h ≡ headO
   unfolding headOf bodyOf
   body-is k = ap (λ x. bodyAsked q k x (partAt s (x .body .start) (x .body .len)) (x .body .start)) eh
 
-  module _ (v₁ : List ℕ) (e₁ : v₁ ≡ partAt s (h .kind .start) (h .kind .len)) (k : Kind) (ek : k ≡ kindOf v₁) (a : Bool) (ea : a ≡ isKnown k) where
+  module _ (k : Kind) (ek : k ≡ kindOf (partAt s (h .kind .start) (h .kind .len))) (a : Bool) (ea : a ≡ isKnown k) where
     kind-is : kindOf (valueOf s 35) ≡ k
-    kind-is = sym (ek ∙ ap kindOf (e₁ ∙ value-35))
+    kind-is = sym (ek ∙ ap kindOf value-35)
 
-    pub admits-kind : not a ≡ true → r ≡ refusalOf h 11 35 → r ≡ headAsked q venue port s
+    pub admits-kind : not a ≡ true → outcomeRow k h says lens (Verdict.Fails 11 35) ≡ headAsked q venue port s
     unfolding headAsked
-    admits-kind g er = er ∙ rw (kind-is, sym ea ∙ not-true a g, eh)
+    admits-kind g = rw (kind-is, sym ea ∙ not-true a g, eh)
 
     module _ (ga : not a ≡ false) (v₂ : List ℕ) (e₂ : v₂ ≡ partAt s (h .sender .start) (h .sender .len)) (c : Bool) (ec : c ≡ sameBytes v₂ port) where
       sender-is : sameBytes (valueOf s 49) port ≡ c
       sender-is = sym (ec ∙ ap (λ x. sameBytes x port) (e₂ ∙ value-49))
 
-      pub admits-sender : not c ≡ true → r ≡ refusalOf h 9 49 → r ≡ headAsked q venue port s
+      pub admits-sender : not c ≡ true → outcomeRow k h says lens (Verdict.Fails 9 49) ≡ headAsked q venue port s
       unfolding headAsked
-      admits-sender g er = er ∙ rw (kind-is, sym ea ∙ not-false a ga, sender-is, not-true c g, eh)
+      admits-sender g = rw (kind-is, sym ea ∙ not-false a ga, sender-is, not-true c g, eh)
 
       module _ (gc : not c ≡ false) (v₃ : List ℕ) (e₃ : v₃ ≡ partAt s (h .target .start) (h .target .len)) (d : Bool) (ed : d ≡ sameBytes v₃ venue) where
         target-is : sameBytes (valueOf s 56) venue ≡ d
         target-is = sym (ed ∙ ap (λ x. sameBytes x venue) (e₃ ∙ value-56))
 
-        pub admits-target : not d ≡ true → r ≡ refusalOf h 9 56 → r ≡ headAsked q venue port s
+        pub admits-target : not d ≡ true → outcomeRow k h says lens (Verdict.Fails 9 56) ≡ headAsked q venue port s
         unfolding headAsked
-        admits-target g er = er ∙ rw (kind-is, sym ea ∙ not-false a ga, sender-is, not-false c gc, target-is, not-true d g, eh)
+        admits-target g = rw (kind-is, sym ea ∙ not-false a ga, sender-is, not-false c gc, target-is, not-true d g, eh)
 
-        pub admits-body : not d ≡ false → r ≡ bodyAsked q k h (partAt s (h .body .start) (h .body .len)) (h .body .start) → r ≡ headAsked q venue port s
+        pub admits-body : not d ≡ false → (r : Verdict) → outcomeRow k h says lens r ≡ bodyAsked q k h (partAt s (h .body .start) (h .body .len)) (h .body .start)
+            → outcomeRow k h says lens r ≡ headAsked q venue port s
         unfolding headAsked
-        admits-body g er = er ∙ body-is k ∙ rw (kind-is, sym ea ∙ not-false a ga, sender-is, not-false c gc, target-is, not-false d g)
+        admits-body g r er = er ∙ body-is k ∙ rw (kind-is, sym ea ∙ not-false a ga, sender-is, not-false c gc, target-is, not-false d g)
+
+-- the answer by the verdict
+module _ (k : Kind) (h : Head) (says lens : List ℕ) (v : Verdict) (x r : Asked) (e : outcomeRow k h says lens v ≡ x) where
+  pub admits-refusal : (reason tag : ℕ) → v ≡ Verdict.Fails reason tag → r ≡ refusalOf h reason tag → r ≡ x
+  admits-refusal reason tag g er = er ∙ rw g at e
+
+  pub admits-request : v ≡ Verdict.Passes → r ≡ requestRow k h says lens → r ≡ x
+  admits-request g er = er ∙ rw g at e
+
+pub kind-part : (s v : List ℕ) (p n : ℕ) (k : Kind) → v ≡ partAt s p n → k ≡ kindOf v → k ≡ kindOf (partAt s p n)
+kind-part s v p n k e g = g ∙ ap kindOf e
 
 -- ---- the message
 module _ (q : Instrument) (venue port s row : List ℕ) (f : Frame) (w : Framed s row f) where

@@ -6,11 +6,12 @@ use mathlib.Core.Bool.{Bool, true, false, cond, not, _&&_, _||_, or-true}
 use native.Mathlib.Omega.{arith}
 use native.Mathlib.Nat.{suc-ne-zero}
 use lib.Dec.{ltb, leb, eqb}
-use lib.ListN.{length, getD, set, replicate, length-set}
+use lib.ListN.{length, getD, set, take, drop, replicate, length-set}
 use lib.Seq.{getD-set-same, getD-set-other}
 use types.Run.{OneOf}
 use borrow.Author.Tests.{eq-eqb, ne-eqb, eqb-true, eqb-false, not-true, not-false}
 use Rattle.octets.specs.Octets.{partAt}
+use Rattle.octets.proofs.Parts.{lent-part}
 use Rattle.octets.proofs.Bools.{split, both-l, both-r, or-r, not-both, neither-l, neither-r}
 use Rattle.decimal.specs.declared.Instrument.{Instrument}
 use Rattle.decimal.specs.declared.Instrument.the-variants.{Bonds, Equities}
@@ -27,6 +28,7 @@ use Rattle.request.specs.declared.Verdict.{Verdict}
 use Rattle.request.specs.Session.{needed, optional, oneOf, belongs, listed, shapeOf, lookAs, judge, orElse, firstFailing, firstMissing}
 use Rattle.request.specs.Asks.{numberSaid, saidFound, lengthFound, saidIn, lengthIn}
 use Rattle.request.specs.Gathers.{slots, slot, isEquities, InEach, Starts, keptSays, keptLens, known, Gathered, Walked, firstUnset}
+use Rattle.request.proofs.Insides.{Inside, fields-inside}
 use Rattle.request.proofs.Keys.{Each, covered, none-of, eachIs, each-at}
 
 zeros : (n i : ℕ) → _≡_ {A = ℕ} (getD (replicate n 0) i 0) 0
@@ -172,9 +174,14 @@ module _ (q : Instrument) (k : Kind) (b : List ℕ) (from t start len : ℕ) (y 
     unfolding judge
     judge-empty g = rw (belongs-listed q k t here, here) (simp (eq-eqb len 0 g))
 
-    pub judge-look : (v : List ℕ) (r : Judged) → (len ≡ 0 → ⊥) → v ≡ partAt b start len → r ≡ lookAs (from + start) (shapeOf q t) v → r ≡ judge q k b from (fld t start len)
+    judge-look : (v : List ℕ) (r : Judged) → (len ≡ 0 → ⊥) → v ≡ partAt b start len → r ≡ lookAs (from + start) (shapeOf q t) v → r ≡ judge q k b from (fld t start len)
     unfolding judge
     judge-look v r g ev er = er ∙ rw (belongs-listed q k t here, here, ne-eqb len 0 g, ev)
+
+    -- the value as it was lent
+    pub judge-lent : (r : Judged) → (len ≡ 0 → ⊥) → r ≡ lookAs (from + start) (shapeOf q t) (take (start + len - start) (drop start b))
+        → r ≡ judge q k b from (fld t start len)
+    judge-lent r g er = judge-look (partAt b start len) r g refl (rw (lent-part b start len) at er)
 
 -- a field that says something
 pub record Means (q : Instrument) (k : Kind) (b : List ℕ) (from : ℕ) (f : Fld) (n : ℕ) : Type 0 where
@@ -207,6 +214,7 @@ pub record Gathering (q : Instrument) (k : Kind) (b : List ℕ) (from : ℕ) (le
 pub record Seated (q : Instrument) (k : Kind) (b row : List ℕ) (from j : ℕ) (says lens : List ℕ) : Type 0 where
   pub left : List Fld
   pub held : Held row from j left
+  pub inside : Inside (length b) left
   pub gathers : Gathering q k b from left says lens
 
 pub gather-start : (q : Instrument) (k : Kind) (b row : List ℕ) (from : ℕ) (says lens : List ℕ) → Starts b row from says lens → Seated q k b row from 7 says lens
@@ -214,6 +222,7 @@ gather-start q k b row from says lens h =
     record {
       left = fieldsOf b;
       held = h .held;
+      inside = fields-inside b;
       gathers = record {
         says-room = rw (h .no-says);
         lens-room = rw (h .no-lens);
@@ -230,8 +239,10 @@ held-room row from j (f ∷ fs) h = h .0 .room
 -- ---- a step over the row: the next field, and those behind it
 pub record Taken (q : Instrument) (k : Kind) (b row : List ℕ) (from next : ℕ) (says lens : List ℕ) (t start len : ℕ) : Type 0 where
   pub behind : from ≤ start
+  pub within : start - from + len ≤ length b
   pub rest : List Fld
   pub held : Held row from next rest
+  pub inside : Inside (length b) rest
   pub gathers : Gathering q k b from (fld t (start - from) len ∷ rest) says lens
 
 -- a test that the tag is not 10
@@ -259,13 +270,13 @@ module _ (q : Instrument) (k : Kind) (b row : List ℕ) (from j : ℕ) (says len
   seat-room = held-room row from j (inv .left) (inv .held)
 
   module _ (r : Noted) (e : r ≡ seatOf row j) where
-    taken-by : (left : List Fld) → Held row from j left → Gathering q k b from left says lens → (t start len : ℕ) (next : Seat) → r ≡ Noted.Good t start len next
+    taken-by : (left : List Fld) → Held row from j left → Inside (length b) left → Gathering q k b from left says lens → (t start len : ℕ) (next : Seat) → r ≡ Noted.Good t start len next
         → Taken q k b row from (next .number) says lens t start len
     unfolding seatOf
-    taken-by [] h w t start len next g =
+    taken-by [] h i w t start len next g =
         let same = good-if (eqb (getD row (j * 3) 0) 10) _ _ _ _ t start len next (sym e ∙ g) in
         absurd (eqb-false (getD row (j * 3) 0) 10 (same .0) (h .0))
-    taken-by (f ∷ fs) h w t start len next g =
+    taken-by (f ∷ fs) h i w t start len next g =
         let same = good-if (eqb (getD row (j * 3) 0) 10) _ _ _ _ t start len next (sym e ∙ g) in
         let n = numbers row from j f (h .0 .here) in
         let a : f .tag ≡ t = sym (n .tag) ∙ same .1 in
@@ -274,16 +285,21 @@ module _ (q : Instrument) (k : Kind) (b row : List ℕ) (from j : ℕ) (says len
         let z : f .start ≡ start - from = omega (arith, c) in
         record {
           behind = omega (arith, c);
+          within = omega (arith, z, d, i .0);
           rest = fs;
           held = rw (← same .4) (h .1);
+          inside = i .1;
           gathers = rw (← a, ← z, ← d) w;
         }
 
     pub taken : (t start len : ℕ) (next : Seat) → r ≡ Noted.Good t start len next → Taken q k b row from (next .number) says lens t start len
-    taken t start len next g = taken-by (inv .left) (inv .held) (inv .gathers) t start len next g
+    taken t start len next g = taken-by (inv .left) (inv .held) (inv .inside) (inv .gathers) t start len next g
 
     pub seat-behind : (t start len : ℕ) (next : Seat) → r ≡ Noted.Good t start len next → from ≤ start
     seat-behind t start len next g = taken t start len next g .behind
+
+    pub seat-within : (t start len : ℕ) (next : Seat) → r ≡ Noted.Good t start len next → start - from + len ≤ length b
+    seat-within t start len next g = taken t start len next g .within
 
     pub seat-less : (t start len : ℕ) (next : Seat) → r ≡ Noted.Good t start len next → 341 - next .number < 341 - j
     unfolding seatOf
@@ -395,8 +411,8 @@ module _ (q : Instrument) (k : Kind) (b row : List ℕ) (from j : ℕ) (says len
           unfolding keptSays keptLens
           gather-more says′ lens′ es el =
               split (eqb (getD lens (slot t) 0) 0)
-              (λ y. record { left = step .rest; held = step .held; gathers = rw (es, el) (rw y (stored (eqb-true (getD lens (slot t) 0) 0 y))) })
-              (λ d. record { left = step .rest; held = step .held; gathers = rw (es, el) (rw d (again (eqb-false (getD lens (slot t) 0) 0 d))) })
+              (λ y. record { left = step .rest; held = step .held; inside = step .inside; gathers = rw (es, el) (rw y (stored (eqb-true (getD lens (slot t) 0) 0 y))) })
+              (λ d. record { left = step .rest; held = step .held; inside = step .inside; gathers = rw (es, el) (rw d (again (eqb-false (getD lens (slot t) 0) 0 d))) })
 
     ended : (left : List Fld) → left ≡ [] → Gathering q k b from left says lens → Walked q k b from Verdict.Passes says lens
     unfolding firstFailing findTag saidIn lengthIn

@@ -34,7 +34,12 @@ slot t = t % slots
 abbrev pub rowAt : List ℕ → ℕ → ℕ
 rowAt row t = getD row (slot t) 0
 
--- the rows are empty, and the row of the message holds the fields of the body
+-- the rows are empty
+pub record Blank (says lens : List ℕ) : Type 0 where
+  pub no-says : says ≡ replicate slots 0
+  pub no-lens : lens ≡ replicate slots 0
+
+-- so they are, and the row of the message holds the fields of the body
 pub record Starts (b row : List ℕ) (from : ℕ) (says lens : List ℕ) : Type 0 where
   pub no-says : says ≡ replicate slots 0
   pub no-lens : lens ≡ replicate slots 0
@@ -112,12 +117,18 @@ requestRow Cancel h says lens =
     Cancels (record { time = h .time; id = textRow says lens 11; original = textRow says lens 41; code = textRow says lens 55; side = rowAt says 54 })
 requestRow Unknown h says lens = refusalOf h 11 35
 
-unfoldable pub completedRow : Instrument → Kind → Head → List ℕ → List ℕ → Asked
-completedRow q k h says lens =
-    let t = firstUnset (needed q k) lens in
-    cond (eqb t 0) (requestRow k h says lens) (refusalOf h 1 t)
+-- what a verdict on a message of the type comes to: a session Reject, or the request
+abbrev pub outcomeRow : Kind → Head → List ℕ → List ℕ → Verdict → Asked
+outcomeRow k h says lens (Verdict.Fails reason tag) = refusalOf h reason tag
+outcomeRow k h says lens Verdict.Passes = requestRow k h says lens
 
-unfoldable pub agreedRow : Instrument → Kind → Head → List ℕ → List ℕ → Asked
-agreedRow q k h says lens =
+-- the verdict on fields that agree, and on fields of which each by itself passed
+unfoldable pub completedBy : Instrument → Kind → List ℕ → Verdict
+completedBy q k lens =
+    let t = firstUnset (needed q k) lens in
+    cond (eqb t 0) Verdict.Passes (Verdict.Fails 1 t)
+
+unfoldable pub agreedBy : Instrument → Kind → List ℕ → List ℕ → Verdict
+agreedBy q k says lens =
     let t = firstClashing q (hasRow lens) (rowAt says) in
-    cond (eqb t 0) (completedRow q k h says lens) (refusalOf h 5 t)
+    cond (eqb t 0) (completedBy q k lens) (Verdict.Fails 5 t)

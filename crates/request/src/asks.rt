@@ -27,7 +27,7 @@ ghost use Rattle.fix.specs.Fields.{fieldsOf};
 ghost use Rattle.fix.specs.Steps.{Held};
 ghost use Rattle.request.specs.Session.{kindOf};
 ghost use Rattle.request.specs.Asks.{isKnown, refusalOf, bodyAsked, headAsked, askedOf};
-ghost use Rattle.request.specs.Gathers.{Admitted, textRow, termsRow, requestRow, completedRow, agreedRow};
+ghost use Rattle.request.specs.Gathers.{Admitted, Blank, textRow, termsRow, requestRow, outcomeRow, completedBy, agreedBy};
 
 // The type that the value of 35 names.
 fn kind_of(v: &[u8]) -> Kind
@@ -135,59 +135,92 @@ fn request(kind: Kind, h: Head, says: &[u64; SLOTS], lens: &[u64; SLOTS]) -> Ask
     }
 }
 
-// The fields agree: a needed tag is missing, or this is the request.
-fn completes(q: Instrument, kind: Kind, h: Head, says: &[u64; SLOTS], lens: &[u64; SLOTS]) -> Asked
-    ensures { λ r. ⌜ r ≡ completedRow q kind h (now (says .entry)) (now (lens .entry)) ⌝ }
+// The verdict on fields that agree: a needed tag is missing, or they pass.
+fn completes(q: Instrument, kind: Kind, lens: &[u64; SLOTS]) -> Verdict
+    ensures { λ r. ⌜ r ≡ completedBy q kind (now (lens .entry)) ⌝ }
 {
     let t = missing(q, kind, lens);
     if t != 0 {
-        return refuses(h, 1, t);
+        return Verdict::Fails { reason: 1, tag: t };
     }
-    request(kind, h, says, lens)
+    Verdict::Passes
 }
 
-// Each field by itself passed: one clashes with others, or what follows decides.
-fn agrees(q: Instrument, kind: Kind, h: Head, says: &[u64; SLOTS], lens: &[u64; SLOTS]) -> Asked
-    ensures { λ r. ⌜ r ≡ agreedRow q kind h (now (says .entry)) (now (lens .entry)) ⌝ }
+// The verdict on fields of which each by itself passed: one clashes with others, or what follows decides.
+fn agrees(q: Instrument, kind: Kind, says: &[u64; SLOTS], lens: &[u64; SLOTS]) -> Verdict
+    ensures { λ r. ⌜ r ≡ agreedBy q kind (now (says .entry)) (now (lens .entry)) ⌝ }
 {
     let t = clashing(q, says, lens);
     if t != 0 {
-        return refuses(h, 5, t);
+        return Verdict::Fails { reason: 5, tag: t };
     }
-    completes(q, kind, h, says, lens)
+    completes(q, kind, lens)
 }
 
-// The body, a part from the middle of the message, is handed on to the reader of fields and decides.
-fn decides(q: Instrument, s: &[u8], kind: Kind, h: Head, row: &[u16; 1023]) -> Asked
-    requires { ⌜ Held (now row) (h .body .start) 7 (fieldsOf (partAt (now s) (h .body .start) (h .body .len))) ⌝ }
-    ensures { λ r. ⌜ r ≡ bodyAsked q kind h (partAt (now (s .entry)) (h .body .start) (h .body .len)) (h .body .start) ⌝ }
+// The verdict on the body, a part from the middle of the message, which is handed on to the reader of fields. The rows take what its
+// values say.
+fn decides(
+    q: Instrument,
+    s: &[u8],
+    kind: Kind,
+    h: Head,
+    row: &[u16; 1023],
+    says: &mut [u64; SLOTS],
+    lens: &mut [u64; SLOTS],
+) -> Verdict
+    requires { ⌜ Held (now row) (h .body .start) 7 (fieldsOf (partAt (now s) (h .body .start) (h .body .len))) × Blank (now says) (now lens) ⌝ }
+    ensures { λ r. ⌜ outcomeRow kind h (now (says .exit)) (now (lens .exit)) r ≡ bodyAsked q kind h (partAt (now (s .entry)) (h .body .start) (h .body .len)) (h .body .start) ⌝ }
 {
-    let mut says: [u64; SLOTS] = [0; SLOTS];
-    let mut lens: [u64; SLOTS] = [0; SLOTS];
     let from = h.body.start;
     let body = part_at(s, from, h.body.len);
-    match gather(q, kind, body, from, row, &mut says, &mut lens) {
-        Verdict::Fails { reason, tag } => refuses(h, reason, tag),
-        Verdict::Passes => agrees(q, kind, h, &says, &lens),
+    match gather(q, kind, body, from, row, says, lens) {
+        Verdict::Fails { reason, tag } => Verdict::Fails { reason, tag },
+        Verdict::Passes => agrees(q, kind, says, lens),
     }
 }
 
-// What a message that is not garbled asks: the type, the ids, then the body.
+// The verdict on a message that is not garbled: the type, the ids, then the body.
+fn screens(
+    q: Instrument,
+    venue: &[u8],
+    port: &[u8],
+    s: &[u8],
+    kind: Kind,
+    h: Head,
+    row: &[u16; 1023],
+    says: &mut [u64; SLOTS],
+    lens: &mut [u64; SLOTS],
+) -> Verdict
+    requires { ⌜ Admitted (now s) h (now row) × (kind ≡ kindOf (partAt (now s) (h .kind .start) (h .kind .len))) × Blank (now says) (now lens) ⌝ }
+    ensures { λ r. ⌜ outcomeRow kind h (now (says .exit)) (now (lens .exit)) r ≡ headAsked q (now (venue .entry)) (now (port .entry)) (now (s .entry)) ⌝ }
+{
+    if !is_known(kind) {
+        return Verdict::Fails {
+            reason: 11,
+            tag: 35,
+        };
+    }
+    if !same(part_at(s, h.sender.start, h.sender.len), port) {
+        return Verdict::Fails { reason: 9, tag: 49 };
+    }
+    if !same(part_at(s, h.target.start, h.target.len), venue) {
+        return Verdict::Fails { reason: 9, tag: 56 };
+    }
+    decides(q, s, kind, h, row, says, lens)
+}
+
+// What a message that is not garbled asks: a session Reject by the first verdict that fails, or the request.
 fn admits(q: Instrument, venue: &[u8], port: &[u8], s: &[u8], h: Head, row: &[u16; 1023]) -> Asked
     requires { ⌜ Admitted (now s) h (now row) ⌝ }
     ensures { λ r. ⌜ r ≡ headAsked q (now (venue .entry)) (now (port .entry)) (now (s .entry)) ⌝ }
 {
+    let mut says: [u64; SLOTS] = [0; SLOTS];
+    let mut lens: [u64; SLOTS] = [0; SLOTS];
     let kind = kind_of(part_at(s, h.kind.start, h.kind.len));
-    if !is_known(kind) {
-        return refuses(h, 11, 35);
+    match screens(q, venue, port, s, kind, h, row, &mut says, &mut lens) {
+        Verdict::Fails { reason, tag } => refuses(h, reason, tag),
+        Verdict::Passes => request(kind, h, &says, &lens),
     }
-    if !same(part_at(s, h.sender.start, h.sender.len), port) {
-        return refuses(h, 9, 49);
-    }
-    if !same(part_at(s, h.target.start, h.target.len), venue) {
-        return refuses(h, 9, 56);
-    }
-    decides(q, s, kind, h, row)
 }
 
 // What a message asks of the market that trades q and has this venue id and this port id.

@@ -9,7 +9,6 @@ use crate::values::look;
 use decimal::Instrument;
 use fix::pass::Noted;
 use fix::pass::Seat;
-use octets::part::part_at;
 ghost use mathlib.Core.Path.{_≡_};
 ghost use mathlib.Core.List.{[], _∷_};
 ghost use Prim.Native.Nat.{ℕ, _+_, _-_, _^_, _≤_, _<_};
@@ -41,7 +40,7 @@ fn judged(
     start: usize,
     len: usize,
 ) -> Judged
-    requires { ⌜ from + start < 2 ^ 64 ⌝ }
+    requires { ⌜ (from + start < 2 ^ 64) × (start + len ≤ length (now b)) ⌝ }
     ensures { λ r. ⌜ r ≡ judge q kind (now (b .entry)) from (record { tag = tag; start = start; len = len }) ⌝ }
 {
     if !in_kind(q, kind, tag) {
@@ -53,7 +52,7 @@ fn judged(
     if len == 0 {
         return Judged::Fails(4);
     }
-    look(q, from + start as u64, tag, part_at(b, start, len))
+    look(q, from + start as u64, tag, &b[start..start + len])
 }
 
 // Puts what a value says and its length into the rows, where its tag has nothing there yet.

@@ -1,4 +1,7 @@
 // The rows of the seven kinds of report, each a table of its fields.
+pub mod telling;
+pub mod write;
+
 ghost use mathlib.Core.Path.{_≡_};
 ghost use Rattle.matching.specs.Held.{Covered, Sound};
 ghost use Rattle.rows.specs.Rows.{orNumber, orDigit, orNobody, group, ownField, lastField, otherField, countField, avgPx, tradeStatus, replacedStatus, statusOf, figuresOf, padded, acceptedRow, replacedRow, canceledRow, tradeRow, rejectedRow, cancelRejectRow, sessionRejectRow};
@@ -92,6 +95,16 @@ pub struct Faulty {
     pub tag: u64,
     pub kind: Place,
     pub reason: u64,
+}
+
+// What makes an execution report the kind it is: its 39 and 150, its 41 and 378, or none, and the fill of a trade.
+pub struct Told {
+    pub trade: bool,
+    pub status: u8,
+    pub kind: u8,
+    pub orig: Value,
+    pub reason: Value,
+    pub fill: Fill,
 }
 
 // The text at a place.

@@ -8,18 +8,17 @@ use native.Mathlib.Nat.{add-zero}
 use native.Mathlib.Numerals.{add-one}
 use native.Mathlib.Omega.{arith}
 use lib.Dec.{eqb}
-use mir.Syntax.{w64}
-use mir.Val.{Fits}
 use lib.ListN.{length, getD}
 use borrow.Author.Tests.{ltb-true, ltb-false, eq-eqb, ne-eqb, not-true, not-false}
 use Rattle.octets.specs.Octets.{leAt, put}
-use Rattle.octets.proofs.Bools.{split, both-i, both-l, both-r, both-not-r, not-both}
+use Rattle.octets.proofs.Bools.{split, both-l, both-not-r}
 use Rattle.matching.specs.declared.Order.{Order}
+use Rattle.matching.specs.declared.Depth.the-variants.{NoLevel}
 use Rattle.matching.specs.Matching.{at, openOf, isOpen, isBuy, buys, ahead, sumOver, countOf}
 use Rattle.matching.specs.Depth.{onSide, stands, behind, nearer, next, levelAt, onLevel, share, total, orders, depth}
 use Rattle.table.specs.declared.best.BestLevel.{BestLevel}
 use Rattle.table.specs.Orders.{orderAt, filled, bookOf}
-use Rattle.table.specs.Best.{bestOn, standsOn, bestAt, bestRow, bookRow, putBest}
+use Rattle.table.specs.Best.{inNumbers, bestOn, standsOn, bestAt, bestRow, bookRow, putBest}
 use Rattle.table.proofs.Same.{filled-few}
 use Rattle.table.proofs.Books.{length-book, at-book}
 
@@ -31,36 +30,39 @@ side-one s o b e h = rw (eq-eqb s 1 h) e
 pub side-other : (s : ℕ) (o : Order) (b : Bool) → b ≡ isBuy o → (s ≡ 1 → ⊥) → not b ≡ onSide s o
 side-other s o b e h = rw (ne-eqb s 1 h, e)
 
--- a level that is nearer to the best than the one found so far, or not
-module _ (s c level : ℕ) (o : Order) (e : level ≡ o .level) (a : Bool) (f : a ≡ ahead (buys s) level c) where
-  near : (eqb c 0 || a) ≡ (eqb c 0 || ahead (buys s) (o .level) c)
-  near = rw (f, e)
+-- the level of an order of another side is passed by, and so is one that is not nearer to the best than the one found so far
+module _ (s c : ℕ) (o : Order) (x : Bool) (p : x ≡ onSide s o) where
+  pub nearer-other : not x ≡ true → c ≡ nearer s 0 c o
+  unfolding nearer stands
+  nearer-other h = let z : onSide s o ≡ false = sym p ∙ not-true _ h in rw (both-not-r (isOpen o) (onSide s o) z)
 
-  pub nearer-far : not (eqb c 0 || a) ≡ true → c ≡ nearer s 0 c o
-  unfolding nearer
-  nearer-far h = rw (both-not-r (stands s o && behind s 0 (o .level)) _ (sym near ∙ not-true _ h))
+  module _ (k : not x ≡ false) (level : ℕ) (e : level ≡ o .level) (a : Bool) (f : a ≡ ahead (buys s) level c) where
+    near : (eqb c 0 || a) ≡ (eqb c 0 || ahead (buys s) (o .level) c)
+    near = rw (f, e)
 
-  module _ (h : not (eqb c 0 || a) ≡ false) (x y : Bool) (p : x ≡ onSide s o) (q : y ≡ isOpen o) where
-    close : (eqb c 0 || ahead (buys s) (o .level) c) ≡ true
-    close = sym near ∙ not-false _ h
+    pub nearer-far : not (eqb c 0 || a) ≡ true → c ≡ nearer s 0 c o
+    unfolding nearer
+    nearer-far h = rw (both-not-r (stands s o && behind s 0 (o .level)) _ (sym near ∙ not-true _ h))
 
-    standing : (x && y) ≡ stands s o
-    unfolding stands
-    standing = rw (p, q) (swap (onSide s o) (isOpen o))
-      where
-        swap : (m n : Bool) → (m && n) ≡ (n && m)
-        swap true true = refl
-        swap true false = refl
-        swap false true = refl
-        swap false false = refl
+    module _ (h : not (eqb c 0 || a) ≡ false) (y : Bool) (q : y ≡ isOpen o) where
+      close : (eqb c 0 || ahead (buys s) (o .level) c) ≡ true
+      close = sym near ∙ not-false _ h
 
-    pub nearer-yes : (x && y) ≡ true → level ≡ nearer s 0 c o
-    unfolding nearer behind
-    nearer-yes g = rw (sym standing ∙ g, close) e
+      standing : y ≡ stands s o
+      unfolding stands
+      standing = let z : onSide s o ≡ true = sym p ∙ not-false _ k in rw (z, q) (sym (both-true (isOpen o)))
+        where
+          both-true : (b : Bool) → (b && true) ≡ b
+          both-true true = refl
+          both-true false = refl
 
-    pub nearer-no : (x && y) ≡ false → c ≡ nearer s 0 c o
-    unfolding nearer behind
-    nearer-no g = rw (sym standing ∙ g)
+      pub nearer-yes : y ≡ true → level ≡ nearer s 0 c o
+      unfolding nearer behind
+      nearer-yes g = rw (sym standing ∙ g, close) e
+
+      pub nearer-no : y ≡ false → c ≡ nearer s 0 c o
+      unfolding nearer behind
+      nearer-no g = rw (sym standing ∙ g)
 
 -- what is open of record i, by the numbers that were read
 module _ (t : List ℕ) (i a b c q : ℕ) (e : a ≡ leAt 4 t (128 * i + 72)) (f : b ≡ leAt 4 t (128 * i + 76)) (g : c ≡ leAt 4 t (128 * i + 80))
@@ -73,29 +75,53 @@ module _ (t : List ℕ) (i a b c q : ℕ) (e : a ≡ leAt 4 t (128 * i + 72)) (f
   open-none l = let z : q - (a + b + c) ≡ 0 = omega arith in sym z ∙ open-some
 
 -- what an order adds to a level
-module _ (s l : ℕ) (o : Order) (x : ℕ) (e : x ≡ o .level) where
-  pub share-off : (x ≡ l → ⊥) → 0 ≡ share s l o
-  unfolding share onLevel
-  share-off n = rw (both-not-r (stands s o) (eqb (o .level) l) (ne-eqb (o .level) l (λ z. n (e ∙ z))))
+module _ (s l : ℕ) (o : Order) (b : Bool) (f : b ≡ onSide s o) where
+  pub share-other : not b ≡ true → 0 ≡ share s l o
+  unfolding share onLevel stands
+  share-other g =
+      let z : onSide s o ≡ false = sym f ∙ not-true _ g in
+      let y : (isOpen o && onSide s o) ≡ false = both-not-r (isOpen o) (onSide s o) z in
+      rw y
 
-  module _ (h : x ≡ l) (b : Bool) (f : b ≡ onSide s o) where
-    pub share-other : not b ≡ true → 0 ≡ share s l o
-    unfolding share onLevel stands
-    share-other g =
-        let z : onSide s o ≡ false = sym f ∙ not-true _ g in
-        let y : (isOpen o && onSide s o) ≡ false = both-not-r (isOpen o) (onSide s o) z in
-        rw y
+  module _ (g : not b ≡ false) (x : ℕ) (e : x ≡ o .level) where
+    pub share-off : (x ≡ l → ⊥) → 0 ≡ share s l o
+    unfolding share onLevel
+    share-off n = rw (both-not-r (stands s o) (eqb (o .level) l) (ne-eqb (o .level) l (λ z. n (e ∙ z))))
 
-    pub share-on : not b ≡ false → (v : ℕ) → v ≡ openOf o → v ≡ share s l o
+    pub share-on : x ≡ l → (v : ℕ) → v ≡ openOf o → v ≡ share s l o
     unfolding share onLevel stands
-    share-on g v z =
+    share-on h v z =
         let y : onSide s o ≡ true = sym f ∙ not-false _ g in
         let w : eqb (o .level) l ≡ true = eq-eqb (o .level) l (sym e ∙ h) in
         split (isOpen o)
         (λ u. rw (u, y, w) z)
         (λ u. rw u (omega (arith, ltb-false 0 (openOf o) u)))
 
+-- and to its number of orders, x being what it adds to the total
+module _ (s l : ℕ) (o : Order) (x : ℕ) (e : x ≡ share s l o) (had : ℕ) where
+  pub nothing-more : x ≡ 0 → had ≡ had + share s l o
+  nothing-more z = omega arith
+
+  pub none-more : x ≡ 0 → had ≡ had + cond (onLevel s l o) 1 0
+  unfolding share onLevel stands
+  none-more z =
+      split (onLevel s l o)
+      (λ u.
+      let y : openOf o ≡ x = sym (e ∙ rw u) in
+      absurd (omega (arith, ltb-true 0 (openOf o) (both-l _ _ (both-l _ _ u)))))
+      (λ u. rw (u, add-zero))
+
+  pub some-more : had + x ≡ had + share s l o
+  some-more = omega arith
+
+  pub one-more : (x ≡ 0 → ⊥) → had + 1 ≡ had + cond (onLevel s l o) 1 0
+  unfolding share
+  one-more n = split (onLevel s l o) (λ u. rw u) (λ u. absurd (n (e ∙ rw u)))
+
 -- ---- the level nearest to the best, of the first i records
+
+pub next-below : (t : List ℕ) (n i : ℕ) → n ≡ filled t → i < n → i + 1 < 256
+next-below t n i e h = omega (arith, filled-few t)
 
 module _ (t : List ℕ) (n s : ℕ) where
   -- the order of the record that is looked at
@@ -114,91 +140,67 @@ module _ (t : List ℕ) (n s : ℕ) where
   pub nearest-end : (i c : ℕ) → i ≤ n → n ≤ i → c ≡ next (bookOf t) s 0 i → c ≡ next (bookOf t) s 0 n
   nearest-end i c h l p = let e : i ≡ n = omega arith in p ∙ rw e
 
-  -- ---- the sums of a level, of the first i records
+-- ---- what stands on a level, of the first i records
 
-  module _ (l : ℕ) where
-    -- an order counts on its level exactly if it adds something
-    counts : (o : Order) → 0 < share s l o → _≡_ {A = ℕ} (cond (onLevel s l o) 1 0) 1
-    unfolding share
-    counts o p = split (onLevel s l o) (λ u. rw u) (λ u. absurd (let z : 0 < 0 = rw u at p in omega arith))
+pub record Counted (t : List ℕ) (s l i : ℕ) (b : BestLevel) : Type 0 where
+  pub on : b .level ≡ l
+  pub added : b .total ≡ sumOver (share s l) (bookOf t) i
+  pub counted : b .orders ≡ countOf (onLevel s l) (bookOf t) i
+  pub few : b .orders ≤ i
+  pub small : b .total ≤ i * 4294967296
 
-    counts-not : (o : Order) → share s l o ≡ 0 → _≡_ {A = ℕ} (cond (onLevel s l o) 1 0) 0
-    unfolding share onLevel stands
-    counts-not o p =
-        split (onLevel s l o)
-        (λ u.
-        let z : openOf o ≡ 0 = rw u at p in
-        absurd (omega (arith, ltb-true 0 (openOf o) (both-l _ _ (both-l _ _ u)))))
-        (λ u. rw u)
-
--- what has been added up
-pub record Added (t : List ℕ) (s l i sum count : ℕ) : Type 0 where
-  pub added : sum ≡ sumOver (share s l) (bookOf t) i
-  pub counted : count ≡ countOf (onLevel s l) (bookOf t) i
-  pub few : count ≤ i
-  pub small : sum ≤ i * 4294967296
-
-pub added-none : {t : List ℕ} {s l : ℕ} → Added t s l 0 0 0
+pub counted-none : (t : List ℕ) (s l : ℕ) (b : BestLevel) → b .level ≡ l → b .total ≡ 0 → b .orders ≡ 0 → Counted t s l 0 b
 unfolding countOf sumOver
-added-none = record { added = refl; counted = refl; few = omega arith; small = omega arith }
+counted-none t s l b e f g = record { on = e; added = f; counted = g; few = omega arith; small = omega arith }
 
-module _ (t : List ℕ) (n s l i sum count : ℕ) (p : Added t s l i sum count) (e : n ≡ filled t) (h : i < n) (x : ℕ)
-    (q : x ≡ share s l (orderAt t (i + 1))) (z : x < 4294967296) where
-  share-there : x ≡ share s l (at (bookOf t) (suc i))
-  share-there = q ∙ rw (there t n s i e h)
-
+module _ (t : List ℕ) (n s l i : ℕ) (b : BestLevel) (p : Counted t s l i b) (e : n ≡ filled t) (h : i < n) where
   -- both sums stay far below 2^64
-  pub added-fits : Fits w64 (sum + x)
-  added-fits = omega (arith, p .small, filled-few t)
+  pub total-fits : b .total ≤ 1099511627776
+  total-fits = omega (arith, p .small, filled-few t)
 
-  pub added-one : Fits w64 (count + 1)
-  added-one = omega (arith, p .few, filled-few t)
+  pub orders-fit : b .orders ≤ 255
+  orders-fit = omega (arith, p .few, filled-few t)
 
-  pub added-some : 0 < x → Added t s l (i + 1) (sum + x) (count + 1)
+  pub counted-more : (r : BestLevel) → r .level ≡ b .level → r .total ≡ b .total + share s (b .level) (orderAt t (i + 1))
+      → r .orders ≡ b .orders + cond (onLevel s (b .level) (orderAt t (i + 1))) 1 0 → r .total ≤ b .total + 4294967295 → Counted t s l (i + 1) r
   unfolding countOf sumOver
-  added-some k =
-      let y = share-there in
-      let c = counts t n s l (at (bookOf t) (suc i)) (omega arith) in
+  counted-more r u v w z =
+      let o = there t n s i e h in
+      let one : cond (onLevel s (b .level) (orderAt t (i + 1))) 1 0 ≤ 1 = most (onLevel s (b .level) (orderAt t (i + 1))) in
       record {
-        added = rw (add-one i) (omega (arith, p .added));
-        counted = rw (add-one i) (omega (arith, p .counted));
+        on = u ∙ p .on;
+        added = v ∙ rw (p .on, p .added, ← o, add-one i);
+        counted = w ∙ rw (p .on, p .counted, ← o, add-one i);
         few = omega (arith, p .few);
         small = omega (arith, p .small);
       }
+    where
+      most : (f : Bool) → cond {A = ℕ} f 1 0 ≤ 1
+      most true = omega arith
+      most false = omega arith
 
-  pub added-nothing : x ≤ 0 → Added t s l (i + 1) sum count
-  unfolding countOf sumOver
-  added-nothing k =
-      let y = share-there in
-      let c = counts-not t n s l (at (bookOf t) (suc i)) (omega arith) in
-      record {
-        added = rw (add-one i) (omega (arith, p .added));
-        counted = rw (add-one i) (omega (arith, p .counted));
-        few = omega (arith, p .few);
-        small = omega (arith, p .small);
-      }
-
-pub added-all : (t : List ℕ) (n s l i sum count : ℕ) → n ≡ filled t → i ≤ n → n ≤ i → Added t s l i sum count
-    → record { level = l; total = sum; orders = count } ≡ standsOn (bookOf t) s l
+pub counted-all : (t : List ℕ) (n s l i : ℕ) (b : BestLevel) → n ≡ filled t → i ≤ n → n ≤ i → Counted t s l i b → b ≡ standsOn (bookOf t) s l
 unfolding standsOn total orders
-added-all t n s l i sum count e h k p =
+counted-all t n s l i b e h k p =
     let z : i ≡ length (bookOf t) = omega (arith, length-book t) in
-    rw (p .added, p .counted, z)
+    let x : b .total ≡ total (bookOf t) s l = p .added ∙ ap (λ (k : ℕ). sumOver (share s l) (bookOf t) k) z in
+    let y : b .orders ≡ orders (bookOf t) s l = p .counted ∙ ap (λ (k : ℕ). countOf (onLevel s l) (bookOf t) k) z in
+    λ j. record { level = p .on j; total = x j; orders = y j }
 
 -- ---- the best level
 
-module _ (t : List ℕ) (n s l : ℕ) (e : n ≡ filled t) (p : l ≡ next (bookOf t) s 0 n) where
-  nearest : levelAt (bookOf t) s 0 ≡ l
-  unfolding levelAt
-  nearest = let z : length (bookOf t) ≡ n = length-book t ∙ sym e in rw z (sym p)
+pub none-on : (b r : BestLevel) → b .level ≡ 0 → r .level ≡ 0 → r .total ≡ 0 → r .orders ≡ 0 → r ≡ cond (eqb (b .level) 0) (inNumbers NoLevel) b
+none-on b r e f g h = rw (eq-eqb (b .level) 0 e) (λ j. record { level = f j; total = g j; orders = h j })
 
-  pub best-none : l ≡ 0 → record { level = 0; total = 0; orders = 0 } ≡ bestOn (bookOf t) s
-  unfolding bestOn depth
-  best-none z = rw (nearest, z)
+pub some-on : (b : BestLevel) → (b .level ≡ 0 → ⊥) → b ≡ cond (eqb (b .level) 0) (inNumbers NoLevel) b
+some-on b e = rw (ne-eqb (b .level) 0 e)
 
-  pub best-some : (l ≡ 0 → ⊥) → (r : BestLevel) → r ≡ standsOn (bookOf t) s l → r ≡ bestOn (bookOf t) s
-  unfolding bestOn depth standsOn
-  best-some z r q = rw (nearest, ne-eqb l 0 z) q
+pub best-on : (t : List ℕ) (n s l : ℕ) (b r : BestLevel) → n ≡ filled t → l ≡ next (bookOf t) s 0 n → b ≡ standsOn (bookOf t) s l
+    → r ≡ cond (eqb (b .level) 0) (inNumbers NoLevel) b → r ≡ bestOn (bookOf t) s
+unfolding bestOn depth standsOn levelAt
+best-on t n s l b r e p q z =
+    let w : length (bookOf t) ≡ n = length-book t ∙ sym e in
+    z ∙ rw (w, ← p, q) (split (eqb l 0) (λ u. rw u) (λ u. rw u))
 
 -- ---- reading them, and writing
 

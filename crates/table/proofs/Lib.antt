@@ -6,7 +6,8 @@
 -- an event; Working: the order in work; Bests: the best levels in the heading; Fronts: the best level found by looking; Naming: a
 -- record takes another ClOrdID; Entering: a record is written anew; Settings: settings tested and written; Kept: a market stays a
 -- market; OrderIds: which records keep theirs; Opens: opening makes one; Notes: turns with quantities; Looks: what an order would
--- trade, found by looking; Promises: what a market says of its texts and OrderIDs; Theorems: what people read.
+-- trade, found by looking; Faced: the best order to meet, found by turns; Promises: what a market says of its texts and OrderIDs; Keys:
+-- searches that halve and searches by keys; Theorems: what people read.
 pub mod Loaded
 pub mod Same
 pub mod Instruments
@@ -32,5 +33,7 @@ pub mod OrderIds
 pub mod Opens
 pub mod Notes
 pub mod Looks
+pub mod Faced
 pub mod Promises
+pub mod Keys
 pub mod Theorems

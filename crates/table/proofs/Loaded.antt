@@ -1,4 +1,4 @@
--- What the numbers that are read of a record come to: four bytes as one number, the sum by its halves, what is open, who buys.
+-- What the numbers that are read of a record come to: four and eight bytes as one number, what is open, who buys.
 use mathlib.Core.Path.{_≡_, refl, sym, ap}
 use mathlib.Core.List.{List}
 use Prim.Native.Nat.{ℕ, suc, _+_, _*_, _-_}
@@ -54,10 +54,9 @@ leAt-halves t p q e =
     let h : leAt 4 t p ≡ getD t p 0 + 256 * getD t (p + 1) 0 + 65536 * getD t (p + 1 + 1) 0 + 16777216 * getD t (p + 1 + 1 + 1) 0 = leAt-four t p in
     omega (arith, a, b, c, d, g, h)
 
--- the sum of record i, by the halves that were read
-pub sum-read : (t : List ℕ) (i a b : ℕ) → a ≡ leAt 4 t (128 * i + 64) → b ≡ leAt 4 t (128 * i + 68) → a + 4294967296 * b ≡ orderAt t i .sum
-unfolding orderAt
-sum-read t i a b e f = rw (e, f) (sym (leAt-halves t (128 * i + 64) (128 * i + 68) (omega arith)))
+-- the same, by the halves that were read
+pub eight-read : (t : List ℕ) (p a b : ℕ) → a ≡ leAt 4 t p → b ≡ leAt 4 t (p + 4) → a + 4294967296 * b ≡ leAt 8 t p
+eight-read t p a b e f = rw (e, f) (sym (leAt-halves t p (p + 4) (omega arith)))
 
 -- ---- what is open, and who buys
 

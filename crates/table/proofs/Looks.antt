@@ -58,7 +58,7 @@ pub sell-turn : (next : ℕ) (r : Order) (b : Bool) → b ≡ isBuy r → b ≡ 
 unfolding turnOf
 sell-turn next r b e h = rw (← e, h)
 
-turn-below : {next : ℕ} {r : Order} → Timely next r → turnOf next r < 2_000_000_000_000_000_000
+pub turn-below : {next : ℕ} {r : Order} → Timely next r → turnOf next r < 2_000_000_000_000_000_000
 unfolding endOf
 turn-below {next} {r} h = omega (arith, h .next-high, turn-end next r (h .sound .level-high) (h .place))
 

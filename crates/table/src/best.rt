@@ -1,13 +1,16 @@
 // The best level of each side: worked out from the book, and written to the heading. Of a record only what decides is read.
 ghost use mathlib.Core.Path.{_≡_};
+ghost use mathlib.Core.Bool.{cond};
 ghost use Prim.Native.Nat.{_+_, _*_, _≤_, _<_};
+ghost use lib.Dec.{eqb};
 ghost use lib.ListN.{length};
 ghost use Rattle.octets.specs.Octets.{put};
 ghost use Rattle.matching.specs.Matching.{openOf};
-ghost use Rattle.matching.specs.Depth.{onSide, nearer, next, share};
+ghost use Rattle.matching.specs.declared.Depth.the-variants.{NoLevel};
+ghost use Rattle.matching.specs.Depth.{onSide, nearer, next, onLevel, share};
 ghost use Rattle.table.specs.Places.{tableBytes};
 ghost use Rattle.table.specs.Orders.{orderAt, filled, bookOf};
-ghost use Rattle.table.specs.Best.{bestOn, standsOn, bestAt, ordersBytes, levelsBytes, totalsBytes, bestRow, putBest, clearBest};
+ghost use Rattle.table.specs.Best.{inNumbers, bestOn, standsOn, bestAt, ordersBytes, levelsBytes, totalsBytes, bestRow, putBest, clearBest};
 use crate::book::filled;
 use crate::places;
 use crate::record::buys_at;
@@ -23,8 +26,20 @@ pub struct BestLevel {
     pub orders: u64,
 }
 
+// A level of each side; 0 for none.
+struct Levels {
+    buy: u64,
+    sell: u64,
+}
+
+// What stands on a level of each side.
+struct Bests {
+    buy: BestLevel,
+    sell: BestLevel,
+}
+
 // Whether record i is of a side, 1 the buys and any other the sells.
-fn on_side_at(t: &[u8], i: usize, side: u64) -> bool
+pub fn on_side_at(t: &[u8], i: usize, side: u64) -> bool
     requires { ⌜ (length (now t) ≡ tableBytes) × (i < 256) ⌝ }
     ensures { λ r. ⌜ r ≡ onSide side (orderAt (now (t .entry)) i) ⌝ }
 {
@@ -37,28 +52,33 @@ fn nearer_at(t: &[u8], i: usize, side: u64, c: u64) -> u64
     requires { ⌜ (length (now t) ≡ tableBytes) × (i < 256) ⌝ }
     ensures { λ r. ⌜ r ≡ nearer side 0 c (orderAt (now (t .entry)) i) ⌝ }
 {
+    if !on_side_at(t, i, side) {
+        return c;
+    }
     let level = level_at(t, i);
     if !((c == 0) | ahead(side, level, c)) {
         return c;
     }
-    if on_side_at(t, i, side) & open_at(t, i) {
+    if open_at(t, i) {
         return level;
     }
     c
 }
 
-// The best level of a side among the n filled records; 0 if there is none.
-fn best_level(t: &[u8], n: usize, side: u64) -> u64
+// The best level of each side among the n filled records; 0 if there is none.
+fn best_levels(t: &[u8], n: usize) -> Levels
     requires { ⌜ (length (now t) ≡ tableBytes) × (n ≡ filled (now t)) ⌝ }
-    ensures { λ r. ⌜ r ≡ next (bookOf (now (t .entry))) side 0 n ⌝ }
+    ensures { λ r. ⌜ (r .buy ≡ next (bookOf (now (t .entry))) 1 0 n) × (r .sell ≡ next (bookOf (now (t .entry))) 2 0 n) ⌝ }
 {
-    let mut c = 0;
+    let mut buy = 0;
+    let mut sell = 0;
     let mut i = 0;
     while i < n {
         i += 1;
-        c = nearer_at(t, i, side, c);
+        buy = nearer_at(t, i, 1, buy);
+        sell = nearer_at(t, i, 2, sell);
     }
-    c
+    Levels { buy, sell }
 }
 
 // What is open of record i.
@@ -80,52 +100,93 @@ fn share_at(t: &[u8], i: usize, side: u64, level: u64) -> u64
     requires { ⌜ (length (now t) ≡ tableBytes) × (i < 256) ⌝ }
     ensures { λ r. ⌜ (r ≡ share side level (orderAt (now (t .entry)) i)) × (r < 4294967296) ⌝ }
 {
-    if level_at(t, i) != level {
+    if !on_side_at(t, i, side) {
         return 0;
     }
-    if !on_side_at(t, i, side) {
+    if level_at(t, i) != level {
         return 0;
     }
     open_of_at(t, i)
 }
 
-// What stands on a level of a side, of the n filled records.
-fn stands_on(t: &[u8], n: usize, side: u64, level: u64) -> BestLevel
-    requires { ⌜ (length (now t) ≡ tableBytes) × (n ≡ filled (now t)) ⌝ }
-    ensures { λ r. ⌜ r ≡ standsOn (bookOf (now (t .entry))) side level ⌝ }
+// A level of a side, with what record i adds to it.
+fn with_record(t: &[u8], i: usize, side: u64, b: BestLevel) -> BestLevel
+    requires { ⌜ (length (now t) ≡ tableBytes) × (i < 256) × (b .total ≤ 1099511627776) × (b .orders ≤ 255) ⌝ }
+    ensures { λ r. ⌜ (r .level ≡ b .level) × (r .total ≡ b .total + share side (b .level) (orderAt (now (t .entry)) i))
+        × (r .orders ≡ b .orders + cond (onLevel side (b .level) (orderAt (now (t .entry)) i)) 1 0) × (r .total ≤ b .total + 4294967295) ⌝ }
 {
-    let mut total: u64 = 0;
-    let mut orders: u64 = 0;
-    let mut i = 0;
-    while i < n {
-        i += 1;
-        let x = share_at(t, i, side, level);
-        if 0 < x {
-            total += x;
-            orders += 1;
-        }
+    let x = share_at(t, i, side, b.level);
+    if x == 0 {
+        return b;
     }
     BestLevel {
-        level,
-        total,
-        orders,
+        level: b.level,
+        total: b.total + x,
+        orders: b.orders + 1,
     }
 }
 
-// The best level of a side of the book, of the n filled records.
-pub fn best_of(t: &[u8], n: usize, side: u64) -> BestLevel
-    requires { ⌜ (length (now t) ≡ tableBytes) × (n ≡ filled (now t)) ⌝ }
-    ensures { λ r. ⌜ r ≡ bestOn (bookOf (now (t .entry))) side ⌝ }
+// A level on which nothing stands yet.
+fn bare(level: u64) -> BestLevel
+    ensures { λ r. ⌜ (r .level ≡ level) × (r .total ≡ 0) × (r .orders ≡ 0) ⌝ }
 {
-    let level = best_level(t, n, side);
-    if level == 0 {
-        return BestLevel {
-            level: 0,
-            total: 0,
-            orders: 0,
-        };
+    BestLevel {
+        level,
+        total: 0,
+        orders: 0,
     }
-    stands_on(t, n, side, level)
+}
+
+// What stands on a level of a side, of the n filled records.
+pub fn stands_on(t: &[u8], n: usize, side: u64, level: u64) -> BestLevel
+    requires { ⌜ (length (now t) ≡ tableBytes) × (n ≡ filled (now t)) ⌝ }
+    ensures { λ r. ⌜ r ≡ standsOn (bookOf (now (t .entry))) side level ⌝ }
+{
+    let mut b = bare(level);
+    let mut i = 0;
+    while i < n {
+        i += 1;
+        b = with_record(t, i, side, b);
+    }
+    b
+}
+
+// What stands on a level of the buys and on one of the sells, of the n filled records.
+fn both_stand(t: &[u8], n: usize, buy: u64, sell: u64) -> Bests
+    requires { ⌜ (length (now t) ≡ tableBytes) × (n ≡ filled (now t)) ⌝ }
+    ensures { λ r. ⌜ (r .buy ≡ standsOn (bookOf (now (t .entry))) 1 buy) × (r .sell ≡ standsOn (bookOf (now (t .entry))) 2 sell) ⌝ }
+{
+    let mut b = bare(buy);
+    let mut s = bare(sell);
+    let mut i = 0;
+    while i < n {
+        i += 1;
+        b = with_record(t, i, 1, b);
+        s = with_record(t, i, 2, s);
+    }
+    Bests { buy: b, sell: s }
+}
+
+// What stands on a level, or zeros where that is none.
+fn or_none(b: BestLevel) -> BestLevel
+    ensures { λ r. ⌜ r ≡ cond (eqb (b .level) 0) (inNumbers NoLevel) b ⌝ }
+{
+    if b.level == 0 {
+        return bare(0);
+    }
+    b
+}
+
+// The best level of each side of the book, of the n filled records.
+fn bests_of(t: &[u8], n: usize) -> Bests
+    requires { ⌜ (length (now t) ≡ tableBytes) × (n ≡ filled (now t)) ⌝ }
+    ensures { λ r. ⌜ (r .buy ≡ bestOn (bookOf (now (t .entry))) 1) × (r .sell ≡ bestOn (bookOf (now (t .entry))) 2) ⌝ }
+{
+    let l = best_levels(t, n);
+    let b = both_stand(t, n, l.buy, l.sell);
+    let buy = or_none(b.buy);
+    let sell = or_none(b.sell);
+    Bests { buy, sell }
 }
 
 // The best level of a side that the heading keeps.
@@ -192,9 +253,8 @@ pub fn put_best(t: &mut [u8])
     ensures { λ _. ⌜ now (t .exit) ≡ putBest (now (t .entry)) ⌝ }
 {
     let n = filled(t);
-    let buy = best_of(t, n, 1);
-    let sell = best_of(t, n, 2);
-    write_best(t, places::BEST, buy, sell);
+    let b = bests_of(t, n);
+    write_best(t, places::BEST, b.buy, b.sell);
 }
 
 // Clears them, for an order in work.

@@ -5,13 +5,14 @@ ghost use lib.ListN.{length};
 ghost use Rattle.table.specs.Places.{tableBytes};
 ghost use Rattle.table.specs.Heading.{mpidAt, modeAt, entries, entryOf, isListed, modeOf};
 use crate::places;
+use crate::record::four_at;
 
 // The MPID of entry k.
 pub fn mpid_at(t: &[u8], k: usize) -> u64
     requires { ⌜ (length (now t) ≡ tableBytes) × (k < 8) ⌝ }
     ensures { λ r. ⌜ (r ≡ mpidAt (now (t .entry)) k) × (r < 4294967296) ⌝ }
 {
-    octets::le_at(t, places::MPIDS + 4 * k, 4)
+    four_at(t, places::MPIDS + 4 * k)
 }
 
 // The mode of entry k.

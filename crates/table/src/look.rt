@@ -29,7 +29,7 @@ struct Window {
 }
 
 // The turn of an order among those of its side.
-fn turn_of(next: u64, r: Order) -> u64
+pub fn turn_of(next: u64, r: Order) -> u64
     requires { ⌜ Timely next r ⌝ }
     ensures { λ x. ⌜ x ≡ turnOf next r ⌝ }
 {

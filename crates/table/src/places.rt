@@ -109,10 +109,8 @@ pub const PLACE: usize = 56;
 // The MPID, 4 bytes.
 pub const MPID: usize = 60;
 
-// The amounts that matching changes: the sum of quantity times level, 8 bytes, and where its upper half begins.
+// The amounts that matching changes: the sum of quantity times level, 8 bytes.
 pub const SUM: usize = 64;
-
-pub const SUM_HIGH: usize = SUM + 4;
 
 // Executed, decremented and canceled, 4 bytes each.
 pub const EXECUTED: usize = 72;

@@ -78,14 +78,13 @@ pub fn four_at(t: &[u8], p: usize) -> u64
     a + 256 * b + 65536 * c + 16777216 * d
 }
 
-// The sum of record i, by its two halves.
-fn sum_at(t: &[u8], i: usize) -> u64
-    requires { ⌜ (length (now t) ≡ tableBytes) × (i < 256) ⌝ }
-    ensures { λ r. ⌜ r ≡ orderAt (now (t .entry)) i .sum ⌝ }
+// The number whose eight bytes start at place p, by its two halves.
+pub fn eight_at(t: &[u8], p: usize) -> u64
+    requires { ⌜ p + 8 ≤ length (now t) ⌝ }
+    ensures { λ r. ⌜ r ≡ leAt 8 (now (t .entry)) p ⌝ }
 {
-    let b = places::RECORD * i;
-    let low = four_at(t, b + places::SUM);
-    let high = four_at(t, b + places::SUM_HIGH);
+    let low = four_at(t, p);
+    let high = four_at(t, p + 4);
     low + 4294967296 * high
 }
 
@@ -103,7 +102,7 @@ pub fn load(t: &[u8], i: usize) -> Order
         executed: four_at(t, b + places::EXECUTED),
         decremented: four_at(t, b + places::DECREMENTED),
         canceled: four_at(t, b + places::CANCELED),
-        sum: sum_at(t, i),
+        sum: eight_at(t, b + places::SUM),
         place: four_at(t, b + places::PLACE),
         mpid: four_at(t, b + places::MPID),
         minqty: four_at(t, b + places::MIN_QTY),

@@ -6,19 +6,20 @@ ghost use mathlib.Core.Path.{_≡_};
 ghost use Prim.Native.Nat.{_≤_, _<_};
 ghost use lib.ListN.{length};
 ghost use Rattle.table.specs.Places.{tableBytes};
-ghost use Rattle.ticket.specs.Tickets.{storedAt, orStoredAt, stampOn, shownOn, fillOn, rowOf, Ready};
+ghost use Rattle.ticket.specs.Tickets.{storedAt, orStoredAt, stampOn, shownOn, fillOn, Ready};
+ghost use Rattle.ticket.specs.Telling.{toldOf};
 ghost use Rattle.matching.specs.Matching.{who};
-ghost use Rattle.rows.specs.Rows.{padded};
 ghost use Rattle.rows.specs.Rows.{requested as Rows·requested, text as Rows·text};
 ghost use Rattle.rows.specs.Rows.{prevented as Rows·prevented, decremented as Rows·decremented, expired as Rows·expired};
 use matching::Event;
-use report::Field;
 use report::Place;
 use report::Value;
 use rows::Fill;
 use rows::Ground;
 use rows::Shown;
 use rows::Stamp;
+use rows::Told;
+use rows::telling;
 use table::places;
 
 // The message that causes a report: where its 52 stands, and its 41 (empty for none).
@@ -172,29 +173,24 @@ pub fn order_of(e: Event) -> u64
     }
 }
 
-// The row of an event, report number n, on the table after it.
-pub fn row_of(t: &[u8], n: u64, c: Cause, e: Event) -> [Field; 36]
-    requires { ⌜ Ready (now t) n e ⌝ }
-    ensures { λ r. ⌜ r ≡ padded (rowOf (now (t .entry)) n c e) ⌝ }
+// What makes the report of an event, number n, the kind it is, where o is its order, on the table after it.
+pub fn told_of(t: &[u8], n: u64, orig: Place, e: Event, i: usize, o: Shown) -> Told
+    requires { ⌜ Ready (now t) n e × (i ≡ who e) × (o ≡ shownOn (now t) (who e)) ⌝ }
+    ensures { λ r. ⌜ r ≡ toldOf (now (t .entry)) n orig e ⌝ }
 {
-    let time = c.time;
-    let orig = c.orig;
-    let s = stamp_on(t, n, time);
-    let i = order_of(e) as usize;
-    let o = shown_on(t, i);
     match e {
-        Event::Accepted { .. } => rows::accepted_row(s, o),
-        Event::Replaced { .. } => rows::replaced_row(s, o, requested(orig)),
-        Event::Withdrawn { .. } => rows::canceled_row(s, o, requested(orig)),
-        Event::Canceled { .. } => rows::canceled_row(s, o, prevented()),
-        Event::Decremented { .. } => rows::replaced_row(s, o, decremented(o)),
+        Event::Accepted { .. } => telling::accepted(),
+        Event::Replaced { .. } => telling::replaced(o, requested(orig)),
+        Event::Withdrawn { .. } => telling::canceled(requested(orig)),
+        Event::Canceled { .. } => telling::canceled(prevented()),
+        Event::Decremented { .. } => telling::replaced(o, decremented(o)),
         Event::Traded {
             other,
             quantity,
             level,
             ..
-        } => rows::trade_row(s, o, fill_on(t, n, i, other as usize, quantity, level)),
-        Event::Killed { .. } => rows::canceled_row(s, o, expired()),
-        Event::Expired { .. } => rows::canceled_row(s, o, expired()),
+        } => telling::traded(o, fill_on(t, n, i, other as usize, quantity, level)),
+        Event::Killed { .. } => telling::canceled(expired()),
+        Event::Expired { .. } => telling::canceled(expired()),
     }
 }

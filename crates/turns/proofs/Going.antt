@@ -2,20 +2,24 @@
 -- Run, test by test in the order of the refusals.
 use mathlib.Core.Path.{_≡_, refl, sym, ap, _∙_}
 use mathlib.Core.Bool.{Bool, true, false, not, _||_}
-use mathlib.Core.List.{List, _++_}
+use mathlib.Core.List.{List, _++_, append-nil}
 use Prim.Native.Nat.{ℕ, suc, _+_, _-_, _^_, _≤_, _<_}
 use native.Mathlib.Nat.{add-zero}
 use native.Mathlib.Omega.{arith}
 use lib.Dec.{eqb, ltb}
 use lib.ListN.{length, length-append, take, drop, length-take, length-drop}
-use borrow.Author.Tests.{lt-ltb, le-ltb}
+use borrow.Author.Tests.{lt-ltb, le-ltb, eq-eqb, eqb-true, eqb-false}
 use mir.Syntax.{w64}
 use mir.Val.{Fits}
 use Rattle.octets.specs.Octets.{put}
+use Rattle.octets.proofs.Bools.{split, or-l, neither-l, neither-r}
 use Rattle.octets.proofs.Places.{put-put, length-put}
 use Rattle.octets.proofs.Runs.{wrote-rest}
 use Rattle.decimal.specs.declared.Instrument.{Instrument}
+use Rattle.matching.specs.Matching.{partner, workAfter}
 use Rattle.table.specs.Heading.{nextOf, workOf}
+use Rattle.table.specs.Orders.{bookOf}
+use Rattle.table.specs.Changes.{missesNow, stepWork, stepped}
 use Rattle.table.specs.Market.{isMarketOf}
 use Rattle.table.specs.Facts.{Market}
 use Rattle.table.proofs.Instruments.{of-market}
@@ -28,7 +32,7 @@ use Rattle.calls.specs.Run.{stepReports, stops, still, oneMore, worked, ran}
 use Rattle.turns.specs.declared.events.Told.{Told}
 use Rattle.turns.specs.Turns.{Busy, Turned, Walked}
 use Rattle.turns.proofs.Joins.{joined-append}
-use Rattle.turns.proofs.Stepping.{step-next, step-short, step-count}
+use Rattle.turns.proofs.Stepping.{step-next, step-work, step-short, step-count}
 use Rattle.turns.proofs.Taking.{stops-still, goes-one, goes-busy, goes-room}
 
 -- from table t₀ and area₀, so many steps of the budget are taken, with so many reports in the bytes before at; the rest of the steps
@@ -173,6 +177,60 @@ spent-walked t₀ area₀ budget t area at reports taken g l =
       table = sym (rw z at (g .table));
       bytes-in = sym (rw z at (g .written));
     }
+
+-- ---- an order in work that meets nobody
+
+module _ (t area : List ℕ) (budget : ℕ) (f : Bool) (e : f ≡ stops t (length area)) where
+  -- no step of it is taken
+  none-worked : (eqb budget 0 || f) ≡ true → worked budget t (length area) ≡ still t
+  unfolding worked
+  none-worked h =
+      split (eqb budget 0) (λ z. rw (eqb-true budget 0 z)) (λ z. stops-still t (length area) budget (sym e ∙ (rw z at h)))
+
+  pub none-walked : (eqb budget 0 || f) ≡ true → Walked t area budget (answer.Ran 0 0 0) t area
+  unfolding joined put
+  none-walked h = let w = none-worked h in record { answer = rw w; table = rw w; bytes-in = rw w }
+
+  module _ (h : (eqb budget 0 || f) ≡ false) where
+    last-goes : stops t (length area) ≡ false
+    last-goes = sym e ∙ neither-r (eqb budget 0) f h
+
+    pub last-busy : Market t → Busy t
+    last-busy m = record { market = m; work = goes-busy t (length area) last-goes }
+
+    pub last-room : 1024 ≤ length area
+    last-room = goes-room t (length area) last-goes
+
+    -- one step is, and nothing is in work after it
+    module _ (m : Market t) (p : partner (bookOf t) (workOf t) ≡ 0) where
+      last-idle : workOf (stepped t) ≡ 0
+      unfolding stepWork workAfter
+      last-idle =
+          step-work t m (last-busy m .work)
+          ∙ rw p (split (missesNow t) (λ z. rw z) (λ z. rw z))
+
+      last-worked : worked budget t (length area) ≡ oneMore (stepReports t) (still (stepped t))
+      last-worked =
+          let b : budget ≡ suc (budget - 1) = omega (arith, eqb-false budget 0 (neither-l (eqb budget 0) f h)) in
+          let left : ℕ = length area - length (joined (stepReports t)) in
+          let s = stops-still (stepped t) left (budget - 1) (or-l (eqb (workOf (stepped t)) 0) (ltb left 1024) (eq-eqb (workOf (stepped t)) 0 last-idle)) in
+          ap (λ (k : ℕ). worked k t (length area)) b ∙ goes-one t (length area) (budget - 1) last-goes ∙ rw s
+
+      pub last-walked : (r : Told) (u written : List ℕ) → Turned t area r u written
+          → Walked t area budget (answer.Ran (r .bytes) (r .reports) 1) u written
+      last-walked r u written x =
+          let b : r .bytes ≡ length (joined (stepReports t)) = omega (arith, x .bytes-in .place) in
+          record {
+            answer = rw (last-worked, append-nil, b, x .count);
+            table = x .table ∙ rw last-worked;
+            bytes-in = x .bytes-in .bytes-in ∙ rw (last-worked, append-nil);
+          }
+
+pub alone-partner : (t : List ℕ) (f : Bool) → (f ≡ true → partner (bookOf t) (workOf t) ≡ 0) → f ≡ true → partner (bookOf t) (workOf t) ≡ 0
+alone-partner t f g h = g h
+
+pub last-partner : (t : List ℕ) → partner (bookOf t) (workOf t) ≡ 0 → 0 ≡ partner (bookOf t) (workOf t)
+last-partner t e = sym e
 
 -- ---- Run
 

@@ -6,8 +6,8 @@ use mathlib.Core.List.{List, [], _∷_}
 use Prim.Native.Nat.{ℕ, _+_, _≤_, _<_}
 use native.Mathlib.Omega.{arith}
 use lib.Dec.{eqb, ltb, lit≤}
-use lib.ListN.{length}
-use borrow.Author.Tests.{ne-eqb, eqb-true, eqb-false}
+use lib.ListN.{length, set}
+use borrow.Author.Tests.{ltb-true, ne-eqb, eqb-true, eqb-false}
 use mir.Syntax.{w64}
 use mir.Val.{Fits as FitsIn}
 use Rattle.octets.specs.Octets.{bytesOf, textBytes}
@@ -19,7 +19,7 @@ use Rattle.matching.specs.declared.Order.{Order}
 use Rattle.matching.specs.declared.Event.{Event}
 use Rattle.matching.specs.declared.Outcome.{Outcome}
 use Rattle.matching.specs.declared.Outcome.the-variants.{Kills}
-use Rattle.matching.specs.Matching.{at, openOf, isOpen, best, partner, meeting, ending, outcome, causes, happens, after, bookAfter, workAfter, minimumOf, wouldTrade, misses, decidedAfter}
+use Rattle.matching.specs.Matching.{at, openOf, isOpen, partner, meeting, ending, outcome, causes, happens, after, bookAfter, workAfter, minimumOf, wouldTrade, misses, decidedAfter}
 use Rattle.matching.specs.Held.{In, Covered, Readies}
 use Rattle.matching.specs.Happens.{Fits}
 use Rattle.matching.proofs.Events.{play-minimum}
@@ -33,6 +33,7 @@ use Rattle.table.specs.Orders.{orderAt, filled, bookOf, applied}
 use Rattle.table.specs.Best.{bookRow, putBest}
 use Rattle.table.specs.Facts.{Market}
 use Rattle.table.specs.Looks.{Lookable}
+use Rattle.table.specs.Faced.{Ranked, First, Facing}
 use Rattle.table.specs.Changes.{played, missesNow, stepEvents, stepWork, numbered, stepped}
 use Rattle.table.proofs.Same.{Same, same-in, same-then, put-below, put-above, next-same, work-same, mode-of-same, filled-few}
 use Rattle.table.proofs.Stores.{next-got, work-got, decided-got}
@@ -40,6 +41,7 @@ use Rattle.table.proofs.Books.{length-book, at-book}
 use Rattle.table.proofs.Frames.{framed-long}
 use Rattle.table.proofs.Applied.{AllMove, Played, all-played, fits-move, framed-applied, book-applied, book-next, book-work, book-decided, book-best}
 use Rattle.table.proofs.Bests.{length-book-row}
+use Rattle.table.proofs.Faced.{market-placed, market-few, first-best, facing-after}
 use Rattle.ticket.proofs.Running.{step-legible-first, step-legible-second}
 use Rattle.calls.specs.Told.{joined}
 use Rattle.calls.specs.Run.{stepReports}
@@ -246,9 +248,12 @@ module _ (t : List ℕ) (y : Busy t) where
     noted-after d e = e ∙ rw worker
 
     module _ (f : Bool) (g : f ≡ isOpen o) where
-      pub partner-open : (n r : ℕ) → f ≡ true → n ≡ filled t → r ≡ best (bookOf t) o n → r ≡ partner (bookOf t) (workOf t)
+      pub partner-open : (turns firsts : List ℕ) (m r : ℕ) → f ≡ true → Facing (bookOf t) (workOf t) turns firsts m → First turns r
+          → r ≡ partner (bookOf t) (workOf t)
       unfolding partner
-      partner-open n r h e q = q ∙ rw (worker, ← g, h, length-book t, e)
+      partner-open turns firsts m r h q k =
+          let l : isOpen (at (bookOf t) (workOf t)) ≡ true = rw worker (sym g ∙ h) in
+          first-best (bookOf t) (workOf t) m turns firsts (market-placed t (y .market)) (market-few t) q (ltb-true 0 _ l) r k ∙ rw l
 
       pub partner-shut : f ≡ false → 0 ≡ partner (bookOf t) (workOf t)
       unfolding partner
@@ -375,6 +380,15 @@ module _ (t : List ℕ) (y : Busy t) where
 
       pub step-turned : (v : List ℕ) → v ≡ finished u (n + x .reports) (p .ends) (p .decided) → Turned t out x v area
       step-turned v z = record { table = z ∙ finished-is; bytes-in = written; count = counted ∙ sym step-count }
+
+-- whom the order in work meets after a step
+pub step-facing : {t out area v turns firsts after ranks : List ℕ} {x : Told} {m r : ℕ} → Busy t → r ≡ partner (bookOf t) (workOf t) → Turned t out x v area
+    → Facing (bookOf t) (workOf t) turns firsts m → after ≡ cond (eqb r 0) turns (set turns r 2_000_000_000_000_000_000)
+    → Ranked after ranks m → Facing (bookOf v) (workOf v) after ranks m
+unfolding stepWork
+step-facing {t} {turns = turns} {firsts = firsts} {after = after} {ranks = ranks} {m = m} {r = r} y h d g s q =
+    rw (d .table, step-book t (y .market) (y .work), step-work t (y .market) (y .work))
+    (facing-after (modeOf t) (bookOf t) (workOf t) m turns firsts (in-work t (y .market) (y .work)) (market-few t) g r h after ranks s (missesNow t) q)
 
 -- ---- the end of a step
 

@@ -12,6 +12,7 @@ ghost use Rattle.table.specs.Places.{tableBytes};
 ghost use Rattle.table.specs.Heading.{workOf, modeOf};
 ghost use Rattle.table.specs.Orders.{orderAt, bookOf};
 ghost use Rattle.table.specs.Changes.{missesNow};
+ghost use Rattle.table.specs.Faced.{Facing};
 ghost use Rattle.turns.specs.Turns.{Tellings, Reported, Busy, Planned, finished, Turned};
 use crate::events::Told;
 use crate::events::one;
@@ -22,15 +23,16 @@ use matching::Outcome;
 use matching::Prevention;
 use matching::matched;
 use table::best::put_best;
-use table::book::best;
-use table::book::filled;
 use table::entries::mode_of;
+use table::facing::first;
+use table::facing::pass;
 use table::heading::decided;
 use table::heading::end_work;
 use table::heading::next;
 use table::heading::put_decided;
 use table::heading::put_next;
 use table::heading::work;
+use table::ids::count;
 use table::look::would_trade;
 use table::record::load;
 
@@ -146,13 +148,14 @@ fn happen(table: &mut [u8], out: &mut [u8], n: u64, w: u64, r: u64, o: Outcome) 
     }
 }
 
-// The order that o, the order in work, is matched with; 0 if it has nothing open or meets none.
-fn partner_of(t: &[u8], o: Order) -> usize
-    requires { ⌜ Busy (now t) × (o ≡ orderAt (now t) (workOf (now t))) ⌝ }
+// The order that the order in work is matched with, by whom it meets; 0 if it has nothing open or meets none.
+fn partner_of(t: &[u8], turns: &[u64; 256], firsts: &[usize; 16], m: usize) -> usize
+    requires { ⌜ Busy (now t) × Facing (bookOf (now t)) (workOf (now t)) (now turns) (now firsts) m ⌝ }
     ensures { λ r. ⌜ (r ≡ partner (bookOf (now (t .entry))) (workOf (now (t .entry)))) × (r ≤ 255) ⌝ }
 {
+    let o = load(t, work(t));
     if o.is_open() {
-        return best(t, filled(t), o);
+        return first(turns, firsts, m);
     }
     0
 }
@@ -169,7 +172,7 @@ fn misses(t: &[u8], o: Order, w: usize) -> bool
     if decided(t) != 0 {
         return false;
     }
-    would_trade(t, filled(t), w, mode_of(t, o.mpid)) < least
+    would_trade(t, count(t), w, mode_of(t, o.mpid)) < least
 }
 
 // The decision to be noted after a step of o: 1 if it has a minimum.
@@ -197,15 +200,14 @@ fn comes_to(t: &[u8], o: Order, r: usize, missed: bool) -> Outcome
     matched(o, load(t, r), mode_of(t, o.mpid))
 }
 
-// What the next step comes to.
-fn planned(t: &[u8]) -> Plan
-    requires { ⌜ Busy (now t) ⌝ }
+// What the next step comes to, of an order that is matched with r.
+fn planned(t: &[u8], r: usize) -> Plan
+    requires { ⌜ Busy (now t) × (r ≡ partner (bookOf (now t)) (workOf (now t))) ⌝ }
     ensures { λ p. ⌜ Planned (now (t .entry)) p ⌝ }
 {
     let w = work(t);
     let o = load(t, w);
     let missed = misses(t, o, w);
-    let r = partner_of(t, o);
     let came = comes_to(t, o, r, missed);
     let decided = noted(o);
     Plan {
@@ -231,15 +233,32 @@ fn finish(table: &mut [u8], n: u64, ends: bool, d: u8)
     }
 }
 
-// One step of the order in work; its reports start where out does.
-pub fn step(table: &mut [u8], out: &mut [u8]) -> Told
-    requires { ⌜ Busy (now table) × (1024 ≤ length (now out)) ⌝ }
+// One step of the order in work, which is matched with r; its reports start where out does.
+pub fn step_with(table: &mut [u8], out: &mut [u8], r: usize) -> Told
+    requires { ⌜ Busy (now table) × (1024 ≤ length (now out)) × (r ≡ partner (bookOf (now table)) (workOf (now table))) ⌝ }
     ensures { λ x. ⌜ Turned (now (table .entry)) (now (out .entry)) x (now (table .exit)) (now (out .exit)) ⌝ }
 {
-    let p = planned(table);
+    let p = planned(table, r);
     let n = next(table);
     let came = p.came;
     let told = happen(table, out, n, p.work, p.other, came);
     finish(table, n + told.reports, p.ends, p.decided);
+    told
+}
+
+// One step of the order in work, which meets those that are noted; its reports start where out does. Whom it meets afterwards is noted.
+pub fn step_among(
+    table: &mut [u8],
+    out: &mut [u8],
+    turns: &mut [u64; 256],
+    firsts: &mut [usize; 16],
+    m: usize,
+) -> Told
+    requires { ⌜ Busy (now table) × (1024 ≤ length (now out)) × Facing (bookOf (now table)) (workOf (now table)) (now turns) (now firsts) m ⌝ }
+    ensures { λ x. ⌜ Turned (now (table .entry)) (now (out .entry)) x (now (table .exit)) (now (out .exit)) × Facing (bookOf (now (table .exit))) (workOf (now (table .exit))) (now (turns .exit)) (now (firsts .exit)) m ⌝ }
+{
+    let r = partner_of(table, turns, firsts, m);
+    let told = step_with(table, out, r);
+    pass(turns, firsts, m, r);
     told
 }

@@ -1,14 +1,11 @@
 -- `audit::has_best` meets its contract: the bytes of the best levels are compared with zeros, or with the row of the book.
-use Rattle.audit.proofs.Walked.{best-busy, best-idle}
+use Rattle.audit.proofs.Walked.{row-busy, row-idle}
 use borrow.Author.Needs.{needs}
 use Rattle.audit.proofs.book.has_best.Statement.{statement}
 use Rattle.audit.proofs.book.has_best.Tie as tie
 
 part-at-requires : tie.Need-part-at-requires
 part-at-requires c κs = search needs
-
-work-requires : tie.Need-work-requires
-work-requires c κs = search needs
 
 slice-aggregate-same : tie.Need-slice-aggregate-same
 slice-aggregate-same c = search needs
@@ -17,13 +14,7 @@ same-requires : tie.Need-same-requires
 same-requires c κs = search needs
 
 returns : tie.Need-returns
-returns c = search (needs, best-busy)
-
-best-of-requires : tie.Need-best-of-requires
-best-of-requires c κs = search needs
-
-best-of-requires-2 : tie.Need-best-of-requires-2
-best-of-requires-2 c κs = search needs
+returns c = search (needs, row-busy)
 
 slice-aggregate-write-best : tie.Need-slice-aggregate-write-best
 slice-aggregate-write-best c = search needs
@@ -38,19 +29,16 @@ same-requires-2 : tie.Need-same-requires-2
 same-requires-2 c κs = search needs
 
 returns-2 : tie.Need-returns-2
-returns-2 c = search (needs, best-idle)
+returns-2 c = search (needs, row-idle)
 
 pub has-best-spec : {M : Type 1} → statement M
 has-best-spec =
     tie.close
     (tie.spec
     part-at-requires
-    work-requires
     slice-aggregate-same
     same-requires
     returns
-    best-of-requires
-    best-of-requires-2
     slice-aggregate-write-best
     write-best-requires
     slice-aggregate-same-2

@@ -16,23 +16,11 @@ returns c = search (needs, text-short)
 returns-2 : tie.Need-returns-2
 returns-2 c = search (needs, text-long)
 
-add-q : tie.Need-add-q
-add-q c = search needs
+add-is-filled : tie.Need-add-is-filled
+add-is-filled c = search needs
 
-add-q-2 : tie.Need-add-q-2
-add-q-2 c = search needs
-
-text-at-requires : tie.Need-text-at-requires
-text-at-requires c κs = search needs
-
-all-within-requires : tie.Need-all-within-requires
-all-within-requires c κs = search needs
-
-part-at-requires : tie.Need-part-at-requires
-part-at-requires c κs = search needs
-
-all-zero-requires : tie.Need-all-zero-requires
-all-zero-requires c κs = search needs
+is-filled-requires : tie.Need-is-filled-requires
+is-filled-requires c κs = search needs
 
 returns-3 : tie.Need-returns-3
 returns-3 c = search (needs, text-whole)
@@ -45,10 +33,6 @@ is-text-spec =
     wide-requires
     returns
     returns-2
-    add-q
-    add-q-2
-    text-at-requires
-    all-within-requires
-    part-at-requires
-    all-zero-requires
+    add-is-filled
+    is-filled-requires
     returns-3)

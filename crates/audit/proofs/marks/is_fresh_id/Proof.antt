@@ -8,37 +8,41 @@ use Rattle.octets.specs.Octets.{sameBytes}
 use Rattle.octets.proofs.Ranges.{Passed, passed-none, passed-more, passed-stop, passed-end}
 use Rattle.table.specs.Orders.{clOrdIdAt}
 use Rattle.table.specs.Market.{isFreshId}
-use Rattle.audit.proofs.Checked.{not-same-texts, not-other-texts}
+use Rattle.audit.proofs.Marked.{id-old, id-other}
 use Rattle.audit.proofs.marks.is_fresh_id.Statement.{statement}
 use Rattle.audit.proofs.marks.is_fresh_id.Tie as tie
 
 abbrev Inv-loop : tie.InvT-loop
-Inv-loop t j id i₀ i = Passed (λ k. not (sameBytes (clOrdIdAt t (k + 1)) (clOrdIdAt t (j + 1)))) j i
+Inv-loop t n j x i₀ i = Passed (λ k. not (sameBytes (clOrdIdAt t (k + 1)) (clOrdIdAt t (j + 1)))) j i
 
 abbrev μ-loop : tie.MeasureT-loop
-μ-loop t j id i₀ i = j - i
+μ-loop t n j x i₀ i = j - i
 
-add-clordid : tie.Need-add-clordid Inv-loop μ-loop
-add-clordid c = omega arith
+add-id-at : tie.Need-add-id-at Inv-loop μ-loop
+add-id-at c = omega arith
 
-clordid-requires : tie.Need-clordid-requires Inv-loop μ-loop
-clordid-requires c κs = omega arith
+id-at-requires : tie.Need-id-at-requires Inv-loop μ-loop
+id-at-requires c κs = omega arith
 
 loop-holds : tie.Need-loop-holds Inv-loop μ-loop
 loop-holds c = passed-none
 
-add-clordid-2 : tie.Need-add-clordid-2 Inv-loop μ-loop
-add-clordid-2 c = omega arith
+add-id-at-2 : tie.Need-add-id-at-2 Inv-loop μ-loop
+add-id-at-2 c = omega arith
 
-clordid-requires-2 : tie.Need-clordid-requires-2 Inv-loop μ-loop
-clordid-requires-2 c κs = omega arith
+id-at-requires-2 : tie.Need-id-at-requires-2 Inv-loop μ-loop
+id-at-requires-2 c κs = omega arith
 
-same-requires : tie.Need-same-requires Inv-loop μ-loop
-same-requires c κs = search needs
+same-id-requires : tie.Need-same-id-requires Inv-loop μ-loop
+same-id-requires c κs = search needs
 
 returns : tie.Need-returns Inv-loop μ-loop
 unfolding isFreshId
-returns c = sym (passed-stop (c .before .before .before .before .loop .inv) (c .before .before .before .loop-test .taken) (not-same-texts _ _ _ _ _ (c .before .before .clordid2 .ensures) (c .before .before .before .before .before .clordid .ensures) (c .before .same .ensures) (c .if1 .taken)))
+returns c =
+    let k = c .before .before .before .before .before .before in
+    sym (passed-stop (c .before .before .before .before .loop .inv) (c .before .before .before .loop-test .taken)
+    (id-old _ (k .before .pre .0) _ (k .before .pre .1) (k .before .pre .2) (k .before .pre .3) (λ j. k .shared-slice-known .given j .fits) _ _ _ _ _ (k .before .pre .4)
+    (c .before .before .before .loop-test .taken) (c .before .before .id-at2 .ensures) (c .before .before .before .before .before .id-at .ensures) (c .before .same-id .ensures) (c .if1 .taken)))
 
 add-i : tie.Need-add-i Inv-loop μ-loop
 add-i c = omega arith
@@ -47,7 +51,11 @@ loop-less : tie.Need-loop-less Inv-loop μ-loop
 loop-less c = omega arith
 
 loop-again : tie.Need-loop-again Inv-loop μ-loop
-loop-again c = passed-more (c .before .before .before .before .loop .inv) (c .before .before .before .loop-test .taken) (not-other-texts _ _ _ _ _ (c .before .before .clordid2 .ensures) (c .before .before .before .before .before .clordid .ensures) (c .before .same .ensures) (c .if1 .left))
+loop-again c =
+    let k = c .before .before .before .before .before .before in
+    passed-more (c .before .before .before .before .loop .inv) (c .before .before .before .loop-test .taken)
+    (id-other _ (k .before .pre .0) _ (k .before .pre .1) (k .before .pre .2) (k .before .pre .3) (λ j. k .shared-slice-known .given j .fits) _ _ _ _ _ (k .before .pre .4)
+    (c .before .before .before .loop-test .taken) (c .before .before .id-at2 .ensures) (c .before .before .before .before .before .id-at .ensures) (c .before .same-id .ensures) (c .if1 .left))
 
 returns-2 : tie.Need-returns-2 Inv-loop μ-loop
 unfolding isFreshId
@@ -59,12 +67,12 @@ is-fresh-id-spec =
     (tie.spec
     Inv-loop
     μ-loop
-    add-clordid
-    clordid-requires
+    add-id-at
+    id-at-requires
     loop-holds
-    add-clordid-2
-    clordid-requires-2
-    same-requires
+    add-id-at-2
+    id-at-requires-2
+    same-id-requires
     returns
     add-i
     loop-less

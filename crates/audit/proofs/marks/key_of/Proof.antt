@@ -1,57 +1,38 @@
--- `audit::key_of` meets its contract: the bytes passed are in the number.
-use Prim.Native.Nat.{_-_}
-use native.Mathlib.Omega.{arith}
+-- `audit::key_of` meets its contract.
+use Rattle.audit.proofs.Rooms.{key-fits, key-is}
 use borrow.Author.Needs.{needs}
-use lib.ListN.{length}
-use Rattle.audit.proofs.Marked.{Keyed, keyed-none, keyed-more, keyed-end}
 use Rattle.audit.proofs.marks.key_of.Statement.{statement}
 use Rattle.audit.proofs.marks.key_of.Tie as tie
 
-abbrev Inv-loop : tie.InvT-loop
-Inv-loop s h₀ i₀ h i = Keyed s h i
+wrapping-add-u64-requires : tie.Need-wrapping-add-u64-requires
+wrapping-add-u64-requires c κs = search needs
 
-abbrev μ-loop : tie.MeasureT-loop
-μ-loop s h₀ i₀ h i = length s - i
+wrapping-add-u64-requires-2 : tie.Need-wrapping-add-u64-requires-2
+wrapping-add-u64-requires-2 c κs = search needs
 
-loop-holds : tie.Need-loop-holds Inv-loop μ-loop
-loop-holds c = keyed-none
+wrapping-add-u64-requires-3 : tie.Need-wrapping-add-u64-requires-3
+wrapping-add-u64-requires-3 c κs = search needs
 
-mul-h : tie.Need-mul-h Inv-loop μ-loop
-mul-h c = omega arith
+mul-result : tie.Need-mul-result
+mul-result c = search needs
 
-shared-slice-read-wide : tie.Need-shared-slice-read-wide Inv-loop μ-loop
-shared-slice-read-wide c = omega arith
+mul-result-2 : tie.Need-mul-result-2
+mul-result-2 c = search needs
 
-wide-requires : tie.Need-wide-requires Inv-loop μ-loop
-wide-requires c κs = search needs
+add-result : tie.Need-add-result
+add-result c = search (needs, key-fits)
 
-add-h : tie.Need-add-h Inv-loop μ-loop
-add-h c = omega arith
-
-add-i : tie.Need-add-i Inv-loop μ-loop
-add-i c = omega arith
-
-loop-less : tie.Need-loop-less Inv-loop μ-loop
-loop-less c = omega arith
-
-loop-again : tie.Need-loop-again Inv-loop μ-loop
-loop-again c = keyed-more _ (c .before .before .before .loop .inv) (c .before .before .loop-test .taken) (c .wide .ensures .0)
-
-returns : tie.Need-returns Inv-loop μ-loop
-returns c = (keyed-end (c .before .loop .inv) (c .loop-test .left), omega arith)
+returns : tie.Need-returns
+returns c = key-is _ _ _ _ (c .before .before .wrapping-add-u64 .ensures) (c .before .wrapping-add-u642 .ensures) (c .wrapping-add-u643 .ensures)
 
 pub key-of-spec : {M : Type 1} → statement M
 key-of-spec =
     tie.close
     (tie.spec
-    Inv-loop
-    μ-loop
-    loop-holds
-    mul-h
-    shared-slice-read-wide
-    wide-requires
-    add-h
-    add-i
-    loop-less
-    loop-again
+    wrapping-add-u64-requires
+    wrapping-add-u64-requires-2
+    wrapping-add-u64-requires-3
+    mul-result
+    mul-result-2
+    add-result
     returns)

@@ -10,16 +10,28 @@ use Rattle.audit.proofs.sound.has_orders.Statement.{statement}
 use Rattle.audit.proofs.sound.has_orders.Tie as tie
 
 abbrev Inv-loop : tie.InvT-loop
-Inv-loop q t n m top k₀ k = Passed (λ j. isOrder t (j + 1)) m k
+Inv-loop q t n m top low high k₀ k = Passed (λ j. isOrder t (j + 1)) m k
 
 abbrev μ-loop : tie.MeasureT-loop
-μ-loop q t n m top k₀ k = m - k
+μ-loop q t n m top low high k₀ k = m - k
 
 highest-requires : tie.Need-highest-requires Inv-loop μ-loop
 highest-requires c κs = search needs
 
+bounds-of-requires : tie.Need-bounds-of-requires Inv-loop μ-loop
+bounds-of-requires c κs = search needs
+
+bounds-of-requires-2 : tie.Need-bounds-of-requires-2 Inv-loop μ-loop
+bounds-of-requires-2 c κs = search needs
+
 loop-holds : tie.Need-loop-holds Inv-loop μ-loop
 loop-holds c = passed-none
+
+slice-aggregate-is-order : tie.Need-slice-aggregate-is-order Inv-loop μ-loop
+slice-aggregate-is-order c = search needs
+
+slice-aggregate-is-order-2 : tie.Need-slice-aggregate-is-order-2 Inv-loop μ-loop
+slice-aggregate-is-order-2 c = search needs
 
 add-is-order : tie.Need-add-is-order Inv-loop μ-loop
 add-is-order c = omega arith
@@ -29,7 +41,9 @@ is-order-requires c κs = search needs
 
 returns : tie.Need-returns Inv-loop μ-loop
 unfolding hasOrders
-returns c = rw (← c .before .before .before .before .before .before .pre .4) (sym (passed-stop (c .before .before .before .loop .inv) (c .before .before .loop-test .taken) (sym (c .before .is-order .ensures) ∙ not-true _ (c .if1 .taken))))
+returns c =
+    rw (← c .before .before .before .before .before .before .before .before .before .before .pre .4)
+    (sym (passed-stop (c .before .before .before .before .before .loop .inv) (c .before .before .before .before .loop-test .taken) (sym (c .before .is-order .ensures) ∙ not-true _ (c .if1 .taken))))
 
 add-k : tie.Need-add-k Inv-loop μ-loop
 add-k c = omega arith
@@ -38,11 +52,11 @@ loop-less : tie.Need-loop-less Inv-loop μ-loop
 loop-less c = omega arith
 
 loop-again : tie.Need-loop-again Inv-loop μ-loop
-loop-again c = passed-more (c .before .before .before .loop .inv) (c .before .before .loop-test .taken) (sym (c .before .is-order .ensures) ∙ not-false _ (c .if1 .left))
+loop-again c = passed-more (c .before .before .before .before .before .loop .inv) (c .before .before .before .before .loop-test .taken) (sym (c .before .is-order .ensures) ∙ not-false _ (c .if1 .left))
 
 returns-2 : tie.Need-returns-2 Inv-loop μ-loop
 unfolding hasOrders
-returns-2 c = rw (← c .before .before .before .before .pre .4) (sym (passed-end (c .before .loop .inv) (c .loop-test .left)))
+returns-2 c = rw (← c .before .before .before .before .before .before .pre .4) (sym (passed-end (c .before .loop .inv) (c .loop-test .left)))
 
 pub has-orders-spec : {M : Type 1} → statement M
 has-orders-spec =
@@ -51,7 +65,11 @@ has-orders-spec =
     Inv-loop
     μ-loop
     highest-requires
+    bounds-of-requires
+    bounds-of-requires-2
     loop-holds
+    slice-aggregate-is-order
+    slice-aggregate-is-order-2
     add-is-order
     is-order-requires
     returns

@@ -1,5 +1,5 @@
 -- `audit::is_account` meets its contract.
-use Rattle.audit.proofs.Checked.{account-none}
+use Rattle.audit.proofs.Checked.{text-empty}
 use borrow.Author.Needs.{needs}
 use Rattle.audit.proofs.sound.is_account.Statement.{statement}
 use Rattle.audit.proofs.sound.is_account.Tie as tie
@@ -10,26 +10,14 @@ shared-slice-read-wide c = search needs
 wide-requires : tie.Need-wide-requires
 wide-requires c κs = search needs
 
-add-zeros-at : tie.Need-add-zeros-at
-add-zeros-at c = search needs
+add-is-empty : tie.Need-add-is-empty
+add-is-empty c = search needs
 
-zeros-at-requires : tie.Need-zeros-at-requires
-zeros-at-requires c κs = search needs
-
-add-zeros-at-2 : tie.Need-add-zeros-at-2
-add-zeros-at-2 c = search needs
-
-zeros-at-requires-2 : tie.Need-zeros-at-requires-2
-zeros-at-requires-2 c κs = search needs
-
-add-zeros-at-3 : tie.Need-add-zeros-at-3
-add-zeros-at-3 c = search needs
-
-zeros-at-requires-3 : tie.Need-zeros-at-requires-3
-zeros-at-requires-3 c κs = search needs
+is-empty-requires : tie.Need-is-empty-requires
+is-empty-requires c κs = search needs
 
 returns : tie.Need-returns
-returns c = search (needs, account-none)
+returns c = search (needs, text-empty)
 
 is-text-requires : tie.Need-is-text-requires
 is-text-requires c κs = search needs
@@ -43,12 +31,8 @@ is-account-spec =
     (tie.spec
     shared-slice-read-wide
     wide-requires
-    add-zeros-at
-    zeros-at-requires
-    add-zeros-at-2
-    zeros-at-requires-2
-    add-zeros-at-3
-    zeros-at-requires-3
+    add-is-empty
+    is-empty-requires
     returns
     is-text-requires
     returns-2)

@@ -20,13 +20,10 @@ decided-requires c κs = search needs
 has-decision-requires : tie.Need-has-decision-requires
 has-decision-requires c κs = search needs
 
-has-best-requires : tie.Need-has-best-requires
-has-best-requires c κs = search needs
-
 returns : tie.Need-returns
 returns c = search (needs, book-with)
 
 pub has-book-spec : {M : Type 1} → statement M
 has-book-spec =
     tie.close
-    (tie.spec work-requires next-requires is-book-requires decided-requires has-decision-requires has-best-requires returns)
+    (tie.spec work-requires next-requires is-book-requires decided-requires has-decision-requires returns)

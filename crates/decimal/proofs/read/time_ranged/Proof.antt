@@ -1,23 +1,24 @@
 -- The five ranges.
 use Rattle.decimal.specs.Reading.{timeRanged}
+use Rattle.decimal.proofs.Times.{shaped-far, shaped-month, shaped-day, shaped-hour, shaped-minute, shaped-second}
 use borrow.Author.Needs.{needs}
 use Rattle.decimal.proofs.read.time_ranged.Statement.{statement}
 use Rattle.decimal.proofs.read.time_ranged.Tie as tie
 
 two-at-requires : tie.Need-two-at-requires
-two-at-requires c κs = search needs
+two-at-requires c κs = (search (needs, shaped-far), search (needs, shaped-month))
 
 two-at-requires-2 : tie.Need-two-at-requires-2
-two-at-requires-2 c κs = search needs
+two-at-requires-2 c κs = (search (needs, shaped-far), search (needs, shaped-day))
 
 two-at-requires-3 : tie.Need-two-at-requires-3
-two-at-requires-3 c κs = search needs
+two-at-requires-3 c κs = (search (needs, shaped-far), search (needs, shaped-hour))
 
 two-at-requires-4 : tie.Need-two-at-requires-4
-two-at-requires-4 c κs = search needs
+two-at-requires-4 c κs = (search (needs, shaped-far), search (needs, shaped-minute))
 
 two-at-requires-5 : tie.Need-two-at-requires-5
-two-at-requires-5 c κs = search needs
+two-at-requires-5 c κs = (search (needs, shaped-far), search (needs, shaped-second))
 
 returns : tie.Need-returns
 unfolding timeRanged

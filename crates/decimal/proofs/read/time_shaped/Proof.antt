@@ -1,63 +1,47 @@
--- The digits and marks of a time.
-use Rattle.decimal.specs.Reading.{timeShaped}
+-- The digits and marks of a time: each byte is between the least and the most of its place.
+use mathlib.Core.Path.{_∙_}
+use Rattle.decimal.proofs.Times.{shape-plain, shape-millis, shape-none}
 use borrow.Author.Needs.{needs}
 use Rattle.decimal.proofs.read.time_shaped.Statement.{statement}
 use Rattle.decimal.proofs.read.time_shaped.Tie as tie
 
-is-time-length-requires : tie.Need-is-time-length-requires
-is-time-length-requires c κs = search needs
+slice-aggregate-between : tie.Need-slice-aggregate-between
+slice-aggregate-between c = search needs
 
-two-at-requires : tie.Need-two-at-requires
-two-at-requires c κs = search needs
+slice-aggregate-between-2 : tie.Need-slice-aggregate-between-2
+slice-aggregate-between-2 c = search needs
 
-two-at-requires-2 : tie.Need-two-at-requires-2
-two-at-requires-2 c κs = search needs
-
-two-at-requires-3 : tie.Need-two-at-requires-3
-two-at-requires-3 c κs = search needs
-
-two-at-requires-4 : tie.Need-two-at-requires-4
-two-at-requires-4 c κs = search needs
-
-byte-at-requires : tie.Need-byte-at-requires
-byte-at-requires c κs = search needs
-
-two-at-requires-5 : tie.Need-two-at-requires-5
-two-at-requires-5 c κs = search needs
-
-byte-at-requires-2 : tie.Need-byte-at-requires-2
-byte-at-requires-2 c κs = search needs
-
-two-at-requires-6 : tie.Need-two-at-requires-6
-two-at-requires-6 c κs = search needs
-
-byte-at-requires-3 : tie.Need-byte-at-requires-3
-byte-at-requires-3 c κs = search needs
-
-two-at-requires-7 : tie.Need-two-at-requires-7
-two-at-requires-7 c κs = search needs
-
-millis-shaped-requires : tie.Need-millis-shaped-requires
-millis-shaped-requires c κs = search needs
+between-requires : tie.Need-between-requires
+between-requires c κs = search needs
 
 returns : tie.Need-returns
-unfolding timeShaped
-returns c = cc
+returns c = c .between .ensures ∙ shape-plain _ (c .before .before .before .if1 .taken)
+
+slice-aggregate-between-3 : tie.Need-slice-aggregate-between-3
+slice-aggregate-between-3 c = search needs
+
+slice-aggregate-between-4 : tie.Need-slice-aggregate-between-4
+slice-aggregate-between-4 c = search needs
+
+between-requires-2 : tie.Need-between-requires-2
+between-requires-2 c κs = search needs
+
+returns-2 : tie.Need-returns-2
+returns-2 c = c .between2 .ensures ∙ shape-millis _ (c .before .before .before .if2 .taken)
+
+returns-3 : tie.Need-returns-3
+returns-3 c = search (needs, shape-none)
 
 pub time-shaped-spec : {M : Type 1} → statement M
 time-shaped-spec =
     tie.close
     (tie.spec
-    is-time-length-requires
-    two-at-requires
-    two-at-requires-2
-    two-at-requires-3
-    two-at-requires-4
-    byte-at-requires
-    two-at-requires-5
-    byte-at-requires-2
-    two-at-requires-6
-    byte-at-requires-3
-    two-at-requires-7
-    millis-shaped-requires
-    returns)
+    slice-aggregate-between
+    slice-aggregate-between-2
+    between-requires
+    returns
+    slice-aggregate-between-3
+    slice-aggregate-between-4
+    between-requires-2
+    returns-2
+    returns-3)

@@ -18,14 +18,20 @@ shown-row-requires c κs = search needs
 loop-holds : tie.Need-loop-holds Inv-loop μ-loop
 loop-holds c = weave-first _ _ _ _ (search needs)
 
+mul-first : tie.Need-mul-first Inv-loop μ-loop
+mul-first c = search needs
+
+array-copy-out-first : tie.Need-array-copy-out-first Inv-loop μ-loop
+array-copy-out-first c = search needs
+
+add-i : tie.Need-add-i Inv-loop μ-loop
+add-i c = search needs
+
 mul-field : tie.Need-mul-field Inv-loop μ-loop
 mul-field c = search needs
 
 array-copy-out-field : tie.Need-array-copy-out-field Inv-loop μ-loop
 array-copy-out-field c = search needs
-
-add-i : tie.Need-add-i Inv-loop μ-loop
-add-i c = search needs
 
 mul-row : tie.Need-mul-row Inv-loop μ-loop
 mul-row c = search needs
@@ -37,10 +43,16 @@ loop-less : tie.Need-loop-less Inv-loop μ-loop
 loop-less c = search needs
 
 loop-again : tie.Need-loop-again Inv-loop μ-loop
-loop-again c = weave-behind _ _ _ _ _ _ _ _ (c .before .before .before .loop .inv) (c .before .before .loop-test .taken) _ (c .if1 .taken)
+loop-again c = weave-behind _ _ _ _ _ _ _ _ (c .before .before .before .before .loop .inv) (c .before .before .before .loop-test .taken) _ (c .before .if1 .taken)
 
 is-new-requires : tie.Need-is-new-requires Inv-loop μ-loop
 is-new-requires c κs = search needs
+
+mul-field-2 : tie.Need-mul-field-2 Inv-loop μ-loop
+mul-field-2 c = search needs
+
+array-copy-out-field-2 : tie.Need-array-copy-out-field-2 Inv-loop μ-loop
+array-copy-out-field-2 c = search needs
 
 copy-field-requires : tie.Need-copy-field-requires Inv-loop μ-loop
 copy-field-requires c κs = search needs
@@ -55,7 +67,7 @@ loop-less-2 : tie.Need-loop-less-2 Inv-loop μ-loop
 loop-less-2 c = search needs
 
 loop-again-2 : tie.Need-loop-again-2 Inv-loop μ-loop
-loop-again-2 c = weave-before _ _ _ _ _ _ _ _ (c .before .before .before .before .before .before .loop .inv) (c .before .before .before .before .before .loop-test .taken) _ _ (c .copy-field .ensures) (c .before .before .before .if1 .left)
+loop-again-2 c = weave-before _ _ _ _ _ _ _ _ (c .before .before .before .before .before .before .before .loop .inv) (c .before .before .before .before .before .before .loop-test .taken) _ _ (c .copy-field .ensures) (c .before .before .before .before .if1 .left)
 
 loop-less-3 : tie.Need-loop-less-3 Inv-loop μ-loop
 loop-less-3 c = search needs
@@ -77,14 +89,18 @@ copy-row-spec =
     μ-loop
     shown-row-requires
     loop-holds
+    mul-first
+    array-copy-out-first
+    add-i
     mul-field
     array-copy-out-field
-    add-i
     mul-row
     array-set-from-row
     loop-less
     loop-again
     is-new-requires
+    mul-field-2
+    array-copy-out-field-2
     copy-field-requires
     mul-row-2
     array-set-from-row-2

@@ -1,16 +1,16 @@
--- The characters at the front. Invariant: the first i bytes are characters, and took the sum on.
+-- The characters at the front. Invariant: the first i bytes are characters.
 use Prim.Native.Nat.{_-_}
 use lib.ListN.{length}
-use Rattle.fix.proofs.Carries.{Running, running-start, running-in, running-step, running-less, ran, running-more}
+use Rattle.fix.proofs.Paces.{Running, running-start, running-in, running-step, running-less, ran, running-more}
 use borrow.Author.Needs.{needs}
 use Rattle.fix.proofs.pass.run.Statement.{statement}
 use Rattle.fix.proofs.pass.run.Tie as tie
 
 abbrev Inv-loop : tie.InvT-loop
-Inv-loop s sum₀ i₀ sum i = Running s sum₀ sum i
+Inv-loop s i₀ i = Running s i
 
 abbrev μ-loop : tie.MeasureT-loop
-μ-loop s sum₀ i₀ sum i = length s - i
+μ-loop s i₀ i = length s - i
 
 loop-holds : tie.Need-loop-holds Inv-loop μ-loop
 loop-holds c = search (needs, running-start)
@@ -23,9 +23,6 @@ is-text-requires c κs = search needs
 
 returns : tie.Need-returns Inv-loop μ-loop
 returns c = search (needs, ran)
-
-wrapping-add-u8-requires : tie.Need-wrapping-add-u8-requires Inv-loop μ-loop
-wrapping-add-u8-requires c κs = search needs
 
 add-i : tie.Need-add-i Inv-loop μ-loop
 add-i c = search (needs, running-step)
@@ -46,7 +43,6 @@ run-spec =
     shared-slice-read-b
     is-text-requires
     returns
-    wrapping-add-u8-requires
     add-i
     loop-less
     loop-again)

@@ -1,16 +1,16 @@
--- The tag at the front. Invariant: the first i bytes are digits, at most four, say n, and took the sum on.
+-- The tag at the front. Invariant: the first i bytes are digits, at most four, and say n.
 use Prim.Native.Nat.{_-_}
 use lib.ListN.{length}
-use Rattle.fix.proofs.Carries.{Spelling, spelling-start, spelling-in, spelling-some, spelling-times, spelling-fits, spelling-step, spelling-less, spelling-more, tagged-five, tagged-good, tagged-bad}
+use Rattle.fix.proofs.Paces.{Spelling, spelling-start, spelling-in, spelling-some, spelling-times, spelling-fits, spelling-step, spelling-less, spelling-more, spelling-five, spelling-good, spelling-bad}
 use borrow.Author.Needs.{needs}
 use Rattle.fix.proofs.pass.spelled.Statement.{statement}
 use Rattle.fix.proofs.pass.spelled.Tie as tie
 
 abbrev Inv-loop : tie.InvT-loop
-Inv-loop s sum₀ none n₀ i₀ sum n i = Spelling s sum₀ sum n i
+Inv-loop s none n₀ i₀ n i = Spelling s n i
 
 abbrev μ-loop : tie.MeasureT-loop
-μ-loop s sum₀ none n₀ i₀ sum n i = length s - i
+μ-loop s none n₀ i₀ n i = length s - i
 
 loop-holds : tie.Need-loop-holds Inv-loop μ-loop
 loop-holds c = search (needs, spelling-start)
@@ -21,20 +21,17 @@ shared-slice-read-b c = search (needs, spelling-in)
 digit-requires : tie.Need-digit-requires Inv-loop μ-loop
 digit-requires c κs = search needs
 
-wrapping-add-u8-requires : tie.Need-wrapping-add-u8-requires Inv-loop μ-loop
-wrapping-add-u8-requires c κs = search needs
-
 shared-slice-read-if2 : tie.Need-shared-slice-read-if2 Inv-loop μ-loop
 shared-slice-read-if2 c = search (needs, spelling-some)
 
 returns : tie.Need-returns Inv-loop μ-loop
-returns c = search (needs, tagged-good)
+returns c = search (needs, spelling-good)
 
 returns-2 : tie.Need-returns-2 Inv-loop μ-loop
-returns-2 c = search (needs, tagged-bad)
+returns-2 c = search (needs, spelling-bad)
 
 returns-3 : tie.Need-returns-3 Inv-loop μ-loop
-returns-3 c = search (needs, tagged-five)
+returns-3 c = search (needs, spelling-five)
 
 mul-n : tie.Need-mul-n Inv-loop μ-loop
 mul-n c = search (needs, spelling-times)
@@ -60,7 +57,6 @@ spelled-spec =
     loop-holds
     shared-slice-read-b
     digit-requires
-    wrapping-add-u8-requires
     shared-slice-read-if2
     returns
     returns-2

@@ -1,5 +1,5 @@
 -- The tag, the value behind it, and the SOH that ends it.
-use Rattle.fix.proofs.Carries.{strode-none, strode-start, strode-fits, strode-rest, strode-end, strode-other, strode-good}
+use Rattle.fix.proofs.Paces.{strode-none, strode-start, strode-fits, strode-rest, strode-end, strode-other, strode-good}
 use borrow.Author.Needs.{needs}
 use Rattle.fix.proofs.pass.strode.Statement.{statement}
 use Rattle.fix.proofs.pass.strode.Tie as tie
@@ -34,17 +34,14 @@ shared-slice-read-b c = search needs
 returns-2 : tie.Need-returns-2
 returns-2 c = search (needs, strode-other)
 
-wrapping-add-u8-requires : tie.Need-wrapping-add-u8-requires
-wrapping-add-u8-requires c κs = search needs
+add-t11 : tie.Need-add-t11
+add-t11 c = search needs
 
-add-t13 : tie.Need-add-t13
-add-t13 c = search needs
+add-t16 : tie.Need-add-t16
+add-t16 c = search needs
 
-add-t20 : tie.Need-add-t20
-add-t20 c = search needs
-
-add-t21 : tie.Need-add-t21
-add-t21 c = search needs
+add-t17 : tie.Need-add-t17
+add-t17 c = search needs
 
 returns-3 : tie.Need-returns-3
 returns-3 c = search (needs, strode-good)
@@ -63,8 +60,7 @@ strode-spec =
     add-e
     shared-slice-read-b
     returns-2
-    wrapping-add-u8-requires
-    add-t13
-    add-t20
-    add-t21
+    add-t11
+    add-t16
+    add-t17
     returns-3)

@@ -1,17 +1,17 @@
 -- `intake::checks::holder` meets its contract: the filled records are searched.
-use Rattle.intake.proofs.Standing.{holder-is}
+use Rattle.intake.proofs.Standing.{holder-is, holder-small}
 use borrow.Author.Needs.{needs}
 use Rattle.intake.proofs.checks.holder.Statement.{statement}
 use Rattle.intake.proofs.checks.holder.Tie as tie
 
-filled-requires : tie.Need-filled-requires
-filled-requires c κs = search needs
+count-requires : tie.Need-count-requires
+count-requires c κs = search needs
 
 find-id-requires : tie.Need-find-id-requires
 find-id-requires c κs = search needs
 
 returns : tie.Need-returns
-returns c = (search (needs, holder-is), search needs)
+returns c = (search (needs, holder-is), search (needs, holder-small))
 
 pub holder-spec : {M : Type 1} → statement M
-holder-spec = tie.close (tie.spec filled-requires find-id-requires returns)
+holder-spec = tie.close (tie.spec count-requires find-id-requires returns)

@@ -19,8 +19,8 @@ is-stranger-requires c κs = search needs
 returns-2 : tie.Need-returns-2
 returns-2 c = search (needs, new-stranger)
 
-holder-of-requires : tie.Need-holder-of-requires
-holder-of-requires c κs = search needs
+holder-among-requires : tie.Need-holder-among-requires
+holder-among-requires c κs = search needs
 
 returns-3 : tie.Need-returns-3
 returns-3 c = search (needs, new-known)
@@ -43,7 +43,7 @@ new-stands-spec =
     returns
     is-stranger-requires
     returns-2
-    holder-of-requires
+    holder-among-requires
     returns-3
     record-for-requires
     returns-4

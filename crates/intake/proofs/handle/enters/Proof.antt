@@ -4,6 +4,9 @@ use borrow.Author.Needs.{needs}
 use Rattle.intake.proofs.handle.enters.Statement.{statement}
 use Rattle.intake.proofs.handle.enters.Tie as tie
 
+count-requires : tie.Need-count-requires
+count-requires c κs = search needs
+
 new-stands-requires : tie.Need-new-stands-requires
 new-stands-requires c κs = search needs
 
@@ -11,7 +14,7 @@ enum-told : tie.Need-enum-told
 enum-told c = search needs
 
 enter-requires : tie.Need-enter-requires
-enter-requires c κs = (search needs, search (needs, checked), search needs)
+enter-requires c κs = (search needs, search needs, checked _ _ _ (c .before .before .before .before .new-stands .ensures) (c .before .before .enum-told .given .1), search needs)
 
 enum-known-reason : tie.Need-enum-known-reason
 enum-known-reason c = search needs
@@ -41,6 +44,7 @@ pub enters-spec : {M : Type 1} → statement M
 enters-spec =
     tie.close
     (tie.spec
+    count-requires
     new-stands-requires
     enum-told
     enter-requires

@@ -4,11 +4,11 @@ use Rattle.market.proofs.LevelLaws.{depth-none, depth-level}
 use Rattle.market.proofs.levels.level.Statement.{statement}
 use Rattle.market.proofs.levels.level.Tie as tie
 
-filled-requires : tie.Need-filled-requires
-filled-requires c κs = search needs
+count-requires : tie.Need-count-requires
+count-requires c κs = search needs
 
-level-at-requires : tie.Need-level-at-requires
-level-at-requires c κs = search needs
+level-of-requires : tie.Need-level-of-requires
+level-of-requires c κs = search needs
 
 returns : tie.Need-returns
 returns c = search (needs, depth-none)
@@ -20,4 +20,4 @@ returns-2 : tie.Need-returns-2
 returns-2 c = search (needs, depth-level)
 
 pub level-spec : {M : Type 1} → statement M
-level-spec = tie.close (tie.spec filled-requires level-at-requires returns sums-requires returns-2)
+level-spec = tie.close (tie.spec count-requires level-of-requires returns sums-requires returns-2)

@@ -1,6 +1,6 @@
 -- `market::levels::next_level` meets its contract: after i records the candidate is the next level of the first i.
 use mathlib.Core.Path.{_≡_}
-use Prim.Native.Nat.{ℕ, _+_, _-_, _≤_, _<_}
+use Prim.Native.Nat.{_-_, _≤_}
 use native.Mathlib.Omega.{arith}
 use borrow.Author.Needs.{needs}
 use Rattle.matching.specs.Depth.{next}

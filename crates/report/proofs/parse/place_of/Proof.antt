@@ -27,6 +27,9 @@ label-at-requires c κs = search needs
 returns : tie.Need-returns Inv-loop μ-loop
 returns c = search (needs, sought-here)
 
+clear-requires : tie.Need-clear-requires Inv-loop μ-loop
+clear-requires c κs = search needs
+
 past-requires : tie.Need-past-requires Inv-loop μ-loop
 past-requires c κs = search needs
 
@@ -49,6 +52,7 @@ place-of-spec =
     loop-holds
     label-at-requires
     returns
+    clear-requires
     past-requires
     loop-less
     loop-again

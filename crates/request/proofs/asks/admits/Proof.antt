@@ -1,5 +1,5 @@
--- The type, the port, the venue, then the body.
-use Rattle.request.proofs.Answers.{admits-kind, admits-sender, admits-target, admits-body, admits-held}
+-- A session Reject, or the request.
+use Rattle.request.proofs.Answers.{blank, kind-part, admits-refusal, admits-request}
 use borrow.Author.Needs.{needs}
 use Rattle.request.proofs.asks.admits.Statement.{statement}
 use Rattle.request.proofs.asks.admits.Tie as tie
@@ -10,44 +10,26 @@ part-at-requires c κs = search needs
 kind-of-requires : tie.Need-kind-of-requires
 kind-of-requires c κs = search needs
 
-is-known-requires : tie.Need-is-known-requires
-is-known-requires c κs = search needs
+screens-requires : tie.Need-screens-requires
+screens-requires c κs = (search needs, search (needs, kind-part), blank)
+
+enum-known-reason : tie.Need-enum-known-reason
+enum-known-reason c = search needs
 
 refuses-requires : tie.Need-refuses-requires
 refuses-requires c κs = search needs
 
+enum-told : tie.Need-enum-told
+enum-told c = search needs
+
+request-requires : tie.Need-request-requires
+request-requires c κs = search needs
+
 returns : tie.Need-returns
-returns c = search (needs, admits-kind)
-
-part-at-requires-2 : tie.Need-part-at-requires-2
-part-at-requires-2 c κs = search needs
-
-same-requires : tie.Need-same-requires
-same-requires c κs = search needs
-
-refuses-requires-2 : tie.Need-refuses-requires-2
-refuses-requires-2 c κs = search needs
+returns c = search (needs, admits-refusal)
 
 returns-2 : tie.Need-returns-2
-returns-2 c = search (needs, admits-sender)
-
-part-at-requires-3 : tie.Need-part-at-requires-3
-part-at-requires-3 c κs = search needs
-
-same-requires-2 : tie.Need-same-requires-2
-same-requires-2 c κs = search needs
-
-refuses-requires-3 : tie.Need-refuses-requires-3
-refuses-requires-3 c κs = search needs
-
-returns-3 : tie.Need-returns-3
-returns-3 c = search (needs, admits-target)
-
-decides-requires : tie.Need-decides-requires
-decides-requires c κs = search (needs, admits-held)
-
-returns-4 : tie.Need-returns-4
-returns-4 c = search (needs, admits-body)
+returns-2 c = search (needs, admits-request)
 
 pub admits-spec : {M : Type 1} → statement M
 admits-spec =
@@ -55,16 +37,10 @@ admits-spec =
     (tie.spec
     part-at-requires
     kind-of-requires
-    is-known-requires
+    screens-requires
+    enum-known-reason
     refuses-requires
+    enum-told
+    request-requires
     returns
-    part-at-requires-2
-    same-requires
-    refuses-requires-2
-    returns-2
-    part-at-requires-3
-    same-requires-2
-    refuses-requires-3
-    returns-3
-    decides-requires
-    returns-4)
+    returns-2)

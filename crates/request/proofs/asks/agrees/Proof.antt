@@ -7,9 +7,6 @@ use Rattle.request.proofs.asks.agrees.Tie as tie
 clashing-requires : tie.Need-clashing-requires
 clashing-requires c κs = search needs
 
-refuses-requires : tie.Need-refuses-requires
-refuses-requires c κs = search needs
-
 returns : tie.Need-returns
 returns c = search (needs, agrees-clash)
 
@@ -20,5 +17,4 @@ returns-2 : tie.Need-returns-2
 returns-2 c = search (needs, agrees-is)
 
 pub agrees-spec : {M : Type 1} → statement M
-agrees-spec =
-    tie.close (tie.spec clashing-requires refuses-requires returns completes-requires returns-2)
+agrees-spec = tie.close (tie.spec clashing-requires returns completes-requires returns-2)

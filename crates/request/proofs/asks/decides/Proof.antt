@@ -13,9 +13,6 @@ gather-requires c κs = search (needs, starts)
 enum-known-reason : tie.Need-enum-known-reason
 enum-known-reason c = search needs
 
-refuses-requires : tie.Need-refuses-requires
-refuses-requires c κs = search needs
-
 enum-told : tie.Need-enum-told
 enum-told c = search needs
 
@@ -35,7 +32,6 @@ decides-spec =
     part-at-requires
     gather-requires
     enum-known-reason
-    refuses-requires
     enum-told
     agrees-requires
     returns

@@ -1,7 +1,7 @@
 -- The fields from the left. Invariant: the verdict on all is that on those left in the row, and the rows hold what the fields
 -- before them say.
 use Prim.Native.Nat.{_-_}
-use Rattle.request.proofs.Gathering.{Seated, gather-start, seat-room, seat-behind, seat-less, place-near, gather-fails, gather-more, gather-end}
+use Rattle.request.proofs.Gathering.{Seated, gather-start, seat-room, seat-behind, seat-within, seat-less, place-near, gather-fails, gather-more, gather-end}
 use borrow.Author.Needs.{needs}
 use Rattle.request.proofs.body.gather.Statement.{statement}
 use Rattle.request.proofs.body.gather.Tie as tie
@@ -25,7 +25,7 @@ sub-judged : tie.Need-sub-judged Inv-loop μ-loop
 sub-judged c = search (needs, seat-behind)
 
 judged-requires : tie.Need-judged-requires Inv-loop μ-loop
-judged-requires c κs = search (needs, place-near)
+judged-requires c κs = (search (needs, place-near), search (needs, seat-within))
 
 enum-known-n : tie.Need-enum-known-n Inv-loop μ-loop
 enum-known-n c = search needs

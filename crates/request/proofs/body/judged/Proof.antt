@@ -1,5 +1,5 @@
 -- 3, 2, 4, then what the value says.
-use Rattle.request.proofs.Gathering.{judge-type, judge-unlisted, judge-empty, judge-look}
+use Rattle.request.proofs.Gathering.{judge-type, judge-unlisted, judge-empty, judge-lent}
 use borrow.Author.Needs.{needs}
 use Rattle.request.proofs.body.judged.Statement.{statement}
 use Rattle.request.proofs.body.judged.Tie as tie
@@ -22,14 +22,23 @@ returns-3 c = search (needs, judge-empty)
 add-look : tie.Need-add-look
 add-look c = search needs
 
-part-at-requires : tie.Need-part-at-requires
-part-at-requires c κs = search needs
+add-look-2 : tie.Need-add-look-2
+add-look-2 c = search needs
+
+sub-look : tie.Need-sub-look
+sub-look c = search needs
+
+part-look-start : tie.Need-part-look-start
+part-look-start c = search needs
+
+part-look-end : tie.Need-part-look-end
+part-look-end c = search needs
 
 look-requires : tie.Need-look-requires
 look-requires c κs = search needs
 
 returns-4 : tie.Need-returns-4
-returns-4 c = search (needs, judge-look)
+returns-4 c = search (needs, judge-lent)
 
 pub judged-spec : {M : Type 1} → statement M
 judged-spec =
@@ -41,6 +50,9 @@ judged-spec =
     returns-2
     returns-3
     add-look
-    part-at-requires
+    add-look-2
+    sub-look
+    part-look-start
+    part-look-end
     look-requires
     returns-4)

@@ -1,4 +1,5 @@
 -- A time: its shape, then its ranges.
+use Rattle.decimal.proofs.Times.{shape-yes}
 use Rattle.request.proofs.Judging.{time-misshapen, time-outside, time-is}
 use borrow.Author.Needs.{needs}
 use Rattle.request.proofs.values.time.Statement.{statement}
@@ -11,7 +12,7 @@ returns : tie.Need-returns
 returns c = search (needs, time-misshapen)
 
 time-ranged-requires : tie.Need-time-ranged-requires
-time-ranged-requires c κs = search needs
+time-ranged-requires c κs = search (needs, shape-yes)
 
 returns-2 : tie.Need-returns-2
 returns-2 c = search (needs, time-outside)

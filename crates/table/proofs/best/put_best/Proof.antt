@@ -7,11 +7,8 @@ use Rattle.table.proofs.best.put_best.Tie as tie
 filled-requires : tie.Need-filled-requires
 filled-requires c κs = search needs
 
-best-of-requires : tie.Need-best-of-requires
-best-of-requires c κs = search needs
-
-best-of-requires-2 : tie.Need-best-of-requires-2
-best-of-requires-2 c κs = search needs
+bests-of-requires : tie.Need-bests-of-requires
+bests-of-requires c κs = search needs
 
 write-best-requires : tie.Need-write-best-requires
 write-best-requires c κs = search needs
@@ -27,8 +24,7 @@ put-best-spec =
     tie.close
     (tie.spec
     filled-requires
-    best-of-requires
-    best-of-requires-2
+    bests-of-requires
     write-best-requires
     same-length
     returns)

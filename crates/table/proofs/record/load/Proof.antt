@@ -55,8 +55,11 @@ add-four-at-5 c = search needs
 four-at-requires-5 : tie.Need-four-at-requires-5
 four-at-requires-5 c κs = search needs
 
-sum-at-requires : tie.Need-sum-at-requires
-sum-at-requires c κs = search needs
+add-eight-at : tie.Need-add-eight-at
+add-eight-at c = search needs
+
+eight-at-requires : tie.Need-eight-at-requires
+eight-at-requires c κs = search needs
 
 add-four-at-6 : tie.Need-add-four-at-6
 add-four-at-6 c = search needs
@@ -101,7 +104,8 @@ load-spec =
     four-at-requires-4
     add-four-at-5
     four-at-requires-5
-    sum-at-requires
+    add-eight-at
+    eight-at-requires
     add-four-at-6
     four-at-requires-6
     add-four-at-7

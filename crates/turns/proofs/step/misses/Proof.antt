@@ -16,8 +16,8 @@ decided-requires c κs = search needs
 returns-2 : tie.Need-returns-2
 returns-2 c = search (needs, misses-decided)
 
-filled-requires : tie.Need-filled-requires
-filled-requires c κs = search needs
+count-requires : tie.Need-count-requires
+count-requires c κs = search needs
 
 mode-of-requires : tie.Need-mode-of-requires
 mode-of-requires c κs = search needs
@@ -31,4 +31,4 @@ returns-3 c = search (needs, misses-looked)
 pub misses-spec : {M : Type 1} → statement M
 misses-spec =
     tie.close
-    (tie.spec minimum-of-requires returns decided-requires returns-2 filled-requires mode-of-requires would-trade-requires returns-3)
+    (tie.spec minimum-of-requires returns decided-requires returns-2 count-requires mode-of-requires would-trade-requires returns-3)

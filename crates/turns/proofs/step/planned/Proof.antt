@@ -13,9 +13,6 @@ load-requires c κs = search needs
 misses-requires : tie.Need-misses-requires
 misses-requires c κs = (search needs, search (needs, worker-is), search needs)
 
-partner-of-requires : tie.Need-partner-of-requires
-partner-of-requires c κs = (search needs, search (needs, worker-is))
-
 comes-to-requires : tie.Need-comes-to-requires
 comes-to-requires c κs = (search needs, search (needs, worker-is), search needs, search needs)
 
@@ -26,4 +23,4 @@ returns : tie.Need-returns
 returns c = search (needs, planned-is)
 
 pub planned-spec : {M : Type 1} → statement M
-planned-spec = tie.close (tie.spec work-requires load-requires misses-requires partner-of-requires comes-to-requires noted-requires returns)
+planned-spec = tie.close (tie.spec work-requires load-requires misses-requires comes-to-requires noted-requires returns)

@@ -1,5 +1,5 @@
--- The field at the cursor, read from the rest of the message, with the sum.
-use Rattle.fix.proofs.Carries.{closed-rest, pace-end, pace-good}
+-- The field at the cursor, read from the rest of the message.
+use Rattle.fix.proofs.Paces.{closed-rest, pace-end, pace-good}
 use borrow.Author.Needs.{needs}
 use Rattle.fix.proofs.fields.Cursor.pace.Statement.{statement}
 use Rattle.fix.proofs.fields.Cursor.pace.Tie as tie
