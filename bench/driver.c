@@ -317,16 +317,46 @@ static struct message with_chosen_id(unsigned n)
     return with_account(n, "DESK0001", id);
 }
 
-/* The check of a table with n open orders, alone: there is no such side. */
-static void checking(unsigned n, struct message (*sell)(unsigned), int calls)
+/* The check of the table as it is, alone: there is no such side, and where the table is a market that is refused. */
+static void checked(uint64_t refusal)
 {
     uint64_t found, total, orders;
     int64_t yield;
+    must(market->depth(table, sizeof table, 3, 0, &found, &yield, &total, &orders) == refusal);
+}
+
+/* The check of a table with n open orders. */
+static void checking(unsigned n, struct message (*sell)(unsigned), int calls)
+{
     must(open_market() == 0);
     for (unsigned i = 1; i <= n; i++)
         enter(sell(i));
     if (calls)
-        must(market->depth(table, sizeof table, 3, 0, &found, &yield, &total, &orders) == 10);
+        checked(10);
+}
+
+/* The same with chosen ClOrdIDs, the last of them forged to be the first: no market. */
+static void checking_twice(unsigned n, int calls)
+{
+    checking(n, with_chosen_id, 0);
+    memcpy(table + 128 * n, table + 128, 33);
+    if (calls)
+        checked(2);
+}
+
+/* The same with chosen ClOrdIDs, and places and OrderIDs forged to be 2,048 apart: still a market. */
+static void checking_forged(unsigned n, int calls)
+{
+    const uint32_t next = 1000000;
+    checking(n, with_chosen_id, 0);
+    for (uint32_t i = 1; i <= n; i++) {
+        const uint32_t number = 1 + 2048 * i;
+        memcpy(table + 128 * i + 56, &number, 4);
+        memcpy(table + 128 * i + 84, &number, 4);
+    }
+    memcpy(table + 28, &next, 4);
+    if (calls)
+        checked(10);
 }
 
 /* A market with n open orders, written into its image. */
@@ -402,6 +432,10 @@ int main(int count, char **words)
         checking(n, with_id_of_13, calls);
     else if (bonds && sscanf(name, "check-chosen-%u%c", &n, &rest) == 1 && n <= 254)
         checking(n, with_chosen_id, calls);
+    else if (bonds && sscanf(name, "check-twice-%u%c", &n, &rest) == 1 && n >= 2 && n <= 254)
+        checking_twice(n, calls);
+    else if (bonds && sscanf(name, "check-forged-%u%c", &n, &rest) == 1 && n <= 254)
+        checking_forged(n, calls);
     else if (strcmp(name, "read") == 0)
         reading(calls);
     else if (strcmp(name, "field") == 0)
