@@ -1,4 +1,4 @@
-/* Files of images. */
+/* Files of images. Layer 5. */
 #define _POSIX_C_SOURCE 200809L
 #include "image.h"
 

@@ -1,4 +1,4 @@
-/* The market kept in a file between rehearsals. */
+/* The market kept in a file between rehearsals. Layer 5. */
 #ifndef IMAGE_H
 #define IMAGE_H
 

@@ -1,4 +1,4 @@
-/* The two markets. */
+/* The two markets. Layer 0. */
 #include "kind.h"
 
 #include "kamurjesh.h"

@@ -1,4 +1,5 @@
-/* Which market is rehearsed, the bond market or the equities market: its calls, as kamurjesh.h declares them, and its words. */
+/* Which market is rehearsed, the bond market or the equities market: its calls, as kamurjesh.h declares them, and its words.
+ * Layer 0. */
 #ifndef KIND_H
 #define KIND_H
 

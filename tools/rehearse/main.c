@@ -1,4 +1,5 @@
-/* rehearse [OPTION].. [FILE]: takes a file of messages into a market and says of each line what the market answers, and why. */
+/* rehearse [OPTION].. [FILE]: takes a file of messages into a market and says of each line what the market answers, and why.
+ * Each file of this folder says its layer in its first words, and includes files of lower layers alone. Layer 6. */
 #include <errno.h>
 #include <string.h>
 

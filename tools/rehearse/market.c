@@ -1,10 +1,10 @@
-/* The calls of the market, each answer in words. */
+/* The calls of the market, each answer in words. Layer 4. */
 #include "market.h"
 
 #include <inttypes.h>
-#include <stdlib.h>
 #include <string.h>
 
+#include "expect.h"
 #include "garbled.h"
 #include "kamurjesh.h"
 #include "kind.h"
@@ -14,15 +14,6 @@
 
 static uint8_t table[KAMURJESH_TABLE_BYTES];
 static uint8_t area[65536];
-
-void expect_taken(const char *call, uint64_t refusal)
-{
-    if (refusal == KAMURJESH_TAKEN)
-        return;
-    fflush(stdout);
-    fprintf(stderr, "rehearse: %s was refused with %" PRIu64 "\n", call, refusal);
-    exit(1);
-}
 
 void open_market(void)
 {

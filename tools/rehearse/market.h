@@ -1,12 +1,9 @@
-/* The market of a rehearsal. */
+/* The market of a rehearsal. Layer 4. */
 #ifndef MARKET_H
 #define MARKET_H
 
 #include "lines.h"
-#include "reports.h"
-
-/* Stops with a word where the market refuses what this program never gives it. */
-void expect_taken(const char *call, uint64_t refusal);
+#include "parts.h"
 
 /* Opens a market of the kind that is rehearsed; the bond market is that of ./book. */
 void open_market(void);

@@ -1,4 +1,4 @@
-/* The options of `rehearse`, a row each in one table. */
+/* The options of `rehearse`, a row each in one table. Layer 3. */
 #include "options.h"
 
 #include <errno.h>

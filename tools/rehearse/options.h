@@ -1,4 +1,4 @@
-/* What the command line of `rehearse` asks for. */
+/* What the command line of `rehearse` asks for. Layer 3. */
 #ifndef OPTIONS_H
 #define OPTIONS_H
 
