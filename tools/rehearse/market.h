@@ -3,10 +3,14 @@
 #define MARKET_H
 
 #include "lines.h"
+#include "opening.h"
 #include "parts.h"
 
-/* Opens a market of the kind that is rehearsed; the bond market is that of ./book. */
-void open_market(void);
+/* Opens a market of the kind that is rehearsed. */
+void open_market(const struct opening *opening);
+
+/* Whether the market has the settings of an opening, of the same kind; its next number aside, which has moved on. */
+bool has_settings(const struct opening *opening);
 
 /* An image of the table, and two of the refusals that reading one back may get: its length, and a block of it. */
 enum { IMAGE_BYTES = 33280, BAD_LENGTH = 12, BAD_BLOCK = 13 };
