@@ -122,22 +122,27 @@ prove_library() {
 # compiler relies on nothing that only a proof could show. `rt try` removes what it makes, so its kit here is one of links to the real
 # one, but for a linker that keeps the program and then stops it: whatever else it would try takes longer.
 need_unproved() {
-  local name=$1 content here=$PWD/target/unproved log own
+  local name=$1 content here=$PWD/target/unproved shadow own log
   content=$(content_of "$name")
   is_built "$here/$name" "$content" && return
-  own=$here/kit/on/$(uname -m)
-  rm -rf "$here/kit" "$here/$name"
+  mkdir -p "$here"
+  shadow=$(mktemp -d "$here/kit.XXXXXX")
+  own=$shadow/on/$(uname -m)
   mkdir -p "$own/toolchain/bin"
-  links_to "$kit" "$here/kit"
+  links_to "$kit" "$shadow"
   links_to "$kit/on/$(uname -m)" "$own"
   links_to "$kit_tools" "$own/toolchain"
   links_to "$kit_tools/bin" "$own/toolchain/bin"
   rm "$own/toolchain/bin/ld.lld"
-  printf '#!/bin/sh\n%q "$@" && cp program %q\nexit 1\n' "$kit_tools/bin/ld.lld" "$here/$name" >"$own/toolchain/bin/ld.lld"
+  printf '#!/bin/sh\n%q "$@" && cp program %q\nexit 1\n' "$kit_tools/bin/ld.lld" "$shadow/program" >"$own/toolchain/bin/ld.lld"
   chmod +x "$own/toolchain/bin/ld.lld"
-  log=$(RATTLE_HOME=$here/kit rt try "$name" 2>&1 </dev/null) || true
-  rm -rf "$here/kit"
-  [ -f "$here/$name" ] || { echo "$log" >&2; exit 1; }
+  log=$(RATTLE_HOME=$shadow rt try "$name" 2>&1 </dev/null) || true
+  if ! mv "$shadow/program" "$here/$name" 2>/dev/null; then
+    rm -rf "$shadow"
+    echo "$log" >&2
+    exit 1
+  fi
+  rm -rf "$shadow"
   mark_built "$here/$name" "$content"
 }
 # links_to FROM TO: a link in folder TO to each entry of FROM that it has not.
