@@ -4,6 +4,10 @@
  *     rt staticlib kamurjesh
  *     cc -Iinclude -o host examples/host.c target/staticlib/libkamurjesh.a        (on x86-64 Linux)
  *
+ * or, with a release and without the kit,
+ *
+ *     cc -o host examples/host.c $(pkg-config --cflags --libs --static kamurjesh)
+ *
  * The library allocates nothing, keeps nothing between calls and opens no file; of the C library it calls memcpy and memset, and
  * it uses less than 16 KB of stack, kamurjesh_restore less than 48 KB, since it reads a table into its stack before it touches yours.
  * Everything is in the buffers that you lend: a market is the KAMURJESH_TABLE_BYTES bytes of its table. Copy them, and you have a second

@@ -3,6 +3,18 @@
 
 command -v rt >/dev/null || { echo "the Rattle kit is needed: there is no command rt" >&2; exit 1; }
 
+# The kit's folder, and what in it is for this kind of machine.
+kit=${RATTLE_HOME:-$(dirname "$(dirname "$(readlink -f "$(command -v rt)")")")}
+kit_tools=$kit/on/$(uname -m)/toolchain
+
+# run_program PROGRAM WORDS..: in place of this script, a program that the kit has linked, under the kit's C library; on another processor than
+# x86-64 under the kit's emulator.
+run_program() {
+  local emulator=$kit_tools/bin/qemu-x86_64
+  [ -x "$emulator" ] || emulator=
+  exec ${emulator:+"$emulator"} "$kit_tools/lib/ld-linux-x86-64.so.2" --library-path "$kit_tools/lib" "$@"
+}
+
 # crates_below NAME: this crate and all it stands on, as crates.txt says, a line each, the lowest first.
 crates_below() {
   awk -v name="$1" '
@@ -104,4 +116,39 @@ prove_library() {
   mapfile -t below < <(crates_below "$1" | head -n -1)
   prove "${below[@]}" || return 1
   rt staticlib "$1" >"target/log/$1.out" 2>&1 || { cat "target/log/$1.out"; return 1; }
+}
+
+# need_unproved NAME: target/unproved/NAME is the program NAME compiled with no proof. It is the first that `rt try` makes, at -O0, where the
+# compiler relies on nothing that only a proof could show. `rt try` removes what it makes, so its kit here is one of links to the real
+# one, but for a linker that keeps the program and then stops it: whatever else it would try takes longer.
+need_unproved() {
+  local name=$1 content here=$PWD/target/unproved shadow own log
+  content=$(content_of "$name")
+  is_built "$here/$name" "$content" && return
+  mkdir -p "$here"
+  shadow=$(mktemp -d "$here/kit.XXXXXX")
+  own=$shadow/on/$(uname -m)
+  mkdir -p "$own/toolchain/bin"
+  links_to "$kit" "$shadow"
+  links_to "$kit/on/$(uname -m)" "$own"
+  links_to "$kit_tools" "$own/toolchain"
+  links_to "$kit_tools/bin" "$own/toolchain/bin"
+  rm "$own/toolchain/bin/ld.lld"
+  printf '#!/bin/sh\n%q "$@" && cp program %q\nexit 1\n' "$kit_tools/bin/ld.lld" "$shadow/program" >"$own/toolchain/bin/ld.lld"
+  chmod +x "$own/toolchain/bin/ld.lld"
+  log=$(RATTLE_HOME=$shadow rt try "$name" 2>&1 </dev/null) || true
+  if ! mv "$shadow/program" "$here/$name" 2>/dev/null; then
+    rm -rf "$shadow"
+    echo "$log" >&2
+    exit 1
+  fi
+  rm -rf "$shadow"
+  mark_built "$here/$name" "$content"
+}
+# links_to FROM TO: a link in folder TO to each entry of FROM that it has not.
+links_to() {
+  local entry
+  for entry in "$1"/*; do
+    [ -e "$2/${entry##*/}" ] || ln -s "$entry" "$2/${entry##*/}"
+  done
 }

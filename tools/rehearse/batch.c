@@ -1,4 +1,4 @@
-/* Loads a file of messages, as many at a time as the reports of one area have room for. */
+/* Loads a file of messages, as many at a time as the reports of one area have room for. Layer 5. */
 #include "batch.h"
 
 #include <errno.h>
@@ -6,6 +6,7 @@
 #include <stdio.h>
 #include <stdlib.h>
 
+#include "expect.h"
 #include "kamurjesh.h"
 #include "market.h"
 #include "minimum.h"

@@ -1,4 +1,4 @@
-/* A file of messages taken in one go. */
+/* A file of messages taken in one go. Layer 5. */
 #ifndef BATCH_H
 #define BATCH_H
 

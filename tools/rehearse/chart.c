@@ -1,6 +1,6 @@
 /* An SVG picture of the book. Lengths are in the ratio of the totals, in pixels: browsers cut numbers off far below the largest total
  * (Chromium at 2^25), even where a scale makes them small again. There is no background, and every colour can be read on white and on
- * black. */
+ * black. Layer 5. */
 #include "chart.h"
 
 #include <inttypes.h>

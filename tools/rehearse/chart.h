@@ -1,4 +1,4 @@
-/* The book that is left, drawn. */
+/* The book that is left, drawn. Layer 5. */
 #ifndef CHART_H
 #define CHART_H
 

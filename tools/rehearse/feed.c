@@ -1,13 +1,13 @@
-/* Copies of reports, and why there is none. */
+/* Copies of reports, and why there is none. Layer 2. */
 #include "feed.h"
 
 #include <inttypes.h>
 #include <stdio.h>
 #include <string.h>
 
+#include "expect.h"
 #include "kamurjesh.h"
 #include "kind.h"
-#include "market.h"
 
 static struct feed feed;
 static uint64_t next;

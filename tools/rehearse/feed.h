@@ -1,8 +1,8 @@
-/* The feed of drop copies of a rehearsal. */
+/* The feed of drop copies of a rehearsal. Layer 2. */
 #ifndef FEED_H
 #define FEED_H
 
-#include "reports.h"
+#include "parts.h"
 
 /* How a feed is set up. */
 struct feed {

@@ -1,4 +1,5 @@
-/* Looks for what makes a message garbled, one reason after the other. The market has answered already; this only finds words. */
+/* Looks for what makes a message garbled, one reason after the other. The market has answered already; this only finds words.
+ * Layer 1. */
 #include "garbled.h"
 
 #include <ctype.h>

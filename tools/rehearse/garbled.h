@@ -1,4 +1,4 @@
-/* Why a message is garbled. */
+/* Why a message is garbled. Layer 1. */
 #ifndef GARBLED_H
 #define GARBLED_H
 

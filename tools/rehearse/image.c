@@ -1,4 +1,4 @@
-/* Files of images. */
+/* Files of images. Layer 5. */
 #define _POSIX_C_SOURCE 200809L
 #include "image.h"
 
@@ -118,7 +118,7 @@ static void complain(const char *file, size_t length, uint64_t refusal, uint64_t
     }
 }
 
-bool restore_market(const char *file)
+bool restore_market(const char *file, const struct opening *opening)
 {
     size_t length;
     uint64_t block;
@@ -129,6 +129,10 @@ bool restore_market(const char *file)
     uint64_t refusal = restore_table(image, length, &block);
     if (refusal != KAMURJESH_TAKEN) {
         complain(file, length, refusal, block);
+        return false;
+    }
+    if (opening != NULL && !has_settings(opening)) {
+        fprintf(stderr, "rehearse: %s is not taken: venue, port, code, MPIDs or modes of that market are not those of the settings\n", file);
         return false;
     }
     printf("restored from %s\n", file);

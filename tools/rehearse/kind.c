@@ -1,10 +1,9 @@
-/* The two markets. */
+/* The two markets. Layer 0. */
 #include "kind.h"
 
 #include "kamurjesh.h"
 
 const struct kind bonds = {
-    .code = "350",
     .code_name = "bond code",
     .quote_name = "yield",
     .decimals = 3,
@@ -22,7 +21,6 @@ const struct kind bonds = {
 };
 
 const struct kind equities = {
-    .code = "7203",
     .code_name = "symbol",
     .quote_name = "price",
     .decimals = 1,

@@ -1,4 +1,5 @@
-/* Which market is rehearsed, the bond market or the equities market: its calls, as kamurjesh.h declares them, and its words. */
+/* Which market is rehearsed, the bond market or the equities market: its calls, as kamurjesh.h declares them, and its words.
+ * Layer 0. */
 #ifndef KIND_H
 #define KIND_H
 
@@ -7,8 +8,7 @@
 #include <stdint.h>
 
 struct kind {
-    const char *code;         /* the bond code, or the symbol, that it trades */
-    const char *code_name;    /* what that is called */
+    const char *code_name;    /* what the code that it trades is called */
     const char *quote_name;   /* what its orders are quoted by */
     int decimals;             /* of such a quote */
     int64_t unit;             /* how many of the library's steps a quote of 1 has */

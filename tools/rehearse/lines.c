@@ -1,4 +1,4 @@
-/* Reads lines of any length into a buffer of fixed size. */
+/* Reads lines of any length into a buffer of fixed size. Layer 0. */
 #include "lines.h"
 
 static void keep(struct message *message, int byte)

@@ -1,4 +1,4 @@
-/* The lines of the input as messages. */
+/* The lines of the input as messages. Layer 0. */
 #ifndef LINES_H
 #define LINES_H
 

@@ -1,4 +1,5 @@
-/* rehearse [OPTION].. [FILE]: takes a file of messages into a market and says of each line what the market answers, and why. */
+/* rehearse [OPTION].. [FILE]: takes a file of messages into a market and says of each line what the market answers, and why.
+ * Each file of this folder says its layer in its first words, and includes files of lower layers alone. Layer 6. */
 #include <errno.h>
 #include <string.h>
 
@@ -37,12 +38,11 @@ int main(int count, char **words)
     enum asked asked = ask(&options, count, words);
     if (asked != ASKED_TO_REHEARSE)
         return asked == ASKED_FOR_HELP ? 0 : 2;
-    if (options.equities)
-        kind = &equities;
+    kind = options.opening.equities ? &equities : &bonds;
     open_feed(options.feed);
     if (options.restore == NULL)
-        open_market();
-    else if (!restore_market(options.restore))
+        open_market(&options.opening);
+    else if (!restore_market(options.restore, options.market == NULL ? NULL : &options.opening))
         return 2;
     if (options.batch != NULL && !take_batch(options.batch)) {
         fprintf(stderr, "rehearse: cannot read %s: %s\n", options.batch, strerror(errno));

@@ -1,10 +1,10 @@
-/* The calls of the market, each answer in words. */
+/* The calls of the market, each answer in words. Layer 4. */
 #include "market.h"
 
 #include <inttypes.h>
-#include <stdlib.h>
 #include <string.h>
 
+#include "expect.h"
 #include "garbled.h"
 #include "kamurjesh.h"
 #include "kind.h"
@@ -15,22 +15,26 @@
 static uint8_t table[KAMURJESH_TABLE_BYTES];
 static uint8_t area[65536];
 
-void expect_taken(const char *call, uint64_t refusal)
+static void open_table(uint8_t *to, const struct opening *opening)
 {
-    if (refusal == KAMURJESH_TAKEN)
-        return;
-    fflush(stdout);
-    fprintf(stderr, "rehearse: %s was refused with %" PRIu64 "\n", call, refusal);
-    exit(1);
+    expect_taken("Open", kind->open(to, KAMURJESH_TABLE_BYTES, (const uint8_t *)opening->venue, strlen(opening->venue),
+                                    (const uint8_t *)opening->port, strlen(opening->port), (const uint8_t *)opening->code,
+                                    strlen(opening->code), opening->first, opening->mpids, opening->count, opening->modes,
+                                    opening->count));
 }
 
-void open_market(void)
+void open_market(const struct opening *opening)
 {
-    static const uint64_t mpids[] = {10, 11, 12, 13, 14};
-    static const uint64_t modes[] = {KAMURJESH_CANCEL_NEWEST, KAMURJESH_CANCEL_NEWEST, KAMURJESH_CANCEL_NEWEST,
-                                     KAMURJESH_CANCEL_NEWEST, KAMURJESH_CANCEL_NEWEST};
-    expect_taken("Open", kind->open(table, sizeof table, (const uint8_t *)"V", 1, (const uint8_t *)"P", 1,
-                                    (const uint8_t *)kind->code, strlen(kind->code), 1, mpids, 5, modes, 5));
+    open_table(table, opening);
+}
+
+/* Where the heading of a table has what it was opened with (docs/TABLE.md): the ids and the code, and the MPIDs with their modes. */
+bool has_settings(const struct opening *opening)
+{
+    static uint8_t fresh[KAMURJESH_TABLE_BYTES];
+    enum { IDS = 0, NEXT_NUMBER = 28, MPIDS = 56, BEHIND_MODES = 96 };
+    open_table(fresh, opening);
+    return memcmp(table + IDS, fresh + IDS, NEXT_NUMBER - IDS) == 0 && memcmp(table + MPIDS, fresh + MPIDS, BEHIND_MODES - MPIDS) == 0;
 }
 
 void save_table(uint8_t *image)

@@ -1,15 +1,16 @@
-/* The market of a rehearsal. */
+/* The market of a rehearsal. Layer 4. */
 #ifndef MARKET_H
 #define MARKET_H
 
 #include "lines.h"
-#include "reports.h"
+#include "opening.h"
+#include "parts.h"
 
-/* Stops with a word where the market refuses what this program never gives it. */
-void expect_taken(const char *call, uint64_t refusal);
+/* Opens a market of the kind that is rehearsed. */
+void open_market(const struct opening *opening);
 
-/* Opens a market of the kind that is rehearsed; the bond market is that of ./book. */
-void open_market(void);
+/* Whether the market has the settings of an opening, of the same kind; its next number aside, which has moved on. */
+bool has_settings(const struct opening *opening);
 
 /* An image of the table, and two of the refusals that reading one back may get: its length, and a block of it. */
 enum { IMAGE_BYTES = 33280, BAD_LENGTH = 12, BAD_BLOCK = 13 };

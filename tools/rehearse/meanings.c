@@ -1,4 +1,4 @@
-/* Codes and tags in words: tables, and the three kinds of reject told with them. */
+/* Codes and tags in words: tables, and the three kinds of reject told with them. Layer 2. */
 #include "meanings.h"
 
 #include <stdio.h>

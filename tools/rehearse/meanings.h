@@ -1,8 +1,8 @@
-/* What the codes in reports mean. */
+/* What the codes in reports mean. Layer 2. */
 #ifndef MEANINGS_H
 #define MEANINGS_H
 
-#include "reports.h"
+#include "parts.h"
 
 struct meaning {
     const char *code; /* NULL behind the last row */

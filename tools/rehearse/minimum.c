@@ -1,4 +1,4 @@
-/* How much an order with a minimum could have traded: the same order without the minimum is tried on a copy of the table. */
+/* How much an order with a minimum could have traded: the same order without the minimum is tried on a copy of the table. Layer 2. */
 #include "minimum.h"
 
 #include <inttypes.h>

@@ -1,9 +1,9 @@
-/* Orders that could not trade their minimum. */
+/* Orders that could not trade their minimum. Layer 2. */
 #ifndef MINIMUM_H
 #define MINIMUM_H
 
 #include "lines.h"
-#include "reports.h"
+#include "parts.h"
 
 /* Keeps the table as it is before a message is submitted, and the message, for print_killed. */
 void note_before(const uint8_t *table, const struct message *message);

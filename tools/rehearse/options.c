@@ -1,4 +1,4 @@
-/* The options of `rehearse`, a row each in one table. */
+/* The options of `rehearse`, a row each in one table. Layer 3. */
 #include "options.h"
 
 #include <errno.h>
@@ -7,7 +7,7 @@
 #include "kamurjesh.h"
 
 static const char help_before[] =
-    "usage: ./rehearse [OPTION].. [FILE]\n"
+    "usage: rehearse [OPTION].. [FILE]\n"
     "\n"
     "Takes the messages of FILE into a market, one a line with | for SOH, and says of each line what the market answers:\n"
     "taken, or why not. The reports follow, with | for SOH, and in the end the depth, buys then sells, best first.\n"
@@ -19,14 +19,38 @@ static const char help_after[] =
     "\n"
     "The market is that of ./book: venue V, port P, bond code 350, MPIDs 10 to 14, all Cancel Newest, first report number 1.\n"
     "The equities market has symbol 7203 in place of the bond code, and is as this one else.\n"
+    "\n"
+    "With --market it is one of your own, the first of the settings file or the one that --issue names. The file is written as\n"
+    "QuickFIX's are:\n"
+    "\n"
+    "  # what holds for every market that does not say otherwise\n"
+    "  [DEFAULT]\n"
+    "  Venue=V\n"
+    "  Port=P\n"
+    "  # a section for each market: Kind is bonds, with a Code, or equities, with a Symbol\n"
+    "  [MARKET]\n"
+    "  Kind=equities\n"
+    "  Symbol=7203\n"
+    "  FirstNumber=1\n"
+    "  # one to eight MPIDs, each with its mode: cancel-newest, cancel-oldest or decrement\n"
+    "  MPID 10=cancel-oldest\n"
+    "  MPID 11=decrement\n"
+    "\n"
+    "What is wrong with it is told with its line. Sections [SESSION] are passed over: they are for a live market's FIX sessions.\n"
+    "\n"
     "In the file of --batch the messages lie one behind another, with | for SOH and line ends or none between them; each is found by\n"
     "its own BodyLength, and it stops where one cannot be. With --batch and no other FILE no lines are read.\n"
-    "With --restore it is the one that --save wrote, of the same kind; a file that was changed since is told with its block.\n"
+    "\n"
+    "With --restore the market is the one that --save wrote, of the same kind; a file that was changed since is told with its block, and with\n"
+    "--market, one that has other settings is not taken.\n"
+    "\n"
     "A line ends with LF. Every other byte belongs to its message: a CR at the end makes it garbled, as ./book takes it, and\n"
     "the answer says so. A last line needs no LF.\n"
+    "\n"
     "109 of the copies shows what is given of --port and --group, with a hyphen between; copies are numbered from 1.\n"
+    "\n"
     "Exit status: 0, whatever the market answers; 1 if the output, the chart or the market cannot be written; 2 for bad\n"
-    "usage, an unreadable input or a market that cannot be read back.\n";
+    "usage, an unreadable input, wrong settings or a market that cannot be read back.\n";
 
 /* Takes an option, words[0], and its values, if it has any, behind it (the list ends with NULL). Gives how many words that were, or
  * 0 after saying on standard error what is wrong. */
@@ -92,6 +116,16 @@ static int take_restore(struct options *options, char **words)
     return take_value(&options->restore, words);
 }
 
+static int take_market(struct options *options, char **words)
+{
+    return take_value(&options->market, words);
+}
+
+static int take_issue(struct options *options, char **words)
+{
+    return take_value(&options->issue, words);
+}
+
 static int take_equities(struct options *options, char **words)
 {
     (void)words;
@@ -112,6 +146,8 @@ static const struct row {
     taker *take;
 } rows[] = {
     {"--equities", "rehearse the equities market, not the bond market", take_equities},
+    {"--market FILE", "rehearse a market of your own, whose settings this file has", take_market},
+    {"--issue CODE", "of the markets of the file, the one of this bond code or symbol", take_issue},
     {"--feed SUBSCRIPTION", "print the copies of a feed: full, or reconciliation for trades alone", take_feed},
     {"--port ID", "the order entry port that 109 of the copies shows", take_port},
     {"--group ID", "the trade group that it shows", take_group},
@@ -166,6 +202,62 @@ static bool is_feed_whole(const struct feed *feed)
     return true;
 }
 
+/* The market of ./book, or that of ./book --equities. */
+static void set_usual(struct opening *opening, bool is_equities)
+{
+    *opening = (struct opening){
+        .equities = is_equities,
+        .venue = "V",
+        .port = "P",
+        .code = "350",
+        .first = 1,
+        .mpids = {10, 11, 12, 13, 14},
+        .modes = {KAMURJESH_CANCEL_NEWEST, KAMURJESH_CANCEL_NEWEST, KAMURJESH_CANCEL_NEWEST, KAMURJESH_CANCEL_NEWEST,
+                  KAMURJESH_CANCEL_NEWEST},
+        .count = 5,
+    };
+    if (is_equities)
+        strcpy(opening->code, "7203");
+}
+
+/* One line on standard error: what is wrong with the settings file. */
+static void complain_of_market(const char *file, const struct fault *fault)
+{
+    if (fault->line == 0)
+        fprintf(stderr, "rehearse: cannot read %s: %s\n", file, fault->reason);
+    else
+        fprintf(stderr, "rehearse: %s, line %zu: %s\n", file, fault->line, fault->reason);
+}
+
+/* Takes the market that is asked for from the settings file. */
+static bool read_market(struct options *options)
+{
+    struct openings openings;
+    struct fault fault;
+    if (!openings_read(&openings, options->market, &fault)) {
+        complain_of_market(options->market, &fault);
+        return false;
+    }
+    const struct opening *asked = options->issue == NULL ? &openings.markets[0] : openings_find(&openings, options->issue);
+    if (asked != NULL)
+        options->opening = *asked;
+    else
+        complain("no market of the settings file trades it", options->issue);
+    openings_free(&openings);
+    return asked != NULL;
+}
+
+/* The market that is asked for; false after saying what is wrong. */
+static bool take_opening(struct options *options)
+{
+    set_usual(&options->opening, options->equities);
+    if (options->market != NULL && options->equities)
+        return complain("the settings file says the kind of its markets", "--equities");
+    if (options->market == NULL && options->issue != NULL)
+        return complain("there is no --market for", "--issue");
+    return options->market == NULL || read_market(options);
+}
+
 static bool is_standard_input(const struct options *options)
 {
     return options->file == NULL || strcmp(options->file, "-") == 0;
@@ -195,7 +287,7 @@ enum asked ask(struct options *options, int count, char **words)
         print_help();
         return ASKED_FOR_HELP;
     }
-    if (!is_feed_whole(&options->feed))
+    if (!is_feed_whole(&options->feed) || !take_opening(options))
         return ASKED_BADLY;
     if (!open_input(options)) {
         complain_of_input(options);

@@ -1,4 +1,4 @@
-/* What the command line of `rehearse` asks for. */
+/* What the command line of `rehearse` asks for. Layer 3. */
 #ifndef OPTIONS_H
 #define OPTIONS_H
 
@@ -6,17 +6,21 @@
 #include <stdio.h>
 
 #include "feed.h"
+#include "opening.h"
 
 struct options {
     bool help;
-    bool equities; /* the equities market, and not the bond market */
+    bool equities;          /* the usual equities market, and not the usual bond market */
+    const char *market;     /* the settings file; NULL for none */
+    const char *issue;      /* the code or symbol of its market that is asked for; NULL for the first */
+    struct opening opening; /* the market that is asked for */
     struct feed feed;
     const char *chart;   /* NULL for none */
     const char *batch;   /* NULL for none */
     const char *save;    /* NULL for none */
     const char *restore; /* NULL for none */
     const char *file;    /* NULL, or -, for standard input; with a batch, NULL is for none */
-    FILE *input; /* NULL for none */
+    FILE *input;         /* NULL for none */
 };
 
 /* The values are also the exit status of ask.c. */
