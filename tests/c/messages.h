@@ -39,7 +39,7 @@ static struct message sent(const char *type, const char *body)
 }
 
 /* A new order with an MPID and a MinQty, each missing if it is 0. tif: '0' Day, '3' IOC, '4' Fill or Kill. */
-static struct message order_with(const char *id, int side, unsigned long quantity, const char *yield, unsigned mpid, char tif,
+static inline struct message order_with(const char *id, int side, unsigned long quantity, const char *yield, unsigned mpid, char tif,
                                  unsigned long minimum)
 {
     char body[600], client[32] = "", least[32] = "";
@@ -53,7 +53,7 @@ static struct message order_with(const char *id, int side, unsigned long quantit
 }
 
 /* The same without a MinQty. */
-static struct message new_order(const char *id, int side, unsigned long quantity, const char *yield, unsigned mpid, char tif)
+static inline struct message new_order(const char *id, int side, unsigned long quantity, const char *yield, unsigned mpid, char tif)
 {
     return order_with(id, side, quantity, yield, mpid, tif, 0);
 }

@@ -1,7 +1,7 @@
 -- The laws of `fix`, for the proofs of this crate and of those above it. Nothing here need be believed.
--- Spelling: the tag and the field at the front; Walk: field after field; Loops: looking for a tag; Sums: the CheckSum;
+-- Spelling: the tag and the field at the front; Walk: field after field; Loops: looking for a tag; Sums: sums in one byte, and the CheckSum;
 -- Opening: the clauses, and 8 and 9; Verdict: garbled or not, test by test; Plain: the bytes that a good message has; Values: the
--- values that it has; Bodies: its fields between 56 and 10; Paces: a field read from bytes that end with SOH; Rows: the walk that fills
+-- values that it has; Bodies: its fields between 56 and 10; Paces: a field with the sum of its bytes, read from bytes that end with SOH; Rows: the walk that fills
 -- the row; Lines: the order of the fields by the row.
 pub mod Spelling
 pub mod Walk

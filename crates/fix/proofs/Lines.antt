@@ -7,7 +7,7 @@ use mathlib.Core.Logic.{⊎-elim}
 use native.Mathlib.Omega.{arith}
 use native.Mathlib.Nat.{zero-add, not-suc-le-zero, suc-ne-zero}
 use lib.Dec.{leb, eqb}
-use lib.ListN.{length, getD, drop, take, length-take}
+use lib.ListN.{length, getD, drop, take}
 use borrow.Author.Tests.{eqb-true, eqb-false, ne-eqb, not-true, not-false}
 use Rattle.octets.proofs.Bools.{split, both-l, both-r, neither-l, neither-r, not-both}
 use Rattle.octets.proofs.Places.{below-or}
@@ -19,13 +19,14 @@ use Rattle.fix.specs.declared.frame.Frame.{Frame}
 use Rattle.fix.specs.declared.frame.Frame.the-variants.{Garbled}
 use Rattle.fix.specs.declared.pass.Walked.{Walked}
 use Rattle.fix.specs.Fields.{Fld, fieldOf, fieldsAfter, fieldsFrom, fieldsOf, findTag, hasTag, repeats, cleanFields, lastTagOr, valueFrom, valueLen}
-use Rattle.fix.specs.Garbled.{checkSum, headedBy, header, ordered, partOf, endOf, garbledMessage, frameOf}
+use Rattle.fix.specs.Garbled.{headedBy, header, ordered, partOf, endOf, garbledMessage, frameOf}
 use Rattle.fix.specs.Steps.{fld, fieldAt, rowFields, partRow, Closed, Ready, Rowed, WalkSays, Headed, Counted, OpeningSays, Ended, Lined, Placed, Laid, Framed}
 use Rattle.fix.proofs.Opening.{garbled-order, garbled-heads}
 use Rattle.fix.proofs.Verdict.{garbled-frame, plain-unclean, plain-other, is-good}
 use Rattle.fix.proofs.Walk.{field-in}
 use Rattle.fix.proofs.Plain.{clear-unbroken}
 use Rattle.fix.proofs.Bodies.{ten-from, body-held}
+use Rattle.fix.proofs.Sums.{carried-sum}
 use Rattle.fix.proofs.Rows.{row-length, row-more, last-append, find-last}
 
 -- ---- a message that is not garbled ends with SOH
@@ -79,8 +80,8 @@ module _ (s : List ℕ) where
   pub walk-wrong : (row : List ℕ) (r : Walked) → WalkSays s row r → r ≡ Walked.Wrong → Garbled ≡ frameOf s
   walk-wrong row r w g = garbled-frame s (plain-unclean s (subst (WalkSays s row) g w))
 
-  pub walk-rowed : (row : List ℕ) (r : Walked) (count from : ℕ) → WalkSays s row r → r ≡ Walked.Whole count from → Rowed s row count from
-  walk-rowed row r count from w g = subst (WalkSays s row) g w
+  pub walk-rowed : (row : List ℕ) (r : Walked) (count from sum : ℕ) → WalkSays s row r → r ≡ Walked.Whole count from sum → Rowed s row count from sum
+  walk-rowed row r count from sum w g = subst (WalkSays s row) g w
 
 -- ---- the header first
 headed-long : (ts : List ℕ) (fs : List Fld) → headedBy ts fs ≡ true → length ts ≤ length fs
@@ -138,7 +139,7 @@ shape (t ∷ ts) row j (suc n) h =
     }
 
 -- ---- the row of a message
-module _ (s row : List ℕ) (count from : ℕ) (short : length s ≤ 1024) (w : Rowed s row count from) where
+module _ (s row : List ℕ) (count from sum : ℕ) (short : length s ≤ 1024) (w : Rowed s row count from sum) where
   pub ordered-short : count < 8 → Garbled ≡ frameOf s
   ordered-short h =
       let l : length (fieldsOf s) ≡ count = rw (w .fields) (row-length row 0 count) in
@@ -166,9 +167,6 @@ module _ (s row : List ℕ) (count from : ℕ) (short : length s ≤ 1024) (w : 
 
     pub ordered-room : count - 1 < 341
     ordered-room = omega (arith, w .few)
-
-    pub ordered-count : from ≡ length (take from s)
-    ordered-count = simp length-take (omega (arith, w .last (count - 1) (omega arith) .within))
 
     module _ (b : Bool) (eb : b ≡ headedBy header (rowFields row 0 7)) where
       pub ordered-heads : not b ≡ true → Garbled ≡ frameOf s
@@ -203,8 +201,8 @@ module _ (s row : List ℕ) (count from : ℕ) (short : length s ≤ 1024) (w : 
               let c : getD row (m * 3 + 1) 0 ≡ from + valueFrom (drop from s) = ap (λ (f : Fld). f .start) l in
               omega (arith, ten-from from (drop from s) a)
 
-          pub ordered-is : (sum : ℕ) → sum ≡ checkSum (take from s) → Lined s row m from sum
-          ordered-is sum v =
+          pub ordered-is : sum < 256 → Lined s row m from sum
+          ordered-is v =
               record {
                 short = short;
                 room = omega (arith, w .few);
@@ -214,7 +212,7 @@ module _ (s row : List ℕ) (count from : ℕ) (short : length s ≤ 1024) (w : 
                   last = sym (last-tag m em) ∙ ten;
                   ten = found;
                   place = begins;
-                  sums = v;
+                  sums = carried-sum s sum from v (w .last m (omega arith) .sums);
                 };
               }
 
@@ -258,8 +256,8 @@ eight s row count e g =
     absurd (not-both (garbled-order s (short-unordered (fieldsOf s) (omega arith))) g))
     (λ h. h) (below-or count 8)
 
-framed-is : (s row : List ℕ) (count from : ℕ) (r : Frame) → Rowed s row count from → r ≡ frameOf s → Framed s row r
-framed-is s row count from r w e =
+framed-is : (s row : List ℕ) (count from sum : ℕ) (r : Frame) → Rowed s row count from sum → r ≡ frameOf s → Framed s row r
+framed-is s row count from sum r w e =
     record {
       frame = e;
       held = λ h g.
@@ -267,5 +265,5 @@ framed-is s row count from r w e =
           body-held s n row count (eight s row count (w .fields) n) (w .few) (w .fields);
     }
 
-pub framed-walked : (s row : List ℕ) (w : Walked) (count from : ℕ) (r : Frame) → WalkSays s row w → w ≡ Walked.Whole count from → r ≡ frameOf s → Framed s row r
-framed-walked s row w count from r y g e = framed-is s row count from r (walk-rowed s row w count from y g) e
+pub framed-walked : (s row : List ℕ) (w : Walked) (count from sum : ℕ) (r : Frame) → WalkSays s row w → w ≡ Walked.Whole count from sum → r ≡ frameOf s → Framed s row r
+framed-walked s row w count from sum r y g e = framed-is s row count from sum r (walk-rowed s row w count from sum y g) e

@@ -19,9 +19,10 @@ use Rattle.fix.specs.declared.fields.Field.{Field}
 use Rattle.fix.specs.declared.fields.Field.the-variants.{Good, Broken, End}
 use Rattle.fix.specs.declared.pass.Noted.{Noted}
 use Rattle.fix.specs.Fields.{Fld, fieldOf, asField, stepOf, fieldsFrom, fieldsOf, findTag, hasTag, repeats, cleanFields, lastTagOr, valueFrom}
-use Rattle.fix.specs.Steps.{slot, Closed, fieldAt, rowFields, noted, Notes, Marked, Passing, Ready, Lastly, Rowed, seatOf}
+use Rattle.fix.specs.Steps.{slot, Closed, Carried, Paced, fieldAt, rowFields, noted, Notes, Marked, Passing, Ready, Lastly, Rowed, seatOf}
 use Rattle.fix.proofs.Walk.{Stepped, step-good, step-broken, step-end}
 use Rattle.fix.proofs.Bodies.{field-below, some-from}
+use Rattle.fix.proofs.Sums.{carried-none}
 
 -- ---- lists of fields
 pub has-append : (t : ℕ) (xs ys : List Fld) → hasTag t (xs ++ ys) ≡ (hasTag t xs || hasTag t ys)
@@ -164,25 +165,25 @@ step-field s at r t start len next e g = go (ltb at (length s)) (eqb (fieldOf at
     go false b q = let z : _≡_ {A = ℕ} 0 1 = cc in absurd (suc-ne-zero 0 (sym z))
 
 -- the fields before the cursor stand in the row, none is broken and no two have the same tag
-pub record Walking (s row marks : List ℕ) (i at from : ℕ) : Type 0 where
+pub record Walking (s row marks : List ℕ) (i at sum from before : ℕ) : Type 0 where
   pub ready : Ready s row
   pub marks-room : length marks ≡ 128
   pub few : i * 3 ≤ at
-  pub within : at ≤ length s
+  pub sums : Carried s 0 sum at
   pub goes : fieldsOf s ≡ rowFields row 0 i ++ fieldsFrom at s
   pub unbroken : hasTag 0 (rowFields row 0 i) ≡ false
   pub distinct : repeats (rowFields row 0 i) ≡ false
   pub marked : Marked marks row i
-  pub last : (m : ℕ) → i ≡ m + 1 → Lastly s row m from
+  pub last : (m : ℕ) → i ≡ m + 1 → Lastly s row m from before
 
-pub walk-start : (s row marks : List ℕ) → Ready s row → length marks ≡ 128 → Walking s row marks 0 0 0
+pub walk-start : (s row marks : List ℕ) → Ready s row → length marks ≡ 128 → Walking s row marks 0 0 0 0 0
 unfolding rowFields hasTag repeats
 walk-start s row marks r m =
     record {
       ready = r;
       marks-room = m;
       few = omega arith;
-      within = omega arith;
+      sums = carried-none s 0;
       goes = refl;
       unbroken = refl;
       distinct = refl;
@@ -190,12 +191,12 @@ walk-start s row marks r m =
       last = λ m e. absurd (omega (arith, e));
     }
 
-module _ (s row marks : List ℕ) (i at from : ℕ) (inv : Walking s row marks i at from) where
+module _ (s row marks : List ℕ) (i at sum from before : ℕ) (inv : Walking s row marks i at sum from before) where
   pub walk-closed : Closed s
   walk-closed = inv .ready .closed
 
   pub walk-few : i ≤ 341
-  walk-few = omega (arith, inv .few, inv .within, inv .ready .short)
+  walk-few = omega (arith, inv .few, inv .sums .within, inv .ready .short)
 
   pub walk-count : Fits w64 (i + 1)
   walk-count = record { fits = omega (arith, walk-few) }
@@ -203,25 +204,25 @@ module _ (s row marks : List ℕ) (i at from : ℕ) (inv : Walking s row marks i
   pub walk-slot : (t : ℕ) → t % 128 < 128
   walk-slot t = omega arith
 
-  module _ (r : Field) (p : r ≡ stepOf s at) where
+  module _ (r : Field) (sum′ : ℕ) (p : Paced s at r sum′) where
     pub walk-broken : r ≡ Broken → cleanFields (fieldsOf s) ≡ false
     unfolding cleanFields hasTag
     walk-broken g =
-        let q : hasTag 0 (fieldsOf s) ≡ true = rw (inv .goes, step-broken s at r p g) (has-append 0 (rowFields row 0 i) _ ∙ simp or-true) in
+        let q : hasTag 0 (fieldsOf s) ≡ true = rw (inv .goes, step-broken s at r (p .step) g) (has-append 0 (rowFields row 0 i) _ ∙ simp or-true) in
         rw q
 
-    pub walk-end : r ≡ End → Rowed s row i from
+    pub walk-end : r ≡ End → Rowed s row i from before
     unfolding cleanFields
     walk-end g =
-        let f : fieldsOf s ≡ rowFields row 0 i = inv .goes ∙ rw (step-end s at r p g) (append-nil (rowFields row 0 i)) in
+        let f : fieldsOf s ≡ rowFields row 0 i = inv .goes ∙ rw (step-end s at r (p .step) g) (append-nil (rowFields row 0 i)) in
         record { few = walk-few; fields = f; clean = rw f (rw (inv .unbroken, inv .distinct)); last = inv .last }
 
     module _ (t start len : ℕ) (next : Cursor) (g : r ≡ Good t start len next) where
       w : Stepped s at t start len (next .at)
-      w = step-good s at r t start len next p g
+      w = step-good s at r t start len next (p .step) g
 
       here : record { tag = t; start = start; len = len } ≡ fieldOf at (drop at s)
-      here = step-field s at r t start len next p g
+      here = step-field s at r t start len next (p .step) g
 
       pub walk-less : length s - next .at < length s - at
       walk-less = omega (arith, w .ahead, w .within)
@@ -283,21 +284,21 @@ module _ (s row marks : List ℕ) (i at from : ℕ) (inv : Walking s row marks i
               or-there true o n y = refl
               or-there false o n y = absurd (not-both (rw n at y) refl)
 
-          pub walk-more : Walking s row′ (set marks (slot t) 1) (i + 1) (next .at) at
+          pub walk-more : Walking s row′ (set marks (slot t) 1) (i + 1) (next .at) sum′ at sum
           unfolding hasTag
           walk-more =
               record {
                 ready = record { closed = inv .ready .closed; short = inv .ready .short; room = rw er (noted-length row i t start len ∙ inv .ready .room) };
                 marks-room = simp length-set (inv .marks-room);
                 few = omega (arith, three, inv .few);
-                within = w .within;
+                sums = p .sums t start len next g;
                 goes = inv .goes ∙ rw (more, w .fields) (sym (append-assoc (rowFields row 0 i) (f ∷ []) (fieldsFrom (next .at) s)));
                 unbroken = rw more (has-append 0 (rowFields row 0 i) (f ∷ []) ∙ rw (inv .unbroken) (simp (ne-eqb t 0 (w .some))));
                 distinct = rw more (repeats-more (rowFields row 0 i) f (inv .distinct) none);
                 marked = λ u y z. still u (rw more at y) z;
                 last = λ m e.
                     let z : m ≡ i = omega (arith, e) in
-                    rw (z, er) (record { field = noted-here row i t start len (inv .ready .room) room ∙ here; within = inv .within });
+                    rw (z, er) (record { field = noted-here row i t start len (inv .ready .room) room ∙ here; sums = inv .sums });
               }
 
 -- ---- a step over the row

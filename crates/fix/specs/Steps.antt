@@ -13,6 +13,7 @@ use Rattle.fix.specs.declared.fields.Found.the-variants.{At, Nothing}
 use Rattle.fix.specs.declared.fields.Tag.{Tag}
 use Rattle.fix.specs.declared.fields.Cursor.{Cursor}
 use Rattle.fix.specs.declared.fields.Field.{Field}
+use Rattle.fix.specs.declared.pass.Text.{Text}
 use Rattle.fix.specs.declared.pass.Walked.{Walked}
 use Rattle.fix.specs.declared.pass.Seat.{Seat}
 use Rattle.fix.specs.declared.pass.Noted.{Noted}
@@ -37,16 +38,37 @@ rightOf s p n =
 unfoldable pub sumsOf : List ℕ → ℕ → Part → Bool
 sumsOf s sum p = eqb (length (partIn s p)) 3 && saysIt sum (numOf 3 (partIn s p))
 
--- ---- one walk
+-- ---- one walk: a field, with the sum of its bytes
 
 -- the last byte is SOH
 pub record Closed (s : List ℕ) : Type 0 where
   pub soh : getD s (length s - 1) 0 ≡ 1
 
--- so many characters of a value, and they end within s
-pub record Ran (s : List ℕ) (n : ℕ) : Type 0 where
-  pub run : n ≡ textRun s
-  pub short : n < length s
+-- the first k bytes of s took the sum, in one byte, from a to b
+pub record Carried (s : List ℕ) (a b k : ℕ) : Type 0 where
+  pub within : k ≤ length s
+  pub sums : (b + sumOf (drop k s)) % 256 ≡ (a + sumOf s) % 256
+
+-- the tag, and a sum that took in its digits and its `=`
+pub record Tagged (s : List ℕ) (t : Tag) (a b : ℕ) : Type 0 where
+  pub tag : t ≡ tagOf s
+  pub sums : (t .digits ≡ 0 → ⊥) → Carried s a b (t .digits + 1)
+
+-- the value and the byte behind it, which is within s, and a sum that took in both
+pub record Ran (s : List ℕ) (v : Text) (a b : ℕ) : Type 0 where
+  pub run : v .len ≡ textRun s
+  pub short : v .len < length s
+  pub byte : v .behind ≡ getD s (v .len) 0
+  pub sums : Carried s a b (v .len + 1)
+
+-- the field, and a sum that took in all of it
+pub record Strode (s : List ℕ) (at : ℕ) (r : Field) (a b : ℕ) : Type 0 where
+  pub field : r ≡ asField (fieldOf at s)
+  pub sums : (t start len : ℕ) (next : Cursor) → r ≡ Field.Good t start len next → (k : ℕ) → next .at ≡ at + k → Carried s a b k
+
+pub record Paced (s : List ℕ) (at : ℕ) (r : Field) (b : ℕ) : Type 0 where
+  pub step : r ≡ stepOf s at
+  pub sums : (t start len : ℕ) (next : Cursor) → r ≡ Field.Good t start len next → Carried s 0 b (next .at)
 
 -- ---- the row of places: for each field its tag, where its value starts, and its length
 unfoldable pub fieldAt : List ℕ → ℕ → Fld
@@ -86,21 +108,21 @@ pub record Ready (s row : List ℕ) : Type 0 where
   pub short : length s ≤ 1024
   pub room : length row ≡ 1023
 
--- the field with the number m starts at place `from`
-pub record Lastly (s row : List ℕ) (m from : ℕ) : Type 0 where
-  pub within : from ≤ length s
+-- the field with the number m starts at place `from`, and the bytes before it have the sum
+pub record Lastly (s row : List ℕ) (m from sum : ℕ) : Type 0 where
   pub field : fieldAt row m ≡ fieldOf from (drop from s)
+  pub sums : Carried s 0 sum from
 
 -- the row holds all fields, and no tag stands twice
-pub record Rowed (s row : List ℕ) (count from : ℕ) : Type 0 where
+pub record Rowed (s row : List ℕ) (count from sum : ℕ) : Type 0 where
   pub few : count ≤ 341
   pub fields : fieldsOf s ≡ rowFields row 0 count
   pub clean : cleanFields (fieldsOf s) ≡ true
-  pub last : (m : ℕ) → count ≡ m + 1 → Lastly s row m from
+  pub last : (m : ℕ) → count ≡ m + 1 → Lastly s row m from sum
 
 abbrev pub WalkSays : List ℕ → List ℕ → Walked → Type 0
 WalkSays s row Walked.Wrong = cleanFields (fieldsOf s) ≡ false
-WalkSays s row (Walked.Whole count from) = Rowed s row count from
+WalkSays s row (Walked.Whole count from sum) = Rowed s row count from sum
 
 -- ---- the header, by the row
 abbrev pub fld : ℕ → Part → Fld

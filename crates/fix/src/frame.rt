@@ -212,9 +212,10 @@ fn lined(s: &[u8], row: &[u16; 1023], m: usize, t: usize, sum: u8) -> Frame
     settled(s, count, a, h, b, place(row, m), t, sum)
 }
 
-// The parts of a message whose fields the row holds, or garbled: the header comes first, and 10 last, from place `from` on.
-fn ordered(s: &[u8], row: &[u16; 1023], count: usize, from: usize) -> Frame
-    requires { ⌜ (length (now s) ≤ 1024) × Rowed (now s) (now row) count from ⌝ }
+// The parts of a message whose fields the row holds, or garbled: the header comes first, and 10 last, from place `from` on, behind
+// bytes with the sum.
+fn ordered(s: &[u8], row: &[u16; 1023], count: usize, from: usize, sum: u8) -> Frame
+    requires { ⌜ (length (now s) ≤ 1024) × Rowed (now s) (now row) count from sum ⌝ }
     ensures { λ r. ⌜ r ≡ frameOf (now (s .entry)) ⌝ }
 {
     if count < 8 {
@@ -227,7 +228,7 @@ fn ordered(s: &[u8], row: &[u16; 1023], count: usize, from: usize) -> Frame
     if row[m * 3] != 10 {
         return Frame::Garbled;
     }
-    lined(s, row, m, from, checksum(&s[..from]))
+    lined(s, row, m, from, sum)
 }
 
 // The parts of a message, or garbled. The row takes the places of its fields.
@@ -246,7 +247,7 @@ pub fn framed_in(s: &[u8], row: &mut [u16; 1023]) -> Frame
         return Frame::Garbled;
     }
     match walk(s, row) {
-        Walked::Whole { count, from } => ordered(s, row, count, from),
+        Walked::Whole { count, from, sum } => ordered(s, row, count, from, sum),
         Walked::Wrong => Frame::Garbled,
     }
 }

@@ -1,5 +1,5 @@
-// One walk over the bytes of a message: its fields, each with its tag and where its value stands. The bytes that are walked over end
-// with SOH, so that no step asks for their end.
+// One walk over the bytes of a message: its fields, each with its tag and where its value stands, and the sum of the bytes
+// before the last one. Each byte is loaded once. The bytes that are walked over end with SOH, so that no step asks for their end.
 use crate::fields::Cursor;
 use crate::fields::Field;
 use crate::fields::Tag;
@@ -8,13 +8,13 @@ use decimal::read::digit;
 ghost use mathlib.Core.Path.{_≡_};
 ghost use Prim.Native.Nat.{ℕ, _+_, _-_, _*_, _^_, _≤_, _<_};
 ghost use lib.ListN.{length};
-ghost use Rattle.fix.specs.Fields.{tagOf, fieldOf, asField, stepOf, hasTag};
-ghost use Rattle.fix.specs.Steps.{Closed, Ran, rowFields, Passing, Notes, noted, Ready, WalkSays, seatOf};
+ghost use Rattle.fix.specs.Fields.{hasTag};
+ghost use Rattle.fix.specs.Steps.{Closed, Carried, Tagged, Ran, Strode, Paced, rowFields, Passing, Notes, noted, Ready, WalkSays, seatOf};
 
-// What the walk over a whole message finds: how many fields, and where the last starts. Wrong where something is no field, or a tag
-// stands twice.
+// What the walk over a whole message finds: how many fields, where the last starts, and the sum of the bytes before it. Wrong
+// where something is no field, or a tag stands twice.
 pub enum Walked {
-    Whole { count: usize, from: usize },
+    Whole { count: usize, from: usize, sum: u8 },
     Wrong,
 }
 
@@ -34,22 +34,30 @@ pub enum Noted {
     End,
 }
 
-// The tag that `s` starts with, as `tag_of` reads it.
-fn spelled(s: &[u8]) -> Tag
+// The characters of a value: how many they are, and the byte behind them.
+pub struct Text {
+    pub len: usize,
+    pub behind: u8,
+}
+
+// The tag that `s` starts with, as `tag_of` reads it; the sum takes in its digits and its `=`.
+fn spelled(s: &[u8], sum: &mut u8) -> Tag
     requires { ⌜ Closed (now s) ⌝ }
-    ensures { λ r. ⌜ r ≡ tagOf (now (s .entry)) ⌝ }
+    ensures { λ r. ⌜ Tagged (now (s .entry)) r (now (sum .entry)) (now (sum .exit)) ⌝ }
 {
     let none = Tag {
         number: 0,
         digits: 0,
     };
+    let first = s[0];
+    let mut b = first;
     let mut n: u64 = 0;
     let mut i = 0;
     loop {
-        let b = s[i];
         let d = digit(b);
+        *sum = std::num::wrapping_add_u8(*sum, b);
         if 9 < d {
-            if (0 < i) & (i <= 4) & (s[0] != b'0') & (b == b'=') {
+            if (0 < i) & (i <= 4) & (first != b'0') & (b == b'=') {
                 return Tag {
                     number: n,
                     digits: i,
@@ -62,60 +70,63 @@ fn spelled(s: &[u8]) -> Tag
         }
         n = n * 10 + d;
         i += 1;
+        b = s[i];
     }
 }
 
-// How many characters of a value `s` starts with.
-fn run(s: &[u8]) -> usize
+// The value that `s` starts with; the sum takes in its characters and the byte behind them.
+fn run(s: &[u8], sum: &mut u8) -> Text
     requires { ⌜ Closed (now s) ⌝ }
-    ensures { λ r. ⌜ Ran (now (s .entry)) r ⌝ }
+    ensures { λ r. ⌜ Ran (now (s .entry)) r (now (sum .entry)) (now (sum .exit)) ⌝ }
 {
     let mut i = 0;
     loop {
         let b = s[i];
+        *sum = std::num::wrapping_add_u8(*sum, b);
         if !is_text(b) {
-            return i;
+            return Text { len: i, behind: b };
         }
         i += 1;
     }
 }
 
-// The field that `s` starts with, where `s` stands at place `at` of the message.
-fn strode(s: &[u8], at: usize) -> Field
+// The field that `s` starts with, where `s` stands at place `at` of the message; the sum takes it in.
+fn strode(s: &[u8], at: usize, sum: &mut u8) -> Field
     requires { ⌜ Closed (now s) × (at + length (now s) < 2 ^ 64) ⌝ }
-    ensures { λ r. ⌜ r ≡ asField (fieldOf at (now (s .entry))) ⌝ }
+    ensures { λ r. ⌜ Strode (now (s .entry)) at r (now (sum .entry)) (now (sum .exit)) ⌝ }
 {
-    let t = spelled(s);
+    let t = spelled(s, sum);
     let tag = t.number;
     if t.digits == 0 {
         return Field::Broken;
     }
     let v = t.digits + 1;
-    let n = run(&s[v..]);
-    let e = v + n;
-    let b = s[e];
-    if b != 1 {
+    let w = run(&s[v..], sum);
+    if w.behind != 1 {
         return Field::Broken;
     }
+    let len = w.len;
     Field::Good {
         tag,
         start: at + v,
-        len: n,
-        next: Cursor { at: at + e + 1 },
+        len,
+        next: Cursor {
+            at: at + (v + len) + 1,
+        },
     }
 }
 
 impl Cursor {
-    // The field that stands at the cursor, and the cursor behind it.
-    pub fn pace(self, s: &[u8]) -> Field
-        requires { ⌜ Closed (now s) ⌝ }
-        ensures { λ r. ⌜ r ≡ stepOf (now (s .entry)) (self .at) ⌝ }
+    // The field that stands at the cursor, and the cursor behind it; the sum, of the bytes before the cursor, goes on with it.
+    pub fn pace(self, s: &[u8], sum: &mut u8) -> Field
+        requires { ⌜ Closed (now s) × Carried (now s) 0 (now sum) (self .at) ⌝ }
+        ensures { λ r. ⌜ Paced (now (s .entry)) (self .at) r (now (sum .exit)) ⌝ }
     {
         let at = self.at;
         if s.len() <= at {
             return Field::End;
         }
-        strode(&s[at..], at)
+        strode(&s[at..], at, sum)
     }
 }
 
@@ -164,10 +175,13 @@ pub fn walk(s: &[u8], row: &mut [u16; 1023]) -> Walked
     let mut marks: [u8; 128] = [0; 128];
     let mut c = Cursor { at: 0 };
     let mut count = 0;
+    let mut so_far: u8 = 0;
     let mut from = 0;
+    let mut sum: u8 = 0;
     loop {
         let at = c.at;
-        match c.pace(s) {
+        let before = so_far;
+        match c.pace(s, &mut so_far) {
             Field::Good {
                 tag,
                 start,
@@ -181,11 +195,12 @@ pub fn walk(s: &[u8], row: &mut [u16; 1023]) -> Walked
                 marks[k] = 1;
                 note(row, count, tag, start, len);
                 from = at;
+                sum = before;
                 count += 1;
                 c = next;
             }
             Field::Broken => return Walked::Wrong,
-            Field::End => return Walked::Whole { count, from },
+            Field::End => return Walked::Whole { count, from, sum },
         }
     }
 }

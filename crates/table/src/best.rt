@@ -119,10 +119,12 @@ fn with_record(t: &[u8], i: usize, side: u64, b: BestLevel) -> BestLevel
     if x == 0 {
         return b;
     }
+    let total = b.total + x;
+    let orders = b.orders + 1;
     BestLevel {
         level: b.level,
-        total: b.total + x,
-        orders: b.orders + 1,
+        total,
+        orders,
     }
 }
 

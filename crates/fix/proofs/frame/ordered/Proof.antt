@@ -1,5 +1,5 @@
 -- The header first, and 10 last.
-use Rattle.fix.proofs.Lines.{ordered-short, ordered-heads, ordered-last, ordered-room, ordered-count, ordered-is}
+use Rattle.fix.proofs.Lines.{ordered-short, ordered-heads, ordered-last, ordered-room, ordered-is}
 use borrow.Author.Needs.{needs}
 use Rattle.fix.proofs.frame.ordered.Statement.{statement}
 use Rattle.fix.proofs.frame.ordered.Tie as tie
@@ -28,12 +28,6 @@ element-copy-out-if3 c = search needs
 returns-3 : tie.Need-returns-3
 returns-3 c = search (needs, ordered-last)
 
-slice-aggregate-checksum : tie.Need-slice-aggregate-checksum
-slice-aggregate-checksum c = search (needs, ordered-count)
-
-checksum-requires : tie.Need-checksum-requires
-checksum-requires c κs = search needs
-
 lined-requires : tie.Need-lined-requires
 lined-requires c κs = search (needs, ordered-is)
 
@@ -52,7 +46,5 @@ ordered-spec =
     mul-if3-2
     element-copy-out-if3
     returns-3
-    slice-aggregate-checksum
-    checksum-requires
     lined-requires
     returns-4)

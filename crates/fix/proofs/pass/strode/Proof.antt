@@ -1,4 +1,4 @@
--- The tag, the value behind it, and the SOH that ends it.
+-- The tag, the value behind it, and the SOH that ends it, with the sum.
 use Rattle.fix.proofs.Paces.{strode-none, strode-start, strode-fits, strode-rest, strode-end, strode-other, strode-good}
 use borrow.Author.Needs.{needs}
 use Rattle.fix.proofs.pass.strode.Statement.{statement}
@@ -25,23 +25,20 @@ part-run-end c = search needs
 run-requires : tie.Need-run-requires
 run-requires c κs = search (needs, strode-rest)
 
-add-e : tie.Need-add-e
-add-e c = search needs
-
-shared-slice-read-b : tie.Need-shared-slice-read-b
-shared-slice-read-b c = search needs
-
 returns-2 : tie.Need-returns-2
 returns-2 c = search (needs, strode-other)
 
-add-t11 : tie.Need-add-t11
-add-t11 c = search needs
+add-t12 : tie.Need-add-t12
+add-t12 c = search needs
 
 add-t16 : tie.Need-add-t16
 add-t16 c = search needs
 
 add-t17 : tie.Need-add-t17
 add-t17 c = search needs
+
+add-t18 : tie.Need-add-t18
+add-t18 c = search needs
 
 returns-3 : tie.Need-returns-3
 returns-3 c = search (needs, strode-good)
@@ -57,10 +54,9 @@ strode-spec =
     part-run-start
     part-run-end
     run-requires
-    add-e
-    shared-slice-read-b
     returns-2
-    add-t11
+    add-t12
     add-t16
     add-t17
+    add-t18
     returns-3)

@@ -8,16 +8,16 @@ use Rattle.fix.proofs.pass.walk.Statement.{statement}
 use Rattle.fix.proofs.pass.walk.Tie as tie
 
 abbrev Inv-loop : tie.InvT-loop
-Inv-loop s row₀ marks₀ c₀ count₀ from₀ row marks c count from = Walking s row marks count (c .at) from
+Inv-loop s row₀ marks₀ c₀ count₀ so-far₀ from₀ sum₀ row marks c count so-far from sum = Walking s row marks count (c .at) so-far from sum
 
 abbrev μ-loop : tie.MeasureT-loop
-μ-loop s row₀ marks₀ c₀ count₀ from₀ row marks c count from = length s - c .at
+μ-loop s row₀ marks₀ c₀ count₀ so-far₀ from₀ sum₀ row marks c count so-far from sum = length s - c .at
 
 loop-holds : tie.Need-loop-holds Inv-loop μ-loop
 loop-holds c = walk-start _ _ _ (search needs) refl
 
 pace-requires : tie.Need-pace-requires Inv-loop μ-loop
-pace-requires c κs = search (needs, walk-closed)
+pace-requires c κs = (search (needs, walk-closed), search needs)
 
 enum-known-tag : tie.Need-enum-known-tag Inv-loop μ-loop
 enum-known-tag c = search needs

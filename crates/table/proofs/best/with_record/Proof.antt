@@ -12,14 +12,14 @@ share-at-requires c κs = search needs
 returns : tie.Need-returns
 returns c = (refl, search (needs, nothing-more), search (needs, none-more), omega arith)
 
-add-t7 : tie.Need-add-t7
-add-t7 c = search needs
+add-total : tie.Need-add-total
+add-total c = search needs
 
-add-t8 : tie.Need-add-t8
-add-t8 c = search needs
+add-orders : tie.Need-add-orders
+add-orders c = search needs
 
 returns-2 : tie.Need-returns-2
 returns-2 c = (refl, search (needs, some-more), search (needs, one-more), omega arith)
 
 pub with-record-spec : {M : Type 1} → statement M
-with-record-spec = tie.close (tie.spec share-at-requires returns add-t7 add-t8 returns-2)
+with-record-spec = tie.close (tie.spec share-at-requires returns add-total add-orders returns-2)

@@ -1,4 +1,4 @@
--- The field at the cursor, read from the rest of the message.
+-- The field at the cursor, read from the rest of the message, with the sum.
 use Rattle.fix.proofs.Paces.{closed-rest, pace-end, pace-good}
 use borrow.Author.Needs.{needs}
 use Rattle.fix.proofs.fields.Cursor.pace.Statement.{statement}
