@@ -1,107 +1,37 @@
-/* Codes and tags in words: tables, and the three kinds of reject told with them. Layer 2. */
+/* Codes and tags in the words of words.def, and the three kinds of reject told with them. Layer 2. */
 #include "meanings.h"
 
 #include <stdio.h>
+#include <string.h>
 
 #include "kind.h"
 
-const struct meaning order_statuses[] = {
-    {"0", "new"},
-    {"1", "partly filled"},
-    {"2", "filled"},
-    {"4", "canceled"},
-    {"5", "replaced"},
-    {"8", "rejected"},
-    {NULL, "of a status unknown to this program"},
+/* The rows of words.def; in each table the last one, for any code, ends a search. */
+static const struct {
+    enum words table;
+    const char *code, *words;
+} rows[] = {
+#define WORDS(table, code, words) {table, code, words},
+#include "words.def"
 };
 
-const struct meaning order_sides[] = {
-    {"1", "buy"},
-    {"2", "sell"},
-    {"5", "sell short"},
-    {"6", "sell short exempt"},
-    {NULL, "of a side unknown to this program"},
-};
+/* In which markets a tag is called so and takes these values. */
+enum markets { in_both, in_bonds, in_equities };
 
-const struct meaning restatements[] = {
-    {"99", "the rest of an IOC"},
-    {"100", "self-trade prevention"},
-    {NULL, "for a reason unknown to this program"},
-};
-
-/* 373; the tag of 371 follows the words */
-static const struct meaning session_reasons[] = {
-    {"1", "missing tag"},
-    {"2", "not a tag of this message type:"},
-    {"3", "unknown tag"},
-    {"4", "no value in tag"},
-    {"5", "value outside the range of tag"},
-    {"6", "value of the wrong form in tag"},
-    {"9", "not a CompID of this market in tag"},
-    {"11", "unknown message type in tag"},
-    {NULL, "a reason unknown to this program, tag"},
-};
-
-/* 103, but for 1, which says that tag 55 is not what the market trades */
-static const struct meaning order_reasons[] = {
-    {"0", "no room: 255 orders are open"},
-    {"6", "duplicate ClOrdID"},
-    {"99", "MPID in tag 109 not listed in this market"},
-    {NULL, "a reason unknown to this program"},
-};
-
-/* 102 of a cancel */
-static const struct meaning cancel_reasons[] = {
-    {"0", "too late: nothing of the order is open"},
-    {"1", "unknown order"},
-    {"2", "tag 54 is not the order's side, or an order has the ClOrdID of tag 11 already"},
-    {NULL, "a reason unknown to this program"},
-};
-
-/* 102 of a replacement */
-static const struct meaning replacement_reasons[] = {
-    {"0", "too late: nothing of the order is open"},
-    {"1", "unknown order"},
-    {"2", "tag 54 is not the order's side, or an order has the ClOrdID of tag 11 already, or tag 38 is not above what the order has "
-          "executed and lost by decrements"},
-    {NULL, "a reason unknown to this program"},
-};
-
-/* What a tag of a message is called in FIX, and the values it takes; in both markets, or in one of them. */
 static const struct {
     const char *tag, *name, *values;
-    const struct kind *of;
+    enum markets of;
 } tags[] = {
-    {"1", "Account", "1 to 10 characters", NULL},
-    {"11", "ClOrdID", "1 to 32 characters", NULL},
-    {"21", "HandlInst", "1", NULL},
-    {"35", "MsgType", "D, F or G", NULL},
-    {"38", "OrderQty", "1 to 9 digits, not 0", NULL},
-    {"40", "OrdType", "2, limit", NULL},
-    {"41", "OrigClOrdID", "1 to 32 characters", NULL},
-    {"44", "Price", "a yield such as 0.105 or -1.5, 1 to 6 digits and up to 3 behind the point", &bonds},
-    {"44", "Price", "a price such as 100 or 100.5, 1 to 8 digits and at most 1 behind the point, without a minus", &equities},
-    {"47", "Rule80A", "A, agency, or P, principal", NULL},
-    {"49", "SenderCompID", "the port", NULL},
-    {"54", "Side", "1, buy, or 2, sell", &bonds},
-    {"54", "Side", "1, buy, 2, sell, 5, sell short, or 6, sell short exempt", &equities},
-    {"55", "Symbol", "the bond code, 1 to 9 digits", &bonds},
-    {"55", "Symbol", "the symbol, 1 to 9 characters", &equities},
-    {"56", "TargetCompID", "the venue", NULL},
-    {"59", "TimeInForce", "0, day, 3, IOC, or 4, Fill or Kill", NULL},
-    {"60", "TransactTime", "YYYYMMDD-HH:MM:SS with or without .sss", NULL},
-    {"109", "ClientID", "an MPID, 1 to 6 digits, not 0", NULL},
-    {"110", "MinQty", "1 to 9 digits, not 0, not above tag 38, with 59=3 alone", NULL},
-    {"544", "CashMargin", "1, cash, 2, margin open, or 3, margin close", &equities},
-    {"8060", "OrderClassification", "1, 3, 4, 5 or 6", NULL},
-    {"8214", "MarginTransactionType", "1, negotiable, or 2, standardized, not with 544=1", &equities},
+#define TAG(tag, name, values, market) {tag, name, values, in_##market},
+#include "words.def"
 };
 
-const char *meaning_of(const struct meaning *table, struct part code)
+const char *meaning_of(enum words table, struct part code)
 {
-    while (table->code != NULL && !part_is(code, table->code))
-        table++;
-    return table->words;
+    size_t i = 0;
+    while (rows[i].table != table || (!part_is(code, rows[i].code) && strcmp(rows[i].code, "*") != 0))
+        i++;
+    return rows[i].words;
 }
 
 /* `373=5`, for example, and words behind it. */
@@ -112,7 +42,7 @@ static void print_code(struct part report, uint64_t tag)
     printf(", ");
 }
 
-static void print_meaning(struct part report, uint64_t tag, const struct meaning *table)
+static void print_meaning(struct part report, uint64_t tag, enum words table)
 {
     print_code(report, tag);
     printf("%s", meaning_of(table, value_of(report, tag)));
@@ -121,12 +51,13 @@ static void print_meaning(struct part report, uint64_t tag, const struct meaning
 void print_session_reject(struct part report)
 {
     struct part tag = value_of(report, 371);
+    enum markets here = kind == &equities ? in_equities : in_bonds;
     printf("session reject: ");
     print_meaning(report, 373, session_reasons);
     putchar(' ');
     print_part(tag);
     for (size_t i = 0; i < sizeof tags / sizeof *tags; i++)
-        if (part_is(tag, tags[i].tag) && (tags[i].of == NULL || tags[i].of == kind))
+        if (part_is(tag, tags[i].tag) && (tags[i].of == in_both || tags[i].of == here))
             printf(" (%s: %s)", tags[i].name, tags[i].values);
 }
 

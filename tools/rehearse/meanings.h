@@ -4,17 +4,11 @@
 
 #include "parts.h"
 
-struct meaning {
-    const char *code; /* NULL behind the last row */
-    const char *words;
-};
-
-extern const struct meaning order_statuses[]; /* 39 and 150 */
-extern const struct meaning order_sides[];    /* 54 */
-extern const struct meaning restatements[];   /* 378 */
+/* The tables of words.def: 39 and 150, 54, 378, 373, 103, 102 of a cancel, 102 of a replacement. */
+enum words { order_statuses, order_sides, restatements, session_reasons, order_reasons, cancel_reasons, replacement_reasons };
 
 /* The words of a code in a table. */
-const char *meaning_of(const struct meaning *table, struct part code);
+const char *meaning_of(enum words table, struct part code);
 
 /* Each says in words why a message was rejected, from the report that was written of it; no line end. */
 void print_session_reject(struct part report);
