@@ -468,10 +468,22 @@ times-those r (x ∷ xs) e =
     (λ t. absurd (let z = rw (eqb-true x r t, eq-eqb r r refl) at e in omega arith))
     (λ t. rw t (ap (λ (z : List ℕ). x ∷ z) (times-those r xs (omega arith))))
 
-pub front-closed : (b : Book) (s r : ℕ) (l : List ℕ) → inTurn b s ≡ r ∷ l → those (λ k. not (eqb k r)) (inTurn b s) ≡ l
-unfolding those times
-front-closed b s r l e =
+pub front-once : (b : Book) (s r : ℕ) (l : List ℕ) → inTurn b s ≡ r ∷ l → times r l ≡ 0
+unfolding times
+front-once b s r l e =
     let once : cond (eqb r r) 1 0 + times r l ≡ cond (stands s (at b r)) 1 0 = rw e at (in-turn-once b s r) in
     let one = rw (eq-eqb r r refl) at once in
-    rw (e, eq-eqb r r refl)
-    (times-those r l (split (stands s (at b r)) (λ t. let z = rw t at one in omega arith) (λ t. let z = rw t at one in omega arith)))
+    split (stands s (at b r)) (λ t. let z = rw t at one in omega arith) (λ t. let z = rw t at one in omega arith)
+
+pub front-closed : (b : Book) (s r : ℕ) (l : List ℕ) → inTurn b s ≡ r ∷ l → those (λ k. not (eqb k r)) (inTurn b s) ≡ l
+unfolding those
+front-closed b s r l e = rw (e, eq-eqb r r refl) (times-those r l (front-once b s r l e))
+
+-- none of a list that r is not in is r
+pub times-apart : (r : ℕ) (l : List ℕ) → times r l ≡ 0 → Each (λ k. k ≢ r) l
+unfolding times
+times-apart r [] e = tt
+times-apart r (x ∷ xs) e =
+    split (eqb r x)
+    (λ t. absurd (let z = rw t at e in omega arith))
+    (λ t. (λ q. eqb-false r x t (sym q), times-apart r xs (omega arith)))

@@ -5,7 +5,7 @@
 -- Submit does; Quoting: orders keep to the sides and levels of their market; Best: nothing is better than the best; InTurn: the open
 -- orders of a side in turn; Levels: the levels of a side; Modes: one mode is asked for; Minimum: what an order would trade, and what a
 -- match does to it; Turns, Offers, Looking: that this is found by looking at the book; Deciding: what comes of the decision on a minimum;
--- Cases: the rehearsed cases; Theorems: what people read.
+-- OutOfTheWay: own orders cost no fills; Cases: the rehearsed cases; Theorems: what people read.
 pub mod Values
 pub mod Books
 pub mod Events
@@ -28,5 +28,6 @@ pub mod Turns
 pub mod Offers
 pub mod Looking
 pub mod Deciding
+pub mod OutOfTheWay
 pub mod Cases
 pub mod Theorems
