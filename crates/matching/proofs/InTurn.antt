@@ -424,7 +424,7 @@ pub alike-stands : (s : ℕ) (a c : Order) → Alike a c → stands s c ≡ stan
 unfolding stands
 alike-stands s a c h = rw (h .live, h .side)
 
-and-true : (x : Bool) → (x && true) ≡ x
+pub and-true : (x : Bool) → (x && true) ≡ x
 and-true true = refl
 and-true false = refl
 
@@ -440,7 +440,7 @@ in-turn-same b c s h =
     ∙ those-all (λ k. true) (inTurn b s) (λ k. refl)
 
 -- one with nothing open any more is taken out, and the others stay in turn
-closed-stands : (s : ℕ) (o : Order) → openOf o ≡ 0 → stands s o ≡ false
+pub closed-stands : (s : ℕ) (o : Order) → openOf o ≡ 0 → stands s o ≡ false
 unfolding stands
 closed-stands s o z = rw z
 

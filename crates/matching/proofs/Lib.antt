@@ -5,7 +5,8 @@
 -- Submit does; Quoting: orders keep to the sides and levels of their market; Best: nothing is better than the best; InTurn: the open
 -- orders of a side in turn; Levels: the levels of a side; Modes: one mode is asked for; Minimum: what an order would trade, and what a
 -- match does to it; Turns, Offers, Looking: that this is found by looking at the book; Deciding: what comes of the decision on a minimum;
--- OutOfTheWay: own orders cost no fills; Cases: the rehearsed cases; Theorems: what people read.
+-- OutOfTheWay, Withdrawing: own orders cost no fills, and how they come out of the way; Cases: the rehearsed cases; Theorems: what people
+-- read.
 pub mod Values
 pub mod Books
 pub mod Events
@@ -29,5 +30,6 @@ pub mod Offers
 pub mod Looking
 pub mod Deciding
 pub mod OutOfTheWay
+pub mod Withdrawing
 pub mod Cases
 pub mod Theorems

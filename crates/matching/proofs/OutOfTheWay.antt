@@ -17,12 +17,12 @@ use Rattle.matching.specs.Matching.{Book, at, openOf, isOpen, isBuy, isI
 use Rattle.matching.specs.Depth.{stands}
 use Rattle.matching.specs.InTurn.{inTurn}
 use Rattle.matching.specs.Held.{In, amount}
-use Rattle.matching.specs.Accounts.{tally, trades}
+use Rattle.matching.specs.Accounts.{tally, trades, cancels}
 use Rattle.matching.specs.Happens.{Fit, Fits}
-use Rattle.matching.specs.OutOfTheWay.{those, facing, othersOf, Lot, lotOf, SameOrder, OutOfTheWay, fill, fills, lapse, lapsed, SameFills}
+use Rattle.matching.specs.OutOfTheWay.{those, facing, isOf, othersOn, Lot, lotOf, SameOrder, OutOfTheWay, fill, fills, lapse, lapsed, SameFills}
 use Rattle.matching.proofs.Books.{open-in}
-use Rattle.matching.proofs.Events.{two-fit, change-open, change-executed, after-same, play-tally, Terms, termsOf, play-terms, play-open, length-play}
-use Rattle.matching.proofs.Steps.{both-no, best-none, Pair, paired, happens-fits, first-in, next-in}
+use Rattle.matching.proofs.Events.{two-fit, change-open, change-executed, change-canceled, after-same, play-tally, Terms, termsOf, play-terms, play-open, length-play}
+use Rattle.matching.proofs.Steps.{both-no, best-none, Pair, paired, happens-fits, run-plays, run-fits}
 use Rattle.matching.proofs.Ends.{idle, run-ends}
 use Rattle.matching.proofs.Minimum.{left-length}
 use Rattle.matching.proofs.Deciding.{killed-whole}
@@ -70,7 +70,7 @@ lapsed-append (e ∷ es) fs = omega (arith, lapsed-append es fs)
 
 -- ---- what it takes on a book
 abbrev pub offers : {A : Type 0} → (ℕ → A) → Book → ℕ → List (Lot A)
-offers name b w = map (lotOf name b) (othersOf b w)
+offers name b w = map (lotOf name b) (othersOn b (facing (at b w)) (at b w .mpid))
 
 unfoldable pub taken : {A : Type 0} → (ℕ → A) → Book → ℕ → List (Lot A)
 taken name b w = takes (isBuy (at b w)) (at b w .level) (openOf (at b w)) (offers name b w)
@@ -81,14 +81,14 @@ pub record Takes {A : Type 0} (name : ℕ → A) (b : Book) (w : ℕ) (es : List
   pub left : openOf (at c w) ≡ cond (isImmediate (at b w)) 0 (openOf (at b w) - inAll (taken name b w))
   pub back : lapsed es ≡ cond (isImmediate (at b w)) (openOf (at b w) - inAll (taken name b w)) 0
   pub executed : at c w .executed ≡ at b w .executed + inAll (taken name b w)
+  pub canceled : at c w .canceled ≡ at b w .canceled + lapsed es
 
 -- ---- a first step, and the rest
 module _ {A : Type 0} (name : ℕ → A) (b c : Book) (w : ℕ) (es : List Event) (first : List (Lot A)) where
   takes-then : fills name w es ≡ first → lapsed es ≡ 0 → isImmediate (at c w) ≡ isImmediate (at b w)
       → openOf (at b w) ≡ openOf (at c w) + inAll first → at c w .executed ≡ at b w .executed + inAll first
-      → taken name b w ≡ first ++ taken name c w
-      → (fs : List Event) (d : Book) → Takes name c w fs d → Takes name b w (es ++ fs) d
-  takes-then f z i o x t fs d h =
+      → at c w .canceled ≡ at b w .canceled → taken name b w ≡ first ++ taken name c w → (fs : List Event) (d : Book) → Takes name c w fs d → Takes name b w (es ++ fs) d
+  takes-then f z i o x v t fs d h =
       let n = in-all-append first (taken name c w) in
       let k : openOf (at b w) - inAll (taken name b w) ≡ openOf (at c w) - inAll (taken name c w) = rw (t, n) (omega arith) in
       record {
@@ -96,6 +96,7 @@ module _ {A : Type 0} (name : ℕ → A) (b c : Book) (w : ℕ) (es : List Event
         left = rw (k, ← i) (h .left);
         back = rw (k, ← i) (lapsed-append es fs ∙ rw z (omega (arith, h .back)));
         executed = rw (t, n) (omega (arith, h .executed));
+        canceled = rw (lapsed-append es fs, z) (omega (arith, h .canceled));
       }
 
 -- ---- who stands on the other side
@@ -130,12 +131,12 @@ module _ (b : Book) (w : ℕ) (z : partner b w ≡ 0) where
   lots-not-met name q (x ∷ xs) h = rw (h .0, both-no (ltb 0 q))
 
   taken-none : {A : Type 0} (name : ℕ → A) → taken name b w ≡ []
-  unfolding taken othersOf
+  unfolding taken othersOn
   taken-none name =
       split (ltb 0 (openOf (at b w)))
       (λ t.
       let s = facing (at b w) in
-      lots-not-met name (openOf (at b w)) (othersOf b w)
+      lots-not-met name (openOf (at b w)) (othersOn b (facing (at b w)) (at b w .mpid))
       (each-those (λ k. meets (at b w) (at b k) ≡ false) _ (inTurn b s)
       (each-imp (λ k. stands s (at b k) ≡ true) (λ k. meets (at b w) (at b k) ≡ false) (none-met (ltb-true 0 (openOf (at b w)) t)) (inTurn b s) (in-turn-stands b s))))
       (λ t. rw (le-zero t) (takes-none _ _ (offers name b w)))
@@ -155,6 +156,7 @@ module _ (b : Book) (w : ℕ) (z : partner b w ≡ 0) where
         left = rw (m, e) (change-open (Expired w (openOf (at b w))) (at b w) refl ∙ omega arith);
         back = rw (m, taken-none name) (omega arith);
         executed = rw (taken-none name, e) (change-executed (Expired w (openOf (at b w))) (at b w) refl);
+        canceled = rw e (omega (arith, change-canceled (Expired w (openOf (at b w))) (at b w) refl));
       }
 
   takes-rests : {A : Type 0} (name : ℕ → A) → (isImmediate (at b w) && isOpen (at b w)) ≡ false → Takes name b w [] b
@@ -165,6 +167,7 @@ module _ (b : Book) (w : ℕ) (z : partner b w ≡ 0) where
         left = rw (taken-none name) (split (isImmediate (at b w)) (λ t. rw t (shut t)) (λ t. rw t (omega arith)));
         back = rw (taken-none name) (split (isImmediate (at b w)) (λ t. rw t (omega (arith, shut t))) (λ t. rw t));
         executed = rw (taken-none name) (omega arith);
+        canceled = omega arith;
       }
     where
       shut : isImmediate (at b w) ≡ true → openOf (at b w) ≡ 0
@@ -192,15 +195,15 @@ module _ (b : Book) (w r : ℕ) (e : partner b w ≡ r) (l : 0 < r) where
           (λ t. absurd (let z = rw t at h in omega arith))
 
 -- ---- orders that offer the same on two books
-lots-same : {A : Type 0} (name : ℕ → A) (b c : Book) (f g : ℕ → Bool) (l : List ℕ) → Each (λ k. (f k ≡ g k) × (lotOf name c k ≡ lotOf name b k)) l
-    → map (lotOf name c) (those f l) ≡ map (lotOf name b) (those g l)
+pub lots-same : {A : Type 0} (name : ℕ → A) (b : Book) (later : ℕ → A) (c : Book) (f g : ℕ → Bool) (l : List ℕ)
+    → Each (λ k. (f k ≡ g k) × (lotOf later c k ≡ lotOf name b k)) l → map (lotOf later c) (those f l) ≡ map (lotOf name b) (those g l)
 unfolding those
-lots-same name b c f g [] h = refl
-lots-same {A} name b c f g (x ∷ xs) h =
-    let ih = lots-same name b c f g xs (h .1) in
+lots-same name b later c f g [] h = refl
+lots-same {A} name b later c f g (x ∷ xs) h =
+    let ih = lots-same name b later c f g xs (h .1) in
     rw (h .0 .0)
     (split (g x)
-    (λ t. rw t (ap (λ (y : Lot A). y ∷ map (lotOf name c) (those f xs)) (h .0 .1) ∙ ap (λ (m : List (Lot A)). lotOf name b x ∷ m) ih))
+    (λ t. rw t (ap (λ (y : Lot A). y ∷ map (lotOf later c) (those f xs)) (h .0 .1) ∙ ap (λ (m : List (Lot A)). lotOf name b x ∷ m) ih))
     (λ t. rw t ih))
 
 -- an order that events leave alone
@@ -227,12 +230,12 @@ module _ (b : Book) (w r : ℕ) (i : In b w) (p : Pair b w r) (rest : List ℕ) 
   -- what the others offer first
   offers-front : {A : Type 0} (name : ℕ → A) → sameOwner (at b w) (at b r) ≡ false
       → offers name b w ≡ lotOf name b r ∷ map (lotOf name b) (those (λ k. not (sameOwner (at b w) (at b k))) rest)
-  unfolding othersOf those
+  unfolding othersOn those isOf sameOwner
   offers-front name t = rw (e, t)
 
   offers-own : {A : Type 0} (name : ℕ → A) → sameOwner (at b w) (at b r) ≡ true
       → offers name b w ≡ map (lotOf name b) (those (λ k. not (sameOwner (at b w) (at b k))) rest)
-  unfolding othersOf those
+  unfolding othersOn those isOf sameOwner
   offers-own name t = rw (e, t)
 
   module _ (es : List Event) (f : Fits b es) (two : (k : ℕ) → k ≢ r → k ≢ w → tally amount k es ≡ 0) where
@@ -258,9 +261,9 @@ module _ (b : Book) (w r : ℕ) (i : In b w) (p : Pair b w r) (rest : List ℕ) 
     -- where r is closed and w is not, the others are those behind r, and offer what they did
     offers-rest : {A : Type 0} (name : ℕ → A) → openOf (at (play b es) r) ≡ 0 → 0 < openOf (at (play b es) w)
         → offers name (play b es) w ≡ map (lotOf name b) (those (λ k. not (sameOwner (at b w) (at b k))) rest)
-    unfolding othersOf
+    unfolding othersOn isOf sameOwner
     offers-rest {A} name z h =
-        rw turns (lots-same name b c _ _ rest (each-imp (λ k. (k ≢ r) × (k ≢ w)) _ one rest rest-apart))
+        rw turns (lots-same name b name c _ _ rest (each-imp (λ k. (k ≢ r) × (k ≢ w)) _ one rest rest-apart))
       where
         c : Book
         c = play b es
@@ -302,7 +305,7 @@ module _ (b : Book) (w r : ℕ) (i : In b w) (p : Pair b w r) (rest : List ℕ) 
     unfolding tally fills lapsed inAll taken
     takes-aside fs d h =
         takes-then name b (play b aside) w aside [] refl refl (immediate aside fit two)
-        (rw open-same (omega arith)) executed-same taken-same fs d h
+        (rw open-same (omega arith)) executed-same canceled-same taken-same fs d h
       where
         fit : Fits b aside
         fit = (record { moving = refl; inside = p .inside; enough = omega arith; whole = λ l. refl }, tt)
@@ -319,6 +322,10 @@ module _ (b : Book) (w r : ℕ) (i : In b w) (p : Pair b w r) (rest : List ℕ) 
         executed-same : at (play b aside) w .executed ≡ at b w .executed + 0
         executed-same = play-tally (λ o. o .executed) trades change-executed w aside b fit ∙ rw (ne-eqb w r (λ q. p .apart (sym q)))
 
+        canceled-same : at (play b aside) w .canceled ≡ at b w .canceled
+        canceled-same =
+            play-tally (λ o. o .canceled) cancels change-canceled w aside b fit ∙ rw (ne-eqb w r (λ q. p .apart (sym q))) (omega arith)
+
         taken-same : taken name b w ≡ taken name (play b aside) w
         taken-same = rw (taken-rest aside fit two name (λ x. shut), open-same, offers-own name own)
 
@@ -334,7 +341,7 @@ module _ (b : Book) (w r : ℕ) (i : In b w) (p : Pair b w r) (rest : List ℕ) 
     unfolding tally fills lapsed inAll taken takes meets
     takes-trading fs d h =
         takes-then name b (play b trading) w trading (one ∷ []) (rw (not-r, eq-eqb w w refl)) refl (immediate trading fit two)
-        (omega (arith, open-w)) executed-w taken-w fs d h
+        (omega (arith, open-w)) executed-w canceled-w taken-w fs d h
       where
         one : Lot A
         one = record { whose = name r; level = at b r .level; quantity = exchanged }
@@ -362,6 +369,9 @@ module _ (b : Book) (w r : ℕ) (i : In b w) (p : Pair b w r) (rest : List ℕ) 
 
         executed-w : at (play b trading) w .executed ≡ at b w .executed + (exchanged + 0)
         executed-w = play-tally (λ o. o .executed) trades change-executed w trading b fit ∙ rw (not-w, eq-eqb w w refl) (omega arith)
+
+        canceled-w : at (play b trading) w .canceled ≡ at b w .canceled
+        canceled-w = play-tally (λ o. o .canceled) cancels change-canceled w trading b fit ∙ rw (not-w, eq-eqb w w refl) (omega arith)
 
         taken-w : taken name b w ≡ one ∷ taken name (play b trading) w
         taken-w =
@@ -426,66 +436,93 @@ would-take name modes b w i two =
     let g = run-ends modes false n b w (i .high) (omega (arith, left-length b w)) in
     omega (arith, run-takes name modes n b w i two (g .ended) .executed)
 
+-- ---- what w has executed and canceled at the end is what its events say
+pub record Sums {A : Type 0} (name : ℕ → A) (b : Book) (w : ℕ) (r : Ran) : Type 0 where
+  pub executed : at (r .book) w .executed ≡ at b w .executed + inAll (fills name w (r .events))
+  pub canceled : at (r .book) w .canceled ≡ at b w .canceled + lapsed (r .events)
+
+module _ {A : Type 0} (name : ℕ → A) (modes : ℕ → ℕ) (b : Book) (w : ℕ) (i : In b w) (two : modes (at b w .mpid) ≡ 2) where
+  run-sums : (n : ℕ) → run modes false n b w .work ≡ 0 → Sums name b w (run modes false n b w)
+  run-sums n z = let t = run-takes name modes n b w i two z in record { executed = rw (t .trades) (t .executed); canceled = t .canceled }
+
+  killed-sums : (n : ℕ) → 0 < openOf (at b w) → run modes true n b w .work ≡ 0 → Sums name b w (run modes true n b w)
+  unfolding fills lapsed inAll tally
+  killed-sums n o z =
+      let e = killed-whole modes b w i n o z .events in
+      let p = run-plays modes true n b w in
+      let f = run-fits modes true n b w (i .high) in
+      let x = play-tally (λ o. o .executed) trades change-executed w (run modes true n b w .events) b f in
+      let y = play-tally (λ o. o .canceled) cancels change-canceled w (run modes true n b w .events) b f in
+      record { executed = rw p (x ∙ rw (e, eq-eqb w w refl)); canceled = rw p (y ∙ rw (e, eq-eqb w w refl)) }
+
+  pub decided-sums : (decided n : ℕ) → 0 < openOf (at b w) → run modes (misses modes decided b w) n b w .work ≡ 0
+      → Sums name b w (run modes (misses modes decided b w) n b w)
+  decided-sums decided n o z =
+      split (misses modes decided b w) (λ t. rw t (killed-sums n o (rw t at z))) (λ t. rw t (run-sums n (rw t at z)))
+
 -- ---- two books on which the same order is in work, with the owner's own orders out of the way on the second
 those-clear : (keep : ℕ → Bool) (l : List ℕ) → Each (λ k. keep k ≡ true) l → those keep l ≡ l
 unfolding those
 those-clear keep [] h = refl
 those-clear keep (x ∷ xs) h = rw (h .0, those-clear keep xs (h .1))
 
-module _ {A : Type 0} (name : ℕ → A) (b : Book) (w : ℕ) (title : ℕ → A) (c : Book) (v : ℕ) (h : OutOfTheWay name b w title c v) where
+module _ {A : Type 0} (name : ℕ → A) (b : Book) (w : ℕ) (title : ℕ → A) (c : Book) (v : ℕ) (same : SameOrder (at b w) (at c v))
+    (h : OutOfTheWay (facing (at b w)) (at b w .mpid) name b title c) where
   same-offers : offers title c v ≡ offers name b w
-  unfolding othersOf
-  same-offers = rw (those-clear (λ k. not (sameOwner (at c v) (at c k))) (inTurn c s) (each-imp _ _ clear (inTurn c s) (in-turn-stands c s))) (h .others)
+  unfolding othersOn
+  same-offers =
+      rw (facing-same (at c v) (at b w) (sym (same .side)), ← same .mpid, those-clear (λ k. not (isOf (at b w .mpid) (at c k))) (inTurn c s) (each-imp _ _ clear (inTurn c s) (in-turn-stands c s)))
+      (h .others)
     where
       s : ℕ
-      s = facing (at c v)
+      s = facing (at b w)
 
-      clear : (k : ℕ) → stands s (at c k) ≡ true → not (sameOwner (at c v) (at c k)) ≡ true
+      clear : (k : ℕ) → stands s (at c k) ≡ true → not (isOf (at b w .mpid) (at c k)) ≡ true
       clear k t = rw (h .clear k t)
 
   same-taken : taken title c v ≡ taken name b w
   unfolding taken
-  same-taken = rw (same-offers, ← h .same .side, ← h .same .level, ← h .same .quantity)
+  same-taken = rw (same-offers, ← same .side, ← same .level, ← same .quantity)
 
   same-immediate : isImmediate (at c v) ≡ isImmediate (at b w)
-  same-immediate = rw (← h .same .tif)
+  same-immediate = rw (← same .tif)
 
-  module _ (modes : ℕ → ℕ) (two : modes (at b w .mpid) ≡ 2) (i : In b w) (j : In c v) where
-    two-there : modes (at c v .mpid) ≡ 2
-    two-there = rw (← h .same .mpid) two
+  module _ (modes ways : ℕ → ℕ) (two : modes (at b w .mpid) ≡ 2) (there : ways (at b w .mpid) ≡ 2) (i : In b w) (j : In c v) where
+    two-there : ways (at c v .mpid) ≡ 2
+    two-there = rw (← same .mpid) there
 
-    pub same-fills : (m n : ℕ) → run modes false m b w .work ≡ 0 → run modes false n c v .work ≡ 0
-        → SameFills name w (run modes false m b w) title v (run modes false n c v)
+    pub same-fills : (m n : ℕ) → run modes false m b w .work ≡ 0 → run ways false n c v .work ≡ 0
+        → SameFills name w (run modes false m b w) title v (run ways false n c v)
     same-fills m n x y =
         let f = run-takes name modes m b w i two x in
-        let g = run-takes title modes n c v j two-there y in
+        let g = run-takes title ways n c v j two-there y in
         record {
           trades = g .trades ∙ same-taken ∙ sym (f .trades);
-          left = g .left ∙ rw (same-taken, same-immediate, ← h .same .quantity) (sym (f .left));
-          back = g .back ∙ rw (same-taken, same-immediate, ← h .same .quantity) (sym (f .back));
+          left = g .left ∙ rw (same-taken, same-immediate, ← same .quantity) (sym (f .left));
+          back = g .back ∙ rw (same-taken, same-immediate, ← same .quantity) (sym (f .back));
         }
 
     -- they miss their minimum on both or on neither
-    pub same-missed : (decided : ℕ) → misses modes decided c v ≡ misses modes decided b w
+    pub same-missed : (decided : ℕ) → misses ways decided c v ≡ misses modes decided b w
     unfolding misses
-    same-missed decided = rw (would-take title modes c v j two-there, would-take name modes b w i two, same-taken, ← h .same .minimum)
+    same-missed decided = rw (would-take title ways c v j two-there, would-take name modes b w i two, same-taken, ← same .minimum)
 
-    killed-fills : (m n : ℕ) → 0 < openOf (at b w) → run modes true m b w .work ≡ 0 → run modes true n c v .work ≡ 0
-        → SameFills name w (run modes true m b w) title v (run modes true n c v)
+    killed-fills : (m n : ℕ) → 0 < openOf (at b w) → run modes true m b w .work ≡ 0 → run ways true n c v .work ≡ 0
+        → SameFills name w (run modes true m b w) title v (run ways true n c v)
     unfolding fills lapsed
     killed-fills m n o x y =
         let f = killed-whole modes b w i m o x in
-        let g = killed-whole modes c v j n (rw (← h .same .quantity) o) y in
+        let g = killed-whole ways c v j n (rw (← same .quantity) o) y in
         record {
           trades = rw (f .events, g .events);
           left = g .shut ∙ sym (f .shut);
-          back = rw (f .events, g .events, h .same .quantity);
+          back = rw (f .events, g .events, same .quantity);
         }
 
     -- and so whatever they miss
     pub same-decided : (decided m n : ℕ) → 0 < openOf (at b w)
         → let r = run modes (misses modes decided b w) m b w in
-        let s = run modes (misses modes decided c v) n c v in
+        let s = run ways (misses ways decided c v) n c v in
         r .work ≡ 0 → s .work ≡ 0 → SameFills name w r title v s
     same-decided decided m n o x y =
         rw (same-missed decided)

@@ -1,16 +1,16 @@
--- One's own orders are out of the way (document 02, T-10): the same order is in work on two books, and the open orders on the other side
--- of the second book are those of the first, in the same turn, less the ones of its own MPID. What is compared then: who it traded with,
--- how much and at which level, what is left of it and what of it was given back. Orders of two books have numbers of their own, so an
--- order is told by a name that each book gives to its numbers: on a table, the ClOrdID. Assumes nothing.
+-- One's own orders are out of the way (document 02, T-10): the open orders of a side of one book are those of another, in the same turn,
+-- less the ones of an MPID. What is compared then, of an order in work on both: who it traded with, how much and at which level, what
+-- is left of it and what of it was given back. Orders of two books have numbers of their own, so an order is told by a name that each
+-- book gives to its numbers: on a table, the ClOrdID. Assumes nothing.
 use mathlib.Core.Path.{_≡_}
-use mathlib.Core.Bool.{Bool, true, false, cond, not}
+use mathlib.Core.Bool.{Bool, true, false, cond, not, _&&_}
 use mathlib.Core.List.{List, [], _∷_, _++_, map}
 use Prim.Native.Nat.{ℕ, _+_}
-use lib.Dec.{eqb}
+use lib.Dec.{ltb, eqb}
 use Rattle.matching.specs.declared.Order.{Order}
 use Rattle.matching.specs.declared.Event.{Event}
 use Rattle.matching.specs.declared.Event.the-variants.{Accepted, Replaced, Withdrawn, Canceled, Decremented, Traded, Killed, Expired}
-use Rattle.matching.specs.Matching.{Book, at, openOf, isBuy, minimumOf, sameOwner, Ran}
+use Rattle.matching.specs.Matching.{Book, at, openOf, isBuy, minimumOf, Ran}
 use Rattle.matching.specs.Depth.{stands}
 use Rattle.matching.specs.InTurn.{inTurn}
 
@@ -25,9 +25,13 @@ those keep (x ∷ xs) = cond (keep x) (x ∷ those keep xs) (those keep xs)
 unfoldable pub facing : Order → ℕ
 facing o = cond (isBuy o) 2 1
 
--- the open orders on the other side of order w, in turn, less the ones of its MPID
-unfoldable pub othersOf : Book → ℕ → List ℕ
-othersOf b w = those (λ k. not (sameOwner (at b w) (at b k))) (inTurn b (facing (at b w)))
+-- an order of this MPID; 0 is no MPID
+unfoldable pub isOf : ℕ → Order → Bool
+isOf mpid o = ltb 0 mpid && eqb mpid (o .mpid)
+
+-- the open orders of a side in turn, less the ones of an MPID
+unfoldable pub othersOn : Book → ℕ → ℕ → List ℕ
+othersOn b side mpid = those (λ k. not (isOf mpid (at b k))) (inTurn b side)
 
 -- a quantity of somebody's order at a level: offered by it, or traded with it
 pub record Lot (A : Type 0) : Type 0 where
@@ -41,6 +45,12 @@ lotOf name b k = record { whose = name k; level = at b k .level; quantity = open
 
 -- ---- two books
 
+-- of an MPID no order is open on this side of c, and the others that are open there are those of b, in the same turn, with the same levels
+-- and quantities open
+pub record OutOfTheWay {A : Type 0} (side mpid : ℕ) (name : ℕ → A) (b : Book) (title : ℕ → A) (c : Book) : Type 0 where
+  pub clear : (k : ℕ) → stands side (at c k) ≡ true → isOf mpid (at c k) ≡ false
+  pub others : map (lotOf title c) (inTurn c side) ≡ map (lotOf name b) (othersOn b side mpid)
+
 -- the same order: side, level, time in force, minimum, MPID and what is open
 pub record SameOrder (o p : Order) : Type 0 where
   pub side : o .side ≡ p .side
@@ -49,12 +59,6 @@ pub record SameOrder (o p : Order) : Type 0 where
   pub minimum : minimumOf o ≡ minimumOf p
   pub mpid : o .mpid ≡ p .mpid
   pub quantity : openOf o ≡ openOf p
-
--- the same order is in work, w on b and v on c; no open order on its other side of c is of its MPID; and those are the others of b
-pub record OutOfTheWay {A : Type 0} (name : ℕ → A) (b : Book) (w : ℕ) (title : ℕ → A) (c : Book) (v : ℕ) : Type 0 where
-  pub same : SameOrder (at b w) (at c v)
-  pub clear : (k : ℕ) → stands (facing (at c v)) (at c k) ≡ true → sameOwner (at c v) (at c k) ≡ false
-  pub others : map (lotOf title c) (inTurn c (facing (at c v))) ≡ map (lotOf name b) (othersOf b w)
 
 -- ---- what a run comes to
 
