@@ -58,7 +58,7 @@ unfolding inAll
 in-all-append [] m = omega arith
 in-all-append (x ∷ l) m = omega (arith, in-all-append l m)
 
-fills-append : {A : Type 0} (name : ℕ → A) (w : ℕ) (es fs : List Event) → fills name w (es ++ fs) ≡ fills name w es ++ fills name w fs
+pub fills-append : {A : Type 0} (name : ℕ → A) (w : ℕ) (es fs : List Event) → fills name w (es ++ fs) ≡ fills name w es ++ fills name w fs
 unfolding fills
 fills-append name w [] fs = refl
 fills-append name w (e ∷ es) fs = rw (fills-append name w es fs) (sym (append-assoc (fill name w e) (fills name w es) (fills name w fs)))

@@ -70,7 +70,8 @@ still-out s p name b title c later d next e x y h =
 
 -- an event of an order that stands on this side neither before nor after it
 pub event-still : {A : Type 0} (s : ℕ) (name : ℕ → A) (b : Book) (e : Event) (later : ℕ → A) → 0 < who e → who e ≤ suc (length b)
-    → stands s (at b (who e)) ≡ false → stands s (at (after b e) (who e)) ≡ false → ((k : ℕ) → k ≢ who e → later k ≡ name k) → Still s name b later (after b e)
+    → stands s (at b (who e)) ≡ false → stands s (at (after b e) (who e)) ≡ false
+    → ((k : ℕ) → stands s (at b k) ≡ true → k ≢ who e → later k ≡ name k) → Still s name b later (after b e)
 event-still s name b e later l h x y n =
     record {
       standing = λ k.
@@ -78,7 +79,7 @@ event-still s name b e later l h x y n =
           (λ t. rw (eqb-true k (who e) t) (y ∙ sym x))
           (λ t. rw (after-there b e l h k (eqb-false k (who e) t)));
       order = λ k t. after-there b e l h k (other k t);
-      named = λ k t. n k (other k t);
+      named = λ k t. n k t (other k t);
     }
   where
     other : (k : ℕ) → stands s (at b k) ≡ true → k ≢ who e
@@ -95,12 +96,12 @@ withdrew-none s p name b = record { same = λ k t. refl; named = λ k t. refl; s
 
 -- one more
 pub withdrew-more : {A : Type 0} (s p : ℕ) (name : ℕ → A) (b : Book) (title : ℕ → A) (c : Book) (j : ℕ) (later : ℕ → A)
-    → In c j → isOf p (at c j) ≡ true → ((k : ℕ) → k ≢ j → later k ≡ title k)
+    → In c j → isOf p (at c j) ≡ true → ((k : ℕ) → stands s (at c k) ≡ true → k ≢ j → later k ≡ title k)
     → Withdrew s p name b title c → Withdrew s p name b later (after c (Withdrawn j (openOf (at c j))))
 withdrew-more s p name b title c j later i own n h =
     record {
       same = λ k t. let u = before k t in rw (elsewhere k (u .0)) (h .same k (u .1));
-      named = λ k t. let u = before k t in n k (u .0) ∙ h .named k (u .1);
+      named = λ k t. let u = before k t in n k (u .1) (u .0) ∙ h .named k (u .1);
       stay = λ k t u.
           let e = h .stay k t u in
           elsewhere k (λ q. not-both own (rw (← q, e) u)) ∙ e;
