@@ -1,16 +1,16 @@
 -- How a desk brings it about: each message that is answered with a Canceled of an order of its MPID withdraws that order and nothing else;
 -- when none is left on a side, its orders there are out of the way.
 use mathlib.Core.Path.{_≡_, refl, sym, ap, _∙_}
-use mathlib.Core.Bool.{Bool, true, false, _&&_}
-use mathlib.Core.List.{List, [], _∷_, _++_}
+use mathlib.Core.Bool.{true, false}
+use mathlib.Core.List.{List, [], _∷_}
 use mathlib.Core.Logic.{_≢_}
-use Prim.Native.Nat.{ℕ, suc, _+_, _*_, _≤_, _<_}
+use Prim.Native.Nat.{ℕ, _+_, _*_, _≤_}
 use native.Mathlib.Omega.{arith}
-use lib.Dec.{eqb, ltb, lit≤}
+use lib.Dec.{lit≤}
 use lib.ListN.{length}
-use borrow.Author.Tests.{eqb-true, eqb-false, eq-eqb, lt-ltb}
+use borrow.Author.Tests.{eq-eqb, lt-ltb}
 use Rattle.octets.specs.Octets.{bytesOf, textBytes}
-use Rattle.octets.proofs.Bools.{split, not-both}
+use Rattle.octets.proofs.Bools.{not-both}
 use Rattle.octets.proofs.Places.{length-bytesOf}
 use Rattle.octets.proofs.Parts.{length-textBytes}
 use Rattle.decimal.specs.declared.Instrument.{Instrument}
@@ -30,13 +30,13 @@ use Rattle.matching.proofs.Books.{open-in}
 use Rattle.matching.proofs.Events.{after-same, length-after}
 use Rattle.matching.proofs.InTurn.{stands-open}
 use Rattle.matching.proofs.Withdrawing.{Withdrew, withdrew-none, withdrew-more, withdrew-out}
-use Rattle.table.specs.Heading.{nextOf, workOf, instrumentOf, modeOf}
+use Rattle.table.specs.Heading.{nextOf, instrumentOf, modeOf}
 use Rattle.table.specs.Orders.{clOrdIdAt, orderAt, bookOf, putId, amountBytes, withdrawn}
 use Rattle.table.specs.Market.{isMarketOf}
 use Rattle.table.specs.Facts.{Market}
-use Rattle.table.specs.Best.{bookRow, putBest}
+use Rattle.table.specs.Best.{bookRow}
 use Rattle.table.specs.Changes.{numbered, taken}
-use Rattle.table.proofs.Same.{Same, same-in, same-then, put-below, put-above, mode-of-same}
+use Rattle.table.proofs.Same.{Same, same-then, put-below, put-above, mode-of-same}
 use Rattle.table.proofs.Stores.{length-amounts}
 use Rattle.table.proofs.Books.{length-book, at-book}
 use Rattle.table.proofs.Facts.{market-facts}
@@ -44,11 +44,10 @@ use Rattle.table.proofs.Instruments.{of-market, market-instrument}
 use Rattle.report.specs.declared.Kind.{Kind}
 use Rattle.report.specs.declared.Kind.the-variants.{Accepted, Replaced, Canceled}
 use Rattle.report.specs.Reports.{readOf}
-use Rattle.readback.specs.Says.{says}
 use Rattle.calls.specs.declared.Standing.{Standing}
 use Rattle.calls.specs.declared.Standing.the-variants.{Stands, Fails}
 use Rattle.calls.specs.Checks.{textOf, holder, newStands, replaceStands, cancelStands}
-use Rattle.calls.specs.Submit.{rejecting, faulted, newRejected, changeRejected, newTaken, replacementTaken, cancelTaken, entering, replacing, canceling, handled, submitted}
+use Rattle.calls.specs.Submit.{faulted, newRejected, changeRejected, newTaken, replacementTaken, cancelTaken, entering, replacing, canceling, handled, submitted}
 use Rattle.intake.specs.Intake.{Asking}
 use Rattle.intake.proofs.Standing.{cancel-in, cancel-at, cancel-named}
 use Rattle.intake.proofs.Theorems.{submit-keeps}

@@ -1,33 +1,31 @@
 -- The trades that reports tell are those of the events that they are of, each resting order by its ClOrdID; and no step changes one.
 use mathlib.Core.Path.{_≡_, refl, sym, ap, _∙_}
-use mathlib.Core.Bool.{Bool, true, false, cond, _&&_, _||_}
+use mathlib.Core.Bool.{Bool, false, cond, _&&_, _||_}
 use mathlib.Core.List.{List, [], _∷_, _++_, map, append-nil, map-append}
 use mathlib.Core.Logic.{_≢_, _⊎_, inl, inr, ⊎-elim}
-use Prim.Native.Nat.{ℕ, zero, suc, _+_, _*_, _-_, _≤_, _<_}
+use Prim.Native.Nat.{ℕ, _+_, _*_, _≤_, _<_}
 use native.Mathlib.Omega.{arith}
-use lib.Dec.{eqb, ltb, lit≤}
+use lib.Dec.{eqb, lit≤}
 use lib.ListN.{length, getD, replicate}
-use borrow.Author.Tests.{eqb-true, eqb-false}
 use Rattle.octets.specs.Octets.{put, textAt, bytesOf, textBytes}
-use Rattle.octets.proofs.Bools.{split, not-both}
+use Rattle.octets.proofs.Bools.{split}
 use Rattle.octets.proofs.Places.{below-or, length-bytesOf}
 use Rattle.octets.proofs.Parts.{length-textBytes}
 use Rattle.decimal.specs.declared.Instrument.{Instrument}
 use Rattle.decimal.specs.Writing.{levelText}
 use Rattle.matching.specs.declared.Event.{Event}
 use Rattle.matching.specs.declared.Event.the-variants.{Accepted, Replaced, Withdrawn, Canceled, Decremented, Traded, Killed, Expired}
-use Rattle.matching.specs.Matching.{Book, at, who, change, after, decidedAfter, partner, happens, bookAfter, workAfter, Ran, run}
+use Rattle.matching.specs.Matching.{Book, at, who, change, after, decidedAfter, partner, happens, workAfter, Ran, run}
 use Rattle.matching.specs.Held.{In}
-use Rattle.matching.specs.Happens.{Fit, Fits}
+use Rattle.matching.specs.Happens.{Fits}
 use Rattle.matching.specs.OutOfTheWay.{Lot, fill, fills}
 use Rattle.matching.proofs.Events.{length-after, length-play}
-use Rattle.matching.proofs.Steps.{run-plays, run-fits}
+use Rattle.matching.proofs.Steps.{run-fits}
 use Rattle.matching.proofs.OutOfTheWay as events
 use Rattle.matching.proofs.Theorems as matching
 use Rattle.matching.proofs.Ends.{idle}
-use Rattle.table.specs.Heading.{workOf, nextOf, instrumentOf, putWork, putDecided, endWork, modeOf}
-use Rattle.table.specs.Orders.{clOrdIdAt, orderAt, amountBytes, filled, bookOf, applied}
-use Rattle.table.specs.Market.{isMarketOf}
+use Rattle.table.specs.Heading.{workOf, nextOf, instrumentOf, putWork, putDecided, modeOf}
+use Rattle.table.specs.Orders.{clOrdIdAt, orderAt, amountBytes, bookOf, applied}
 use Rattle.table.specs.Facts.{Market}
 use Rattle.table.specs.Best.{bookRow, putBest, clearBest}
 use Rattle.table.specs.Changes.{played, missesNow, stepEvents, stepWork, numbered, stepped}
@@ -36,9 +34,7 @@ use Rattle.table.proofs.Stores.{length-amounts}
 use Rattle.table.proofs.Bests.{length-book-row}
 use Rattle.table.proofs.Frames.{market-formed, id-short}
 use Rattle.table.proofs.Books.{length-book}
-use Rattle.table.proofs.Kept.{stepped-kept, stepped-instrument}
-use Rattle.table.proofs.Facts.{market-facts}
-use Rattle.table.proofs.Instruments.{of-market, market-instrument}
+use Rattle.table.proofs.Kept.{stepped-kept}
 use Rattle.report.specs.declared.Value.{Value}
 use Rattle.report.specs.declared.Value.the-variants.{Absent}
 use Rattle.report.specs.declared.Field.{Field}
@@ -53,19 +49,15 @@ use Rattle.ticket.specs.Legible.{Legible}
 use Rattle.ticket.proofs.Running.{Legibles, step-legibles}
 use Rattle.readback.specs.AsRead.{asRead}
 use Rattle.readback.specs.Says.{says}
-use Rattle.readback.specs.Told.{kindTold, SaysEvent}
+use Rattle.readback.specs.Told.{kindTold}
 use Rattle.readback.proofs.Events.{event-says, event-is-read}
 use Rattle.readback.proofs.Theorems.{bytes-are-read}
-use Rattle.calls.specs.Told.{joined, roomAsked}
-use Rattle.calls.specs.Run.{eventReport, eventReports, stepReports, stops, worked, ran}
+use Rattle.calls.specs.Run.{eventReport, eventReports, stepReports}
 use Rattle.turns.proofs.Stepping.{events-fit, step-book, step-work}
-use Rattle.turns.proofs.Taking.{goes-busy}
 use Rattle.turns.proofs.Agreeing.{run-one}
-use Rattle.promises.specs.History.{Call, Submit, Run, Load, Depth, Top, Read, tableAfter, reportsAfter, noSubmit}
 use Rattle.promises.specs.Tallies.{isTrade}
 use Rattle.promises.specs.OwnOrders.{valueIn, textIn, isResting, Fill, fillsIn}
 use Rattle.promises.proofs.Agreeing.{applied-instrument}
-use Rattle.promises.proofs.Histories.{call-keeps}
 use Rattle.promises.proofs.Minimums.{Stepping, none-stepping, one-stepping, stepping-then}
 
 -- ---- the bytes that hold a ClOrdID

@@ -2,14 +2,13 @@
 -- 0.101, of which 100 are bought; then 100, 200 and 500 are sold at 0.100, the 200 by A; and A buys 700 at 0.100. The same with A's two
 -- sells canceled first; and the same under modes 1 and 3, where it makes a difference. The definitions are run on all bytes.
 use mathlib.Core.Path.{_≡_, refl}
-use mathlib.Core.Bool.{true}
 use mathlib.Core.List.{List, [], _∷_, map}
 use Prim.Native.Nat.{ℕ}
 use Rattle.octets.specs.Characters.{bytes, message}
 use Rattle.decimal.specs.declared.Instrument.the-variants.{Bonds}
 use Rattle.table.specs.Changes.{taken}
 use Rattle.table.specs.Orders.{withdrawn}
-use Rattle.table.specs.Opened.{isOpening, opened}
+use Rattle.table.specs.Opened.{opened}
 use Rattle.calls.specs.Checks.{changeStands, cancelStands}
 use Rattle.calls.specs.Submit.{cancelTaken}
 use Rattle.report.specs.Reports.{readOf}

@@ -1,14 +1,13 @@
 -- A message that is taken as a new order puts the same order in work on any two markets, and leaves the side that it is matched with as it
 -- is; so own orders cost it no fills.
-use mathlib.Core.Path.{_≡_, refl, sym, ap, _∙_}
-use mathlib.Core.Bool.{Bool, true, false, cond, not}
-use mathlib.Core.List.{List, [], _∷_, _++_, map}
+use mathlib.Core.Path.{_≡_, refl, ap, _∙_}
+use mathlib.Core.Bool.{Bool, true, false, cond}
+use mathlib.Core.List.{List, [], _∷_, _++_}
 use mathlib.Core.Logic.{_≢_}
-use Prim.Native.Nat.{ℕ, suc, _+_, _*_, _≤_, _<_}
+use Prim.Native.Nat.{ℕ, _+_, _*_, _≤_, _<_}
 use native.Mathlib.Omega.{arith}
-use lib.Dec.{eqb, lit≤}
+use lib.Dec.{lit≤}
 use lib.ListN.{length, replicate}
-use borrow.Author.Tests.{eqb-true, eqb-false}
 use Rattle.octets.specs.Octets.{bytesOf, textBytes}
 use Rattle.octets.proofs.Bools.{split, not-both}
 use Rattle.octets.proofs.Places.{length-bytesOf}
@@ -16,12 +15,10 @@ use Rattle.octets.proofs.Parts.{length-textBytes}
 use Rattle.decimal.specs.declared.Instrument.{Instrument}
 use Rattle.decimal.proofs.Times.{time-short}
 use Rattle.request.specs.declared.NewOrder.{NewOrder}
-use Rattle.request.specs.declared.Asked.{Asked}
 use Rattle.request.specs.declared.Asked.the-variants.{Enters}
-use Rattle.request.specs.Asks.{askedOf}
 use Rattle.matching.specs.declared.Order.{Order}
 use Rattle.matching.specs.declared.Event.the-variants.{Accepted}
-use Rattle.matching.specs.Matching.{Book, none, at, openOf, isBuy, buys, minimumOf, change, after, misses, Ran, run}
+use Rattle.matching.specs.Matching.{Book, at, openOf, buys, minimumOf, change, after}
 use Rattle.matching.specs.Held.{In, Takes, anew, over}
 use Rattle.matching.specs.Depth.{stands}
 use Rattle.matching.proofs.Books.{at-new, open-in}
@@ -31,22 +28,18 @@ use Rattle.matching.proofs.Requests.{takes-in}
 use Rattle.matching.proofs.InTurn.{stands-side, stands-open, closed-stands}
 use Rattle.matching.proofs.Withdrawing.{Still, event-still}
 use Rattle.table.specs.declared.record.Marks.{Marks}
-use Rattle.table.specs.Places.{tableBytes}
-use Rattle.table.specs.Heading.{nextOf, workOf, instrumentOf, venueOf, portOf, decidedOf, modeOf, isListed, putWork}
+use Rattle.table.specs.Heading.{nextOf, workOf, instrumentOf, decidedOf, modeOf, putWork}
 use Rattle.table.specs.Orders.{clOrdIdAt, orderIdAt, bookOf, recordFor, recordOf, accepted}
 use Rattle.table.specs.Market.{isMarketOf}
-use Rattle.table.specs.Facts.{Market}
 use Rattle.table.specs.Best.{clearBest}
-use Rattle.table.specs.Changes.{missesNow, numbered, entered}
+use Rattle.table.specs.Changes.{numbered, entered}
 use Rattle.table.proofs.Same.{Same, same-in, same-then, put-below, put-above, mode-of-same, decided-same}
 use Rattle.table.proofs.Stores.{length-record}
 use Rattle.table.proofs.Kept.{idle-decided, new-heading}
 use Rattle.table.proofs.Facts.{market-facts}
 use Rattle.table.proofs.Instruments.{of-market, market-instrument}
 use Rattle.report.specs.declared.Kind.the-variants as kind
-use Rattle.report.specs.declared.Reading.{Reading}
 use Rattle.report.specs.Reports.{readOf}
-use Rattle.readback.specs.Says.{says}
 use Rattle.calls.specs.declared.Standing.{Standing}
 use Rattle.calls.specs.declared.Standing.the-variants.{Stands, Fails}
 use Rattle.calls.specs.Checks.{textOf, newStands}
@@ -56,7 +49,6 @@ use Rattle.intake.proofs.Standing.{new-named, new-account, new-account-short, n
 use Rattle.intake.proofs.Theorems.{submit-keeps}
 use Rattle.intake.proofs.Keeping.{Comes, no-room, no-market, in-work as busy, spent, heard, comes}
 use Rattle.promises.specs.History.{Call, Submit, tableAfter, reportsAfter, noSubmit}
-use Rattle.promises.specs.Tallies.{isTrade, accountOf}
 use Rattle.promises.specs.OwnOrders.{isResting, fillsIn, firstId, SameFills, otherSide, StandsClear, TakenAs}
 use Rattle.promises.proofs.Requested.{book-working, ids-working, long-accepted, book-accepted, id-accepted}
 use Rattle.promises.proofs.Putting.{decided-working, work-working}

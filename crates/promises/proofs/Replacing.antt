@@ -21,16 +21,14 @@ use Rattle.matching.specs.declared.Event.the-variants.{Replaced}
 use Rattle.matching.specs.Matching.{at, openOf, minimumOf, buys, change, after}
 use Rattle.matching.specs.Held.{In}
 use Rattle.matching.specs.Depth.{stands}
-use Rattle.matching.specs.OutOfTheWay.{SameOrder}
 use Rattle.matching.proofs.Books.{length-put, open-in}
 use Rattle.matching.proofs.Events.{after-here}
 use Rattle.matching.proofs.Requests.{renews-renewed}
 use Rattle.matching.proofs.InTurn.{stands-side, stands-open}
 use Rattle.matching.proofs.Withdrawing.{event-still}
 use Rattle.table.specs.Heading.{nextOf, workOf, instrumentOf, decidedOf, modeOf, isListed}
-use Rattle.table.specs.Orders.{clOrdIdAt, orderIdAt, orderAt, bookOf, putId, putTerms, termBytes, replaced}
+use Rattle.table.specs.Orders.{clOrdIdAt, orderIdAt, orderAt, bookOf, putId, termBytes, replaced}
 use Rattle.table.specs.Market.{isMarketOf}
-use Rattle.table.specs.Facts.{Market}
 use Rattle.table.specs.Changes.{renewed}
 use Rattle.table.proofs.Same.{Same, same-in, same-then, put-below, mode-of-same, decided-same}
 use Rattle.table.proofs.Stores.{length-terms}
@@ -52,8 +50,8 @@ use Rattle.intake.proofs.Standing.{replace-in, replace-named, replace-renews, r
 use Rattle.intake.proofs.Theorems.{submit-keeps}
 use Rattle.intake.proofs.Keeping.{Comes, no-room, no-market, in-work, spent, heard, comes}
 use Rattle.promises.specs.History.{Call, Submit, tableAfter, reportsAfter, noSubmit}
-use Rattle.promises.specs.Tallies.{Account, blank, afterTerms, afterReport, noted, accountFrom, accountOf}
-use Rattle.promises.specs.OwnOrders.{fillsIn, isResting, firstId, SameFills, otherSide, StandsClear, RenewedAs, replacedOn, Alike}
+use Rattle.promises.specs.Tallies.{Account, blank, afterReport, noted, accountFrom}
+use Rattle.promises.specs.OwnOrders.{fillsIn, isResting, SameFills, otherSide, StandsClear, RenewedAs, replacedOn, Alike}
 use Rattle.promises.proofs.Tells.{accountIn}
 use Rattle.promises.proofs.Requested.{book-working, ids-working, long-replaced, book-replaced}
 use Rattle.promises.proofs.Putting.{decided-working, work-working}

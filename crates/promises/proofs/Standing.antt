@@ -23,7 +23,7 @@ use Rattle.promises.specs.Tallies.{Account, blank, accountFrom, accountO
 use Rattle.promises.specs.Whole.{recordBy}
 use Rattle.promises.proofs.Tells.{accountIn}
 use Rattle.promises.proofs.OrderIds.{Nobody, ids-apart, nobody-yet, by-none, by-some, by-in}
-use Rattle.promises.proofs.Leads.{Settled, Accounts}
+use Rattle.promises.proofs.Leads.{Accounts}
 use Rattle.promises.proofs.Histories.{history-leads}
 use Rattle.promises.proofs.Telling.{step-tells, all-told}
 

@@ -2,7 +2,7 @@
 -- second of which the orders of an MPID are out of the way; a message that both take as a new order; and what the reports of each tell
 -- of its trades, of what is left of it and of what was given back. Assumes nothing.
 use mathlib.Core.Path.{_≡_}
-use mathlib.Core.Bool.{Bool, true, false, cond, _&&_}
+use mathlib.Core.Bool.{Bool, cond, _&&_}
 use mathlib.Core.List.{List, [], _∷_, map}
 use Prim.Native.Nat.{ℕ, _+_}
 use lib.Dec.{eqb}
