@@ -33,15 +33,15 @@ ahead-other false x y p q = lt-ltb x y (omega (arith, ltb-false y x p, eqb-false
 
 -- ---- orders of one side
 -- a better order is of a better level, or of the same and an earlier place
-better-level : (a c : Order) → better a c ≡ true → eqb (a .level) (c .level) ≡ false → ahead (isBuy a) (a .level) (c .level) ≡ true
+pub better-level : (a c : Order) → better a c ≡ true → eqb (a .level) (c .level) ≡ false → ahead (isBuy a) (a .level) (c .level) ≡ true
 unfolding better
 better-level a c e t = rw t at e
 
-better-place : (a c : Order) → better a c ≡ true → eqb (a .level) (c .level) ≡ true → ltb (a .place) (c .place) ≡ true
+pub better-place : (a c : Order) → better a c ≡ true → eqb (a .level) (c .level) ≡ true → ltb (a .place) (c .place) ≡ true
 unfolding better
 better-place a c e t = rw t at e
 
-by-level : (a c : Order) → ahead (isBuy a) (a .level) (c .level) ≡ true → better a c ≡ true
+pub by-level : (a c : Order) → ahead (isBuy a) (a .level) (c .level) ≡ true → better a c ≡ true
 unfolding better
 by-level a c h =
     split (eqb (a .level) (c .level))

@@ -16,6 +16,7 @@ use Rattle.matching.specs.Accounts.{tally, tallied, trades, decrements, 
 use Rattle.matching.specs.Runs.{Ended, GoesOn, KilledWhole}
 use Rattle.matching.specs.Held.{Covered, Sound, In, Uncrossed, Held, Enters, Renews}
 use Rattle.matching.specs.Happens.{Follow}
+use Rattle.matching.specs.OutOfTheWay.{facing, SameOrder, OutOfTheWay, SameFills}
 use Rattle.matching.specs.Depth.{stands, levelAt, totalOf, ordersOf, overLevels, openOn, ordersOn}
 use Rattle.matching.proofs.Books.{open-low}
 use Rattle.matching.proofs.Steps.{step-is, run-plays, run-fits, run-keeps, happens-fits}
@@ -29,6 +30,7 @@ use Rattle.matching.proofs.Requests.{opened-held, accepted-held, replac
 use Rattle.matching.proofs.Best.{by-place, partner-best, run-on}
 use Rattle.matching.proofs.Placing.{place-kept, place-raised, place-elsewhere, turn-kept}
 use Rattle.matching.proofs.Deciding.{decided-run}
+use Rattle.matching.proofs.OutOfTheWay.{same-fills, same-decided}
 use Rattle.matching.proofs.Levels.{standing-high, totals-add-up, orders-add-up, no-more, levels-ahead, best-level}
 
 -- ---- every run of n steps of order w of book b
@@ -89,6 +91,22 @@ pub minimum-kept : (modes : ℕ → ℕ) (b : Book) (w : ℕ) → In b w → (n 
     → let r = run modes (misses modes 0 b w) n b w in
     r .work ≡ 0 → KilledWhole b w r ⊎ (minimumOf (at b w) ≤ at (r .book) w .executed - at b w .executed)
 minimum-kept = decided-run
+
+-- own orders cost no fills: under Cancel Oldest an order, run to its end, has the same trades in turn, and the same quantity of it is left
+-- or given back, whether its owner's open orders on the other side stand there or are out of the way
+module _ {A : Type 0} (name : ℕ → A) (b : Book) (w : ℕ) (title : ℕ → A) (c : Book) (v : ℕ) (same : SameOrder (at b w) (at c v))
+    (aside : OutOfTheWay (facing (at b w)) (at b w .mpid) name b title c)
+    (modes ways : ℕ → ℕ) (oldest : modes (at b w .mpid) ≡ 2) (there : ways (at b w .mpid) ≡ 2) (in-b : In b w) (in-c : In c v) where
+  pub own-orders-cost-no-fills : (m n : ℕ) → run modes false m b w .work ≡ 0 → run ways false n c v .work ≡ 0
+      → SameFills name w (run modes false m b w) title v (run ways false n c v)
+  own-orders-cost-no-fills = same-fills name b w title c v same aside modes ways oldest there in-b in-c
+
+  -- and so of an order with a minimum, which is killed on both or on neither
+  pub own-orders-cost-no-minimum : (decided m n : ℕ) → 0 < openOf (at b w)
+      → let r = run modes (misses modes decided b w) m b w in
+      let s = run ways (misses ways decided c v) n c v in
+      r .work ≡ 0 → s .work ≡ 0 → SameFills name w r title v s
+  own-orders-cost-no-minimum = same-decided name b w title c v same aside modes ways oldest there in-b in-c
 
 -- a run of m steps and then one of n is a run of m + n
 pub goes-on : (modes : ℕ → ℕ) (missed : Bool) (m n : ℕ) (b : Book) (w : ℕ)

@@ -45,16 +45,16 @@ use Rattle.promises.specs.Whole.{recordBy, openBy}
 use Rattle.promises.specs.Tallies.{Account, noted, accountFrom, accountOf, tradedFor, traded, bought, sold, isTradeOf, tradesOf, areSelfTrade, selfTradesWith, selfTrades}
 
 -- open all definitions: those that the calls compute with, and those of reports and of what is told from them
-computes : ℕ
+unfoldable pub computes : ℕ
 unfolding leAt bytesOf put partAt textAt textBytes sameBytes allZero allUpTo firstFrom decimal places plain fixed levelText shareOf meanOf meanText bare bareOf exactlyOf amountOf fixedOf levelIn meanIn isDigit digitOf runOf numberAfter isNumber numOf fractionOf sizeOf levelOf isTimeLength twoAt timeShaped timeRanged isTime isFieldText startsTag leading tagOf valueFrom valueLen fieldOf fieldsAfter fieldsFrom stepOf findTag valueOf hasTag repeats cleanFields lastTagOr headedBy ordered headerRight partOf endOf tenAt lengthTrue sumOf checkSum sumTrue garbledMessage bodyPart headOf frameOf bodyOf saidIn lengthIn hasIn refusalOf termsIn requestIn completed agreed bodyAsked headAsked askedOf kindOf oneOf belongs listed shapeOf charSays lookAs judge firstFailing firstMissing minimumClashes marginClashes firstClashing isSideOf openOf meets better faces sameOwner sumOver countOf choose best partner prevention meeting ending outcome preventing causes change happens workAfter after play run minimumOf wouldTrade misses decidedAfter mayMinimum opposed opposedTo stands behind nearer next levelAt onLevel share total orders depth played missesNow stepEvents stepWork numbered stepped entered bestOn ordersBytes levelsBytes totalsBytes bestRow bookRow bestDue instrumentOf entries entryOf isListed modeOf mpidBytes every isCodeCharacter isPadded isText hasLength hasNames isEntry hasList hasSettings hasNext hasStamp hasWork hasKind restZero isCapacity isClass isCash isMarked isRecord isRanged isKnown isWithin isShut isPriced isOrder hasOrders isFreshId hasIds isFresh areFresh hasOrderIds hasPlaces isDone noIoc isClear noCross hasNumbers isBook hasDecision hasBest isMarket isOf isMarketOf isName isNew isGiven areGiven areNames areSettings namedTable freshTable isOpening opened marksAt orderAt filled ordersFrom bookOf firstRecord recordWith recordFor termBytes amountBytes endBytes tailBytes fieldBytes recordOf applied accepted holder newStands newTaken submitted joined eventReport eventReports stepReports worked ran tableAfter reportsAfter recordBy openBy
 computes = 0
 
-tells : ℕ
+unfoldable pub tells : ℕ
 unfolding label written writtenField version front trailer reportBytes valueAt fieldAt hop placeOf bodyAt trailerAt readFramed executionFor kindFor firstOf kindOfReport oneReason readOf oneIn wordIn orderIdIn textIn timeIn acceptedSlots replacedSlots canceledSlots tradeSlots text orNumber digit orDigit group ownField lastField otherField countField avgPx replacedStatus tradeStatus figuresOf header acceptedFields replacedFields canceledFields tradeFields orStoredAt stampOn shownOn rowOf ticketOf says noted accountFrom tradedFor traded isTradeOf tradesOf areSelfTrade selfTradesWith selfTrades
 tells = 0
 
 -- the first report is number 101; A is MPID 10 and has mode 3
-abbrev before : List ℕ
+abbrev pub before : List ℕ
 before = replicate 32768 0
 
 abbrev mpids : List ℕ

@@ -55,27 +55,30 @@ pub record Steps (t u : List ℕ) (rs : List Reading) : Type 0 where
   pub by : Stepping t u rs number
 
 -- no step
-none-steps : (t : List ℕ) → Steps t t []
+pub none-stepping : (t : List ℕ) → Stepping t t [] 0
 unfolding run
-none-steps t = record { number = 0; by = record { book = refl; work = refl; modes = refl; missed = refl; ids = λ i. refl; events = tt } }
+none-stepping t = record { book = refl; work = refl; modes = refl; missed = refl; ids = λ i. refl; events = tt }
+
+none-steps : (t : List ℕ) → Steps t t []
+none-steps t = record { number = 0; by = none-stepping t }
 
 -- one
-one-step : (q : Instrument) (t : List ℕ) → instrumentOf t ≡ q → Market t → 1 ≤ workOf t → Steps t (stepped t) (map (readOf q) (stepReports t))
+pub one-stepping : (q : Instrument) (t : List ℕ) → instrumentOf t ≡ q → Market t → 1 ≤ workOf t → Stepping t (stepped t) (map (readOf q) (stepReports t)) 1
 unfolding run stepEvents stepWork
-one-step q t k m l =
+one-stepping q t k m l =
     let e = run-one (modeOf t) (missesNow t) 0 (bookOf t) (workOf t) l in
     let n = append-nil (happens (modeOf t) (missesNow t) (bookOf t) (workOf t)) in
     record {
-      number = 1;
-      by = record {
-        book = step-book t m l ∙ ap (λ (r : Ran). r .book) (sym e);
-        work = step-work t m l ∙ ap (λ (r : Ran). r .work) (sym e);
-        modes = step-modes t m l;
-        missed = step-decided t m l;
-        ids = stepped-order-id t;
-        events = rw (e, n) (step-reports q t k m l);
-      };
+      book = step-book t m l ∙ ap (λ (r : Ran). r .book) (sym e);
+      work = step-work t m l ∙ ap (λ (r : Ran). r .work) (sym e);
+      modes = step-modes t m l;
+      missed = step-decided t m l;
+      ids = stepped-order-id t;
+      events = rw (e, n) (step-reports q t k m l);
     }
+
+one-step : (q : Instrument) (t : List ℕ) → instrumentOf t ≡ q → Market t → 1 ≤ workOf t → Steps t (stepped t) (map (readOf q) (stepReports t))
+one-step q t k m l = record { number = 1; by = one-stepping q t k m l }
 
 -- some and then others
 missed-then : (m n : ℕ) (x : Bool) → (eqb n 0 && (eqb m 0 && x)) ≡ (eqb (m + n) 0 && x)
@@ -88,7 +91,7 @@ missed-then (suc m) n x =
     no true = refl
     no false = refl
 
-stepping-then : (t u v : List ℕ) (rs qs : List Reading) (m n : ℕ) → Stepping t u rs m → Stepping u v qs n → Stepping t v (rs ++ qs) (m + n)
+pub stepping-then : (t u v : List ℕ) (rs qs : List Reading) (m n : ℕ) → Stepping t u rs m → Stepping u v qs n → Stepping t v (rs ++ qs) (m + n)
 stepping-then t u v rs qs m n a b =
     let g = matching.goes-on (modeOf t) (missesNow t) m n (bookOf t) (workOf t) in
     let first = run (modeOf t) (missesNow t) m (bookOf t) (workOf t) in

@@ -59,12 +59,12 @@ decided-numbered t n = decided-same (put-above t 28 (bytesOf 4 (nextOf t + n)) 9
 cleared-below : (t : List ℕ) → Same (clearBest t) t 0 97
 cleared-below t = put-below t 97 (replicate 31 0) 0 97 (lit≤ tt)
 
-decided-working : (t : List ℕ) (n w : ℕ) (stamp : List ℕ) → length stamp ≤ 21 → decidedOf (clearBest (putWork (numbered t n) w stamp)) ≡ decidedOf t
+pub decided-working : (t : List ℕ) (n w : ℕ) (stamp : List ℕ) → length stamp ≤ 21 → decidedOf (clearBest (putWork (numbered t n) w stamp)) ≡ decidedOf t
 decided-working t n w stamp h =
     decided-same (same-in 96 97 (cleared-below (putWork (numbered t n) w stamp)) (lit≤ tt) (lit≤ tt))
     ∙ decided-same (put-above (numbered t n) 32 (w ∷ textBytes 21 stamp) 96 97 (omega (arith, length-textBytes 21 stamp h))) ∙ decided-numbered t n
 
-work-working : (t : List ℕ) (n w : ℕ) (stamp : List ℕ) → length t ≡ tableBytes → length stamp ≤ 21
+pub work-working : (t : List ℕ) (n w : ℕ) (stamp : List ℕ) → length t ≡ tableBytes → length stamp ≤ 21
     → workOf (clearBest (putWork (numbered t n) w stamp)) ≡ w
 work-working t n w stamp long h =
     work-same (same-in 32 33 (cleared-below (putWork (numbered t n) w stamp)) (lit≤ tt) (lit≤ tt))

@@ -13,10 +13,13 @@ use lib.ListN.{drop}
 use Rattle.decimal.specs.declared.Instrument.{Instrument}
 use Rattle.decimal.specs.declared.Instrument.the-variants.{Equities}
 use Rattle.decimal.specs.Instruments.{highest}
-use Rattle.matching.specs.Matching.{openOf, isBuy, meets, better, metBy}
-use Rattle.matching.specs.Depth.{totalOf, ordersOf}
+use Rattle.request.specs.declared.NewOrder.{NewOrder}
+use Rattle.request.specs.declared.Replacement.{Replacement}
+use Rattle.matching.specs.Matching.{at, openOf, isBuy, meets, better, metBy}
+use Rattle.matching.specs.Depth.{stands, totalOf, ordersOf}
+use Rattle.matching.specs.OutOfTheWay.{isOf}
 use Rattle.table.specs.Places.{mostOrders}
-use Rattle.table.specs.Heading.{nextOf, workOf, instrumentOf}
+use Rattle.table.specs.Heading.{nextOf, workOf, instrumentOf, modeOf}
 use Rattle.table.specs.Orders.{orderIdAt, orderAt, filled, bookOf}
 use Rattle.table.specs.Market.{isMarketOf}
 use Rattle.table.specs.Opened.{isOpening, opened}
@@ -38,10 +41,11 @@ use Rattle.market.specs.Depth.{depthAnswer}
 use Rattle.market.specs.Top.{topAnswer}
 use Rattle.market.proofs.Theorems.{top-tells-depth}
 use Rattle.intake.proofs.Theorems.{submit-keeps}
-use Rattle.promises.specs.History.{Call, Run, Load, tableAfter, reportsAfter, stepsAfter, noSubmit, singles, noLoad}
+use Rattle.promises.specs.History.{Call, Submit, Run, Load, tableAfter, reportsAfter, stepsAfter, noSubmit, singles, noLoad}
 use Rattle.promises.specs.Tallies.{blank, accountOf, bought, sold, tradesOf, selfTrades, unread}
 use Rattle.promises.specs.Prices.{priceOf}
 use Rattle.promises.specs.Minimums.{CanceledWhole, Reached}
+use Rattle.promises.specs.OwnOrders.{SameFills, otherSide, StandsClear, TakenAs, RenewedAs, replacedOn, Alike, AllCancel}
 use Rattle.promises.specs.Whole.{openBy, openIn, ordersIn, overDepth}
 use Rattle.promises.proofs.Loading.{singles-table, singles-reports, singles-steps, singles-none, gone-on-table, gone-on-reports}
 use Rattle.promises.proofs.Kept.{Told, after-market, after-told, account-adds, account-left, account-none, open-record, open-gone, submit-found, run-found, load-found, depth-found, buys-above}
@@ -51,6 +55,10 @@ use Rattle.promises.proofs.Agreeing.{ran-ends}
 use Rattle.promises.proofs.Spending.{steps-most}
 use Rattle.promises.proofs.Putting.{submitted-put}
 use Rattle.promises.proofs.Minimums.{minimum-put}
+use Rattle.promises.proofs.Histories.{history-keeps}
+use Rattle.promises.proofs.OwnOrders.{taken-alike}
+use Rattle.promises.proofs.Replacing.{renewed-alike}
+use Rattle.promises.proofs.Canceling.{canceled-clear, canceled-modes}
 
 module _ (q : Instrument) (before venue port code : List ℕ) (first : ℕ) (mpids modes : List ℕ) (taken : isOpening q before venue port code first mpids modes ≡ true)
     (calls : List Call) where
@@ -231,3 +239,41 @@ module _ (q : Instrument) (before venue port code : List ℕ) (first : ℕ) (mpi
     -- and takes no more than m + 1 steps in all, however its Runs divide them and whatever room each has
     pub steps-in-all : (later : List Call) → noSubmit later ≡ true → stepsAfter q after later ≤ met + 1
     steps-in-all later = steps-most q later after (submit-keeps q table message room a-market)
+
+    -- ---- own orders cost no fills (document 02, T-10): the message is taken as a new order of an MPID with mode 2, and its work ends, however
+    -- its Runs divide the steps. Had every open order of that MPID on the other side been canceled first, each by a message of its own, so
+    -- that none is left there, then the order would have had the same trades in turn, by the 11, 32 and 31 of the resting orders' Trades;
+    -- and as much of it would be left open, and have been canceled
+    module _ (o : NewOrder) (taken-alone : TakenAs q table message room o) (some : 1 ≤ o .terms .mpid) (oldest : modeOf table (o .terms .mpid) ≡ 2)
+        (later : List Call) (runs : noSubmit later ≡ true) (ended : workOf (tableAfter q table (Submit message room ∷ later)) ≡ 0)
+        (cancels : List Call) (each-canceled : AllCancel q (o .terms .mpid) table cancels) where
+      abbrev cleared : List ℕ
+      cleared = tableAfter q table cancels
+
+      module _ (none-left : (i : ℕ) → stands (otherSide (o .terms .side)) (at (bookOf cleared) i) ≡ true → isOf (o .terms .mpid) (at (bookOf cleared) i) ≡ false)
+          (area : ℕ) (taken-then : TakenAs q cleared message area o) (others : List Call) (runs-then : noSubmit others ≡ true)
+          (ended-then : workOf (tableAfter q cleared (Submit message area ∷ others)) ≡ 0) where
+        pub canceling-first-gains-nothing : SameFills q (reportsAfter q table (Submit message room ∷ later)) (reportsAfter q cleared (Submit message area ∷ others))
+        canceling-first-gains-nothing =
+            taken-alike q message o table cleared room area later others a-market (history-keeps q cancels table a-market)
+            (canceled-clear q (otherSide (o .terms .side)) (o .terms .mpid) cancels table a-market some each-canceled none-left)
+            oldest (canceled-modes q (o .terms .mpid) cancels table a-market some each-canceled (o .terms .mpid) ∙ oldest)
+            taken-alone taken-then runs runs-then ended ended-then
+
+-- ---- the same of any two markets of one kind, t and u, that stand so to each other, however they came about: u has no open order of the MPID
+-- on the other side, and there the other open orders of t, in the same turn, with the same ClOrdIDs, levels and open quantities
+module _ (q : Instrument) (t u : List ℕ) (market : isMarketOf q t ≡ true) (other : isMarketOf q u ≡ true) (message : List ℕ) (room area : ℕ) (o : NewOrder)
+    (clear : StandsClear (otherSide (o .terms .side)) (o .terms .mpid) t u) (oldest : modeOf t (o .terms .mpid) ≡ 2) (oldest-too : modeOf u (o .terms .mpid) ≡ 2)
+    (taken-there : TakenAs q t message room o) (taken-too : TakenAs q u message area o) (later others : List Call) (runs : noSubmit later ≡ true) (runs-too : noSubmit others ≡ true)
+    (ended : workOf (tableAfter q t (Submit message room ∷ later)) ≡ 0) (ended-too : workOf (tableAfter q u (Submit message area ∷ others)) ≡ 0) where
+  pub own-orders-cost-no-fills : SameFills q (reportsAfter q t (Submit message room ∷ later)) (reportsAfter q u (Submit message area ∷ others))
+  own-orders-cost-no-fills = taken-alike q message o t u room area later others market other clear oldest oldest-too taken-there taken-too runs runs-too ended ended-too
+
+-- and of a replacement that is taken on both, of two orders that it makes the same, by the reports from its Replaced on
+module _ (q : Instrument) (t u : List ℕ) (market : isMarketOf q t ≡ true) (other : isMarketOf q u ≡ true) (message : List ℕ) (room area : ℕ) (o : Replacement)
+    (alike : Alike (replacedOn t message o) (replacedOn u message o)) (clear : StandsClear (otherSide (replacedOn t message o .side)) (replacedOn t message o .mpid) t u)
+    (oldest : modeOf t (replacedOn t message o .mpid) ≡ 2) (oldest-too : modeOf u (replacedOn u message o .mpid) ≡ 2)
+    (taken-there : RenewedAs q t message room o) (taken-too : RenewedAs q u message area o) (later others : List Call) (runs : noSubmit later ≡ true) (runs-too : noSubmit others ≡ true)
+    (ended : workOf (tableAfter q t (Submit message room ∷ later)) ≡ 0) (ended-too : workOf (tableAfter q u (Submit message area ∷ others)) ≡ 0) where
+  pub replaced-as-new : SameFills q (reportsAfter q t (Submit message room ∷ later)) (reportsAfter q u (Submit message area ∷ others))
+  replaced-as-new = renewed-alike q message o t u room area later others market other alike clear oldest oldest-too taken-there taken-too runs runs-too ended ended-too
