@@ -1,0 +1,15 @@
+-- `octets::put_le` meets its contract: at each turn, putting what is left of the number gives the whole put.
+use mathlib.Core.Path.{◌≡◌, refl, sym, ap, ◌∙◌}
+use Prim.Native.Nat.{ℕ, ◌+◌, ◌-◌, ◌≤◌, zero-le}
+use native.Mathlib.Nat.{add-zero, sub-zero}
+use native.Mathlib.Omega.{arith}
+use lib.ListN.{length, length-set}
+use Rattle.octets.specs.Octets.{put, bytes_of}
+use Rattle.octets.proofs.Places.{put_more}
+use Rattle.octets.proofs.number.put_le.Given as goal
+
+abbrev pub invariant-loop-k : goal.invariant-loop-k
+invariant-loop-k l = (put l.t (l.p + l.k) (bytes_of (l.n - l.k) l.w) ≡ put l.initial.t l.p (bytes_of l.n l.v)) × (l.k ≤ l.n) × (length l.t ≡ length l.initial.t)
+
+abbrev pub decreases-loop-k : goal.decreases-loop-k
+decreases-loop-k l = l.n - l.k

@@ -1,0 +1,7 @@
+-- `octets::text_is` meets its contract.
+use mathlib.Core.Path.{◌∙◌}
+use borrow.Author.Rules.{rules}
+use Rattle.octets.proofs.text.text_is.Goals as goal
+
+pub returns : goal.returns
+returns c = c.same.ensures ∙ rw c.text_at.ensures

@@ -1,0 +1,15 @@
+-- `octets::put_zeros` meets its contract: at each turn, putting the zeros that are left gives the whole put.
+use mathlib.Core.Path.{◌≡◌, refl, sym, ap, ◌∙◌}
+use Prim.Native.Nat.{ℕ, ◌+◌, ◌-◌, ◌≤◌, zero-le}
+use native.Mathlib.Nat.{add-zero, sub-zero}
+use native.Mathlib.Omega.{arith}
+use lib.ListN.{length, length-set, replicate}
+use Rattle.octets.specs.Octets.{put}
+use Rattle.octets.proofs.Zeros.{put_zero_more}
+use Rattle.octets.proofs.zero.put_zeros.Given as goal
+
+abbrev pub invariant-loop-k : goal.invariant-loop-k
+invariant-loop-k l = (put l.t (l.p + l.k) (replicate (l.n - l.k) 0) ≡ put l.initial.t l.p (replicate l.n 0)) × (l.k ≤ l.n) × (length l.t ≡ length l.initial.t)
+
+abbrev pub decreases-loop-k : goal.decreases-loop-k
+decreases-loop-k l = l.n - l.k
