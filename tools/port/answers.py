@@ -89,10 +89,14 @@ class Function:
         if not rest:
             return head
         want = alike(rest[0])
-        at = place
+        at = place if self.has(place, want) else self.goal_place
         while at is not None:
             old, new = self.step[at]
             if old and alike(old) == want:
+                if want.startswith("enumtold") and rest[1:3] == ["given", "1"]:
+                    arm = self.arm(at)
+                    if arm:
+                        return ".".join([head, arm, "is", *rest[3:]])
                 if len(rest) > 1 and rest[1] == "given":
                     var = self.given(place, old)
                     if var:
@@ -100,6 +104,21 @@ class Function:
                 return ".".join([head, new, *rest[1:]])
             at = self.parent.get(at)
         return ".".join([head, *rest])
+
+    def has(self, place, want):
+        while place is not None:
+            if alike(self.step[place][0]) == want:
+                return True
+            place = self.parent.get(place)
+        return False
+
+    def arm(self, place):
+        while place is not None:
+            new = self.step[place][1]
+            if re.match(r"in[-_]", new):
+                return new
+            place = self.parent.get(place)
+        return None
 
     def given(self, place, step):
         at = place
@@ -114,13 +133,22 @@ class Function:
 def body_turned(fn, place, text, heads, labels, said):
     """An answer's text: paths below c, and names let for c.before.. and for other answers."""
 
+    fn.goal_place = place
+
     def one(m):
         head, fields = m[1], m[2][1:].split(".")
         if head in heads:
             return fn.path(heads[head], head, fields, said)
         return m[0]
 
+    for m in re.finditer(r"let (\w+) = (\w+)((?:\.before)*) in(?=\s)", text):
+        if m[2] in heads:
+            at = heads[m[2]]
+            for _ in range(m[3].count(".before")):
+                at = fn.parent.get(at) or at
+            heads = {**heads, m[1]: at}
     text = PATH.sub(one, text)
+    text = re.sub(r"\bnot-(true|false) _ ", "", text)
     for old, new in labels.items():
         text = re.sub(r"(?<![^\s(){};,])" + re.escape(old) + r"(?= c\b)", "\1" + new, text)
     return text.replace("\1", "")

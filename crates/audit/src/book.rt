@@ -17,7 +17,7 @@ use table::places;
 use table::record::load;
 
 // The best level of each side, and whether no IOC and no Fill or Kill is open.
-#[derive(Drop)]
+#[derive(Clone, Copy)]
 pub struct Sides {
     pub buy: BestLevel,
     pub sell: BestLevel,

@@ -12,7 +12,7 @@ use table::places;
 use table::record::{eight_at, four_at};
 
 // The 32 bytes that a ClOrdID has room for, as four numbers.
-#[derive(Drop)]
+#[derive(Clone, Copy)]
 pub struct Id {
     pub a: u64,
     pub b: u64,

@@ -11,7 +11,7 @@ use market::open;
 use octets::{part_at, same};
 
 // How many bytes of a line are held after a read, and whether there may be more to read.
-#[derive(Drop)]
+#[derive(Clone, Copy)]
 struct Chunk {
     held: usize,
     more: bool,

@@ -2,7 +2,7 @@
 // call leaves of the table and of the report area. No code: the crates above it do the work.
 
 // What Open answers: the table is opened, or its length or a setting is wrong.
-#[derive(Drop)]
+#[derive(Clone, Copy)]
 pub enum OpenAnswer {
     Opened,
     BadSetting,
@@ -10,7 +10,7 @@ pub enum OpenAnswer {
 
 // What Submit answers: refused with nothing changed; or with a report of that many bytes: a session Reject, an order
 // rejected, a cancel or replacement rejected, a request taken.
-#[derive(Drop)]
+#[derive(Clone, Copy)]
 pub enum SubmitAnswer {
     NoRoom,
     NoMarket,
@@ -24,7 +24,7 @@ pub enum SubmitAnswer {
 }
 
 // What Run answers: refused, or the bytes and reports written and the steps taken.
-#[derive(Drop)]
+#[derive(Clone, Copy)]
 pub enum RunAnswer {
     NoRoom,
     NoMarket,
@@ -36,7 +36,7 @@ pub enum RunAnswer {
 }
 
 // Whether a request that a message asks for can be done: it stands, or it is rejected for a reason (103 or 102).
-#[derive(Drop)]
+#[derive(Clone, Copy)]
 pub enum Standing {
     Stands,
     Fails(u64),

@@ -1,6 +1,6 @@
 // Reads numbers, yields, prices and averages from texts that are written in the one way in which they are written into a report.
 ghost use Rattle.std.specs.Prelude.{◌≡◌, ◌+◌, ◌*◌, ◌^◌, ◌≤◌, ◌<◌, length, drop};
-ghost use Rattle.decimal.specs.Instruments.{decimals as decimalsOf};
+ghost use Rattle.decimal.specs.Instruments.{decimals as decimals_of};
 ghost use Rattle.decimal.specs.Writing.{Scale};
 ghost use Rattle.decimal.specs.declared.Instrument.TheVariants.{Bonds, Equities};
 ghost use Rattle.decimal.specs.Canonical.{bare_of, within, exactly_of, amount_of, fixed_of, level_in, mean_in};
@@ -119,7 +119,7 @@ fn read_fixed(q: Instrument, s: &[u8], k: usize, unit: u64) -> Said
 
 // The decimals of a yield or a price.
 fn decimals(q: Instrument) -> usize
-    ensures { (result ≡ decimalsOf q) × (result ≤ 3) }
+    ensures { (result ≡ decimals_of q) × (result ≤ 3) }
 {
     match q {
         Instrument::Bonds => 3,
@@ -129,7 +129,7 @@ fn decimals(q: Instrument) -> usize
 
 // The unit of its smallest one.
 fn unit(q: Instrument) -> u64
-    ensures { (result ≡ 10 ^ decimalsOf q) × (result ≤ 1000) }
+    ensures { (result ≡ 10 ^ decimals_of q) × (result ≤ 1000) }
 {
     match q {
         Instrument::Bonds => 1000,

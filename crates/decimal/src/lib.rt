@@ -4,14 +4,14 @@ pub mod read;
 pub mod write;
 
 // What a market trades: bonds, by yield, or equities, by price.
-#[derive(Drop)]
+#[derive(Clone, Copy)]
 pub enum Instrument {
     Bonds,
     Equities,
 }
 
 // What a text says: a number, or none because it is not written as one.
-#[derive(Drop)]
+#[derive(Clone, Copy)]
 pub enum Said {
     Value(u64),
     Wrong,

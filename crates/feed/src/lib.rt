@@ -22,7 +22,7 @@ use report::write::write_report;
 use report::{Field, Reading};
 
 // What a feed answers: refused with nothing changed; no copy, with the same number; or a copy of that many bytes, with the next number.
-#[derive(Drop)]
+#[derive(Clone, Copy)]
 pub enum CopyAnswer {
     NoRoom,
     NoReport,

@@ -1,7 +1,7 @@
 // The row of a copy from the row of its report, and the slots of a copy from those of the report's kind: each one changed up to the first
 // of a tag above 797, 797's own in front of that one, and those behind it moved on by one.
 ghost use Rattle.std.specs.Prelude.{◌≡◌, ◌≤◌, ◌||◌, eqb};
-ghost use Rattle.feed.specs.Rows.{copy_value, copy_field, copy_row, longest as longestOf, copy_slot, copy_slots};
+ghost use Rattle.feed.specs.Rows.{copy_value, copy_field, copy_row, longest as longest_of, copy_slot, copy_slots};
 
 use crate::force::shown_row;
 use decimal::Instrument;
@@ -77,7 +77,7 @@ pub fn copy_row(fields: [Field; 36], number: u64, width: usize) -> [Field; 36]
 
 // How long the text of 109 may be.
 pub fn longest(q: Instrument) -> usize
-    ensures { (result ≡ longestOf q) × (result ≤ 30) }
+    ensures { (result ≡ longest_of q) × (result ≤ 30) }
 {
     match q {
         Instrument::Bonds => 30,

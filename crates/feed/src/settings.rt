@@ -1,7 +1,7 @@
 // How a feed is set up: whether its settings mean something, the text of 109, which kinds it copies.
 ghost use Rattle.std.specs.Prelude.{◌≡◌, ◌&&◌, ◌≤◌, leb, length};
 ghost use Rattle.octets.specs.Written.{Room, Wrote};
-ghost use Rattle.feed.specs.Rows.{longest as longestOf};
+ghost use Rattle.feed.specs.Rows.{longest as longest_of};
 ghost use Rattle.feed.specs.Settings.{client_of, is_identifier, are_identifiers, is_setting, copied_by};
 ghost use Rattle.feed.specs.Copies.{is_none, copy_kind};
 
@@ -27,7 +27,7 @@ fn is_identifier(v: &[u8], most: usize) -> bool
 
 // Whether the identifiers that 109 shows are some, and 109 is not too long.
 fn is_client(q: Instrument, shows: u64, port: &[u8], group: &[u8]) -> bool
-    ensures { result ≡ (are_identifiers shows port.now group.now && leb (length (client_of shows port.now group.now)) (longestOf q)) }
+    ensures { result ≡ (are_identifiers shows port.now group.now && leb (length (client_of shows port.now group.now)) (longest_of q)) }
 {
     let most = longest(q);
     if shows == 1 {

@@ -5,20 +5,20 @@ ghost use Rattle.fix.specs.Fields.{is_text, text_run, tag_of, field_of, as_field
 use decimal::read::digit;
 
 // A tag and how many digits it has. The number 0: no tag.
-#[derive(Drop)]
+#[derive(Clone, Copy)]
 pub struct Tag {
     pub number: u64,
     pub digits: usize,
 }
 
 // A place between two fields of a message.
-#[derive(Drop)]
+#[derive(Clone, Copy)]
 pub struct Cursor {
     pub at: usize,
 }
 
 // What a step of the cursor finds.
-#[derive(Drop)]
+#[derive(Clone, Copy)]
 pub enum Field {
     Good {
         tag: u64,
@@ -31,7 +31,7 @@ pub enum Field {
 }
 
 // Where the value of a tag stands.
-#[derive(Drop)]
+#[derive(Clone, Copy)]
 pub enum Found {
     At { start: usize, len: usize },
     Nothing,

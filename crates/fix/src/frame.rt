@@ -12,14 +12,14 @@ use decimal::read::{is_time, read_number};
 use octets::part::{part_at, same};
 
 // A part of a message.
-#[derive(Drop)]
+#[derive(Clone, Copy)]
 pub struct Part {
     pub start: usize,
     pub len: usize,
 }
 
 // The parts of a message that is not garbled: 35, 34 as a number, 49, 52, 56, and the fields between 56 and 10.
-#[derive(Drop)]
+#[derive(Clone, Copy)]
 pub struct Head {
     pub kind: Part,
     pub number: u64,
@@ -29,21 +29,21 @@ pub struct Head {
     pub body: Part,
 }
 
-#[derive(Drop)]
+#[derive(Clone, Copy)]
 pub enum Frame {
     Garbled,
     Good(Head),
 }
 
 // What 9 says, and the place behind it.
-#[derive(Drop)]
+#[derive(Clone, Copy)]
 pub enum Opening {
     Reads { count: u64, next: usize },
     Wrong,
 }
 
 // Where the values of 35, 34, 49, 52 and 56 stand.
-#[derive(Drop)]
+#[derive(Clone, Copy)]
 pub struct Places {
     pub kind: Part,
     pub number: Part,

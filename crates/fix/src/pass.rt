@@ -9,20 +9,20 @@ use decimal::read::digit;
 
 // What the walk over a whole message finds: how many fields, where the last starts, and the sum of the bytes before it. Wrong
 // where something is no field, or a tag stands twice.
-#[derive(Drop)]
+#[derive(Clone, Copy)]
 pub enum Walked {
     Whole { count: usize, from: usize, sum: u8 },
     Wrong,
 }
 
 // A place between two fields of a row: how many stand before it.
-#[derive(Drop)]
+#[derive(Clone, Copy)]
 pub struct Seat {
     pub number: usize,
 }
 
 // What a step over a row finds.
-#[derive(Drop)]
+#[derive(Clone, Copy)]
 pub enum Noted {
     Good {
         tag: u64,
@@ -34,7 +34,7 @@ pub enum Noted {
 }
 
 // The characters of a value: how many they are, and the byte behind them.
-#[derive(Drop)]
+#[derive(Clone, Copy)]
 pub struct Text {
     pub len: usize,
     pub behind: u8,

@@ -14,7 +14,7 @@ use decimal::Instrument;
 use table::places::TABLE;
 
 // What writing answers: refused with nothing changed, or the image is written.
-#[derive(Drop)]
+#[derive(Clone, Copy)]
 pub enum SaveAnswer {
     BadLength,
     NoMarket,
@@ -22,7 +22,7 @@ pub enum SaveAnswer {
 }
 
 // What reading answers: refused with nothing changed, for a bad block with its number, or the table is read.
-#[derive(Drop)]
+#[derive(Clone, Copy)]
 pub enum RestoreAnswer {
     BadLength,
     BadBlock(usize),

@@ -12,7 +12,7 @@ const COLUMNS: usize = 32;
 const ROWS: usize = 16;
 
 // What a column comes to: the sum of its bytes, and the sum of each of them times its row, from 0 on.
-#[derive(Drop)]
+#[derive(Clone, Copy)]
 struct Added {
     sum: u16,
     turned: u16,

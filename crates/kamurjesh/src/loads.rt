@@ -20,7 +20,7 @@ pub fn stop_number(stop: Stop) -> u64
 }
 
 // Load's answer in numbers, each 0 where it has none.
-#[derive(Drop)]
+#[derive(Clone, Copy)]
 pub struct Figures {
     pub number: u64,
     pub place: u64,

@@ -4,7 +4,7 @@ ghost use Rattle.std.specs.Prelude.{◌≡◌, cond, ◌∷◌, [], ◌<◌, ◌
 ghost use Rattle.report.specs.declared.Shape.TheVariants as shape;
 ghost use Rattle.report.specs.Fields.{group_of};
 ghost use Rattle.report.specs.Parse.{got_of};
-ghost use Rattle.report.specs.Slots.{always, exact, sides, symbols, unused as unusedSlot, own_slot, last_slot, other_slot, count_slot, accepted_slots, replaced_slots, canceled_slots, trade_slots, rejected_slots, cancel_reject_slots, session_reject_slots, slots_of};
+ghost use Rattle.report.specs.Slots.{always, exact, sides, symbols, unused as unused_slot, own_slot, last_slot, other_slot, count_slot, accepted_slots, replaced_slots, canceled_slots, trade_slots, rejected_slots, cancel_reject_slots, session_reject_slots, slots_of};
 ghost use Rattle.kinds.specs.Standing.{value_from, next_of, after, after_all, slot, front_slots, first_slots, order_slots, traded_slots, term_slots, state_slots, closing_slots, changed_slots, refusal_slots};
 
 use decimal::Instrument;
@@ -224,7 +224,7 @@ fn order_id(s: &[u8], at: usize, tag: u64, optional: bool) -> usize
 
 // No field.
 fn unused(s: &[u8], at: usize) -> usize
-    ensures { result ≡ after s.now at unusedSlot }
+    ensures { result ≡ after s.now at unused_slot }
 {
     if behind(s, at, 0) == 0 {
         return at;

@@ -11,7 +11,7 @@ use octets::part::part_at;
 use table::heading::{next, work};
 
 // What is to be done at a place of the buffer: no more is taken, or the message there, of this length.
-#[derive(Drop)]
+#[derive(Clone, Copy)]
 pub enum Next {
     Stops(Stop),
     Takes(usize),
@@ -19,7 +19,7 @@ pub enum Next {
 
 // How far the messages were taken: why no more are, the place of the first one not submitted, how many were finished, and the bytes of
 // their reports.
-#[derive(Drop)]
+#[derive(Clone, Copy)]
 pub struct Halt {
     pub stop: Stop,
     pub place: usize,

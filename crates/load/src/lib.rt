@@ -13,7 +13,7 @@ use decimal::Instrument;
 use table::heading::{next, work};
 
 // Why no more messages are taken: the buffer ends, there is no room, the numbers are spent, a length cannot be read.
-#[derive(Drop)]
+#[derive(Clone, Copy)]
 pub enum Stop {
     Done,
     Full,
@@ -23,7 +23,7 @@ pub enum Stop {
 
 // What Load answers: refused with nothing changed; or why it stopped, the place of the first message not submitted, how many were
 // finished, and the bytes and reports written.
-#[derive(Drop)]
+#[derive(Clone, Copy)]
 pub enum LoadAnswer {
     NoRoom,
     NoMarket,

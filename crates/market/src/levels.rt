@@ -11,7 +11,7 @@ use table::ids::count;
 use table::record::load;
 
 // The total open quantity of a level, and its number of orders.
-#[derive(Drop)]
+#[derive(Clone, Copy)]
 pub struct OnLevel {
     pub total: u64,
     pub orders: u64,

@@ -27,7 +27,7 @@ use table::heading::work;
 use table::places;
 
 // What Depth and Top answer: a refusal, or the level that there is or that there is none.
-#[derive(Drop)]
+#[derive(Clone, Copy)]
 pub enum DepthAnswer {
     NoMarket,
     InWork,

@@ -9,7 +9,7 @@ ghost use Rattle.matching.specs.Held.{Covered, Sound, May};
 // 1,000,000,000 and the yield in thousandths, or less the price in tenths; the sum is that of executed quantity times level; the place is the number of
 // the Accepted report, or of the last requested Replaced report that did not keep it; MPID 0 is none; MinQty is 110 as it was sent, 0
 // for none.
-#[derive(Drop)]
+#[derive(Clone, Copy)]
 pub struct Order {
     pub side: u64,
     pub tif: u64,
@@ -25,7 +25,7 @@ pub struct Order {
 }
 
 // What self-trade prevention does, by mode, with its quantities. The order in work is the newest, the resting one the oldest.
-#[derive(Drop)]
+#[derive(Clone, Copy)]
 pub enum Prevention {
     CancelNewest { quantity: u64 },
     CancelOldest { quantity: u64 },
@@ -33,7 +33,7 @@ pub enum Prevention {
 }
 
 // What a step comes to: a trade at the resting level, a prevention, or the end of the work: what is open is killed, expires or rests.
-#[derive(Drop)]
+#[derive(Clone, Copy)]
 pub enum Outcome {
     Trade { quantity: u64, level: u64 },
     Prevented(Prevention),
@@ -45,7 +45,7 @@ pub enum Outcome {
 // What happens to one order, named by its number: it enters the book, is replaced (the place is the one it may take) or
 // withdrawn as requested, is canceled or decremented by prevention, trades with another, is killed (it would not reach its minimum), or
 // expires (an immediate order's rest).
-#[derive(Drop)]
+#[derive(Clone, Copy)]
 pub enum Event {
     Accepted {
         order: u64,
@@ -86,7 +86,7 @@ pub enum Event {
 }
 
 // The k-th level of a side from the best, or that there is none.
-#[derive(Drop)]
+#[derive(Clone, Copy)]
 pub enum Depth {
     Level { level: u64, total: u64, orders: u64 },
     NoLevel,

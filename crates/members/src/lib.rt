@@ -9,14 +9,14 @@ use decimal::Instrument;
 use table::opening::open_table;
 
 // One member of the market: its MPID, and its mode when its own orders meet.
-#[derive(Drop)]
+#[derive(Clone, Copy)]
 pub struct Member {
     pub mpid: u64,
     pub mode: u64,
 }
 
 // The first nine members at most, taken apart: n of each array count, and zeros follow.
-#[derive(Drop)]
+#[derive(Clone, Copy)]
 struct Listed {
     n: usize,
     mpids: [u64; 9],

@@ -13,7 +13,7 @@ use Rattle.octets.proofs.Bools.{split, not_both}
 use Rattle.matching.specs.declared.Order.{Order}
 use Rattle.matching.specs.declared.Event.{Event}
 use Rattle.matching.specs.declared.Event.TheVariants.{Accepted, Replaced, Withdrawn, Canceled, Decremented, Traded, Killed, Expired}
-use Rattle.matching.specs.Matching.{Book, at, put as putOrder, open_of, buys, who, change, after}
+use Rattle.matching.specs.Matching.{Book, at, put as put_order, open_of, buys, who, change, after}
 use Rattle.matching.specs.Held.{In, Takes, anew, over}
 use Rattle.matching.specs.Happens.{Fresh}
 use Rattle.matching.proofs.Books.{length_put}
@@ -102,7 +102,7 @@ module _ (t u v : List ℕ) (e : Event) (r : Reading) (m : Market t) (i : In (bo
 module _ (t u v : List ℕ) (k : ℕ) (o : Order) (r : Reading) (m : Market t) (x : Fresh (book_of t) k o) (same : book_of u ≡ after (book_of t) (Accepted k o))
     (left : book_of v ≡ book_of u) (id : order_id_at u k ≡ next_of t) (ids : (i : ℕ) → i ≢ k → order_id_at u i ≡ order_id_at t i)
     (kept : (i : ℕ) → order_id_at v i ≡ order_id_at u i) (next : next_of v ≡ next_of t + 1) (tells : TellsOn u (Accepted k o) r) where
-  after_put : book_of u ≡ putOrder (book_of t) k o
+  after_put : book_of u ≡ put_order (book_of t) k o
   unfolding after change
   after_put = same
 

@@ -13,7 +13,7 @@ use Rattle.decimal.specs.declared.Instrument.TheVariants.{Bonds, Equities}
 use Rattle.decimal.specs.Writing.{decimal, places, plain, fixed, level_text, share_of, mean_of, mean_text}
 use Rattle.decimal.specs.Canonical.{bare, bare_of, exactly_of, amount_of, fixed_of, level_in, mean_in}
 use Rattle.decimal.specs.Reading.{is_digit, digit_of, run_of, number_after, is_number, num_of, fraction_of, size_of, level_of, is_time_length, two_at, time_shaped, time_ranged, is_time}
-use Rattle.fix.specs.Fields.{is_text as isFieldText, starts_tag, leading, tag_of, value_from, value_len, field_of, fields_after, fields_from, step_of, find_tag, value_of, has_tag, repeats, clean_fields, last_tag_or}
+use Rattle.fix.specs.Fields.{is_text as is_field_text, starts_tag, leading, tag_of, value_from, value_len, field_of, fields_after, fields_from, step_of, find_tag, value_of, has_tag, repeats, clean_fields, last_tag_or}
 use Rattle.fix.specs.Garbled.{headed_by, ordered, header_right, part_of, end_of, ten_at, length_true, sum_of, check_sum, sum_true, garbled_message, body_part, head_of, frame_of}
 use Rattle.request.specs.Asks.{body_of, said_in, length_in, has_in, refusal_of, terms_in, request_in, completed, agreed, body_asked, head_asked, asked_of}
 use Rattle.request.specs.Session.{kind_of, one_of, belongs, listed, shape_of, char_says, look_as, judge, first_failing, first_missing, minimum_clashes, margin_clashes, first_clashing}
@@ -28,11 +28,11 @@ use Rattle.table.specs.Opened.{is_name, is_new, is_given, are_given, are_names, 
 use Rattle.table.specs.Orders.{marks_at, order_at, filled, orders_from, book_of, first_record, record_with, record_for, term_bytes, amount_bytes, end_bytes, tail_bytes, field_bytes, record_of, applied, accepted}
 use Rattle.calls.specs.Checks.{holder, new_stands}
 use Rattle.calls.specs.Submit.{new_taken, submitted}
-use Rattle.report.specs.Fields.{label, written, field_bytes as writtenField}
+use Rattle.report.specs.Fields.{label, written, field_bytes as written_field}
 use Rattle.report.specs.Frame.{version, front, trailer, report_bytes}
 use Rattle.report.specs.Parse.{value_at, field_at, hop, place_of}
 use Rattle.report.specs.declared.Reading.{Reading}
-use Rattle.report.specs.Reports.{body_at, trailer_at, read_framed, execution_for, kind_for, first_of, kind_of as kindOfReport, one_reason, read_of}
+use Rattle.report.specs.Reports.{body_at, trailer_at, read_framed, execution_for, kind_for, first_of, kind_of as kind_of_report, one_reason, read_of}
 use Rattle.report.specs.Shapes.{one_in, word_in, order_id_in, text_in, time_in}
 use Rattle.report.specs.Slots.{accepted_slots, replaced_slots, canceled_slots, trade_slots}
 use Rattle.rows.specs.Rows.{text, or_number, digit, or_digit, group, own_field, last_field, other_field, count_field, avg_px, replaced_status, trade_status, figures_of, header, accepted_fields, replaced_fields, canceled_fields, trade_fields}
@@ -46,11 +46,11 @@ use Rattle.promises.specs.Tallies.{Account, noted, account_from, account_of, tra
 
 -- open all definitions: those that the calls compute with, and those of reports and of what is told from them
 unfoldable pub computes : ℕ
-unfolding le_at bytes_of put part_at text_at text_bytes same_bytes all_zero all_up_to first_from decimal places plain fixed level_text share_of mean_of mean_text bare bare_of exactly_of amount_of fixed_of level_in mean_in is_digit digit_of run_of number_after is_number num_of fraction_of size_of level_of is_time_length two_at time_shaped time_ranged is_time isFieldText starts_tag leading tag_of value_from value_len field_of fields_after fields_from step_of find_tag value_of has_tag repeats clean_fields last_tag_or headed_by ordered header_right part_of end_of ten_at length_true sum_of check_sum sum_true garbled_message body_part head_of frame_of body_of said_in length_in has_in refusal_of terms_in request_in completed agreed body_asked head_asked asked_of kind_of one_of belongs listed shape_of char_says look_as judge first_failing first_missing minimum_clashes margin_clashes first_clashing is_side_of open_of meets better faces same_owner sum_over count_of choose best partner prevention meeting ending outcome preventing causes change happens work_after after play run minimum_of would_trade misses decided_after may_minimum opposed opposed_to stands behind nearer next level_at on_level share total orders depth played misses_now step_events step_work numbered stepped entered best_on orders_bytes levels_bytes totals_bytes best_row book_row best_due instrument_of entries entry_of is_listed mode_of mpid_bytes every is_code_character is_padded is_text has_length has_names is_entry has_list has_settings has_next has_stamp has_work has_kind rest_zero is_capacity is_class is_cash is_marked is_record is_ranged is_known is_within is_shut is_priced is_order has_orders is_fresh_id has_ids is_fresh are_fresh has_order_ids has_places is_done no_ioc is_clear no_cross has_numbers is_book has_decision has_best is_market is_of is_market_of is_name is_new is_given are_given are_names are_settings named_table fresh_table is_opening opened marks_at order_at filled orders_from book_of first_record record_with record_for term_bytes amount_bytes end_bytes tail_bytes field_bytes record_of applied accepted holder new_stands new_taken submitted joined event_report event_reports step_reports worked ran table_after reports_after record_by open_by
+unfolding le_at bytes_of put part_at text_at text_bytes same_bytes all_zero all_up_to first_from decimal places plain fixed level_text share_of mean_of mean_text bare bare_of exactly_of amount_of fixed_of level_in mean_in is_digit digit_of run_of number_after is_number num_of fraction_of size_of level_of is_time_length two_at time_shaped time_ranged is_time is_field_text starts_tag leading tag_of value_from value_len field_of fields_after fields_from step_of find_tag value_of has_tag repeats clean_fields last_tag_or headed_by ordered header_right part_of end_of ten_at length_true sum_of check_sum sum_true garbled_message body_part head_of frame_of body_of said_in length_in has_in refusal_of terms_in request_in completed agreed body_asked head_asked asked_of kind_of one_of belongs listed shape_of char_says look_as judge first_failing first_missing minimum_clashes margin_clashes first_clashing is_side_of open_of meets better faces same_owner sum_over count_of choose best partner prevention meeting ending outcome preventing causes change happens work_after after play run minimum_of would_trade misses decided_after may_minimum opposed opposed_to stands behind nearer next level_at on_level share total orders depth played misses_now step_events step_work numbered stepped entered best_on orders_bytes levels_bytes totals_bytes best_row book_row best_due instrument_of entries entry_of is_listed mode_of mpid_bytes every is_code_character is_padded is_text has_length has_names is_entry has_list has_settings has_next has_stamp has_work has_kind rest_zero is_capacity is_class is_cash is_marked is_record is_ranged is_known is_within is_shut is_priced is_order has_orders is_fresh_id has_ids is_fresh are_fresh has_order_ids has_places is_done no_ioc is_clear no_cross has_numbers is_book has_decision has_best is_market is_of is_market_of is_name is_new is_given are_given are_names are_settings named_table fresh_table is_opening opened marks_at order_at filled orders_from book_of first_record record_with record_for term_bytes amount_bytes end_bytes tail_bytes field_bytes record_of applied accepted holder new_stands new_taken submitted joined event_report event_reports step_reports worked ran table_after reports_after record_by open_by
 computes = 0
 
 unfoldable pub tells : ℕ
-unfolding label written writtenField version front trailer report_bytes value_at field_at hop place_of body_at trailer_at read_framed execution_for kind_for first_of kindOfReport one_reason read_of one_in word_in order_id_in text_in time_in accepted_slots replaced_slots canceled_slots trade_slots text or_number digit or_digit group own_field last_field other_field count_field avg_px replaced_status trade_status figures_of header accepted_fields replaced_fields canceled_fields trade_fields or_stored_at stamp_on shown_on row_of ticket_of says noted account_from traded_for traded is_trade_of trades_of are_self_trade self_trades_with self_trades
+unfolding label written written_field version front trailer report_bytes value_at field_at hop place_of body_at trailer_at read_framed execution_for kind_for first_of kind_of_report one_reason read_of one_in word_in order_id_in text_in time_in accepted_slots replaced_slots canceled_slots trade_slots text or_number digit or_digit group own_field last_field other_field count_field avg_px replaced_status trade_status figures_of header accepted_fields replaced_fields canceled_fields trade_fields or_stored_at stamp_on shown_on row_of ticket_of says noted account_from traded_for traded is_trade_of trades_of are_self_trade self_trades_with self_trades
 tells = 0
 
 -- the first report is number 101; A is MPID 10 and has mode 3

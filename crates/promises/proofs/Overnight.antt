@@ -21,7 +21,7 @@ use Rattle.table.proofs.Facts.{market_facts}
 use Rattle.image.specs.Image.{image_bytes, table_in}
 use Rattle.image.specs.declared.SaveAnswer.TheVariants.{Saved}
 use Rattle.image.specs.declared.RestoreAnswer.TheVariants.{Restored}
-use Rattle.image.specs.Answers.{saved_answer, image_after, restored_answer, table_after as tableRead}
+use Rattle.image.specs.Answers.{saved_answer, image_after, restored_answer, table_after as table_read}
 use Rattle.image.proofs.Answered.{long_table}
 use Rattle.image.proofs.Images.{table_back}
 use Rattle.image.proofs.Theorems.{Kept, kept, Accepted, accepted, market_saved, saved_restored}
@@ -59,7 +59,7 @@ carried P t u rs ss e f h = rw (e, f) h
 
 -- ---- an image that a market wrote and that is taken gives back its table
 woken : (q : Instrument) (t image u : List ℕ) → saved_answer q t image ≡ Saved → restored_answer q u (image_after q t image) ≡ Restored
-    → tableRead q u (image_after q t image) ≡ t
+    → table_read q u (image_after q t image) ≡ t
 woken q t image u s r =
     let k : Kept q t image = kept q t image s in
     (accepted q u (image_after q t image) r).leaves ∙ ap table_in k.leaves ∙ table_back t (long_table t image k.lengths)
@@ -171,5 +171,5 @@ module _ (q : Instrument) (before venue port code : List ℕ) (first : ℕ) (mpi
 
       -- and read back from there into any bytes of a table's length
       pub is_restored : (u : List ℕ) → length u ≡ table_bytes
-          → (restored_answer q u (image_after q t image) ≡ Restored) × (tableRead q u (image_after q t image) ≡ t)
+          → (restored_answer q u (image_after q t image) ≡ Restored) × (table_read q u (image_after q t image) ≡ t)
       is_restored u e = saved_restored q t image u lent e is_saved

@@ -15,7 +15,7 @@ use Rattle.matching.specs.declared.Event.{Event}
 use Rattle.matching.specs.declared.Event.TheVariants.{Accepted, Replaced, Withdrawn, Canceled, Decremented, Traded, Killed, Expired}
 use Rattle.matching.specs.Matching.{Book, at, buys, is_buy, who, change, after, play}
 use Rattle.matching.specs.Held.{In, Ready, Readies}
-use Rattle.matching.specs.Accounts.{trades, bought as boughtBy, sold as soldBy}
+use Rattle.matching.specs.Accounts.{trades, bought as bought_by, sold as sold_by}
 use Rattle.matching.specs.Happens.{moves}
 use Rattle.matching.proofs.Events.{Terms, terms_of, change_terms, after_here, after_there}
 use Rattle.table.specs.Places.{table_bytes}
@@ -177,14 +177,14 @@ module _ (read : List ℕ → Reading) (c : Book) (ids : ℕ → ℕ) (apart : (
     pub accounts : (k : ℕ) → In c k
         → account_from (ids k) (account_in (at (book_of t) k)) (map read (event_reports t n es)) ≡ account_in (at (play (book_of t) es) k)
     pub others : (k : ℕ) → ((i : ℕ) → In c i → ids i ≢ k) → (a : Account) → account_from k a (map read (event_reports t n es)) ≡ a
-    pub bought : traded buys (map read (event_reports t n es)) ≡ boughtBy c es
-    pub sold : traded sells (map read (event_reports t n es)) ≡ soldBy c es
+    pub bought : traded buys (map read (event_reports t n es)) ≡ bought_by c es
+    pub sold : traded sells (map read (event_reports t n es)) ≡ sold_by c es
     pub taken : unread (map read (event_reports t n es)) ≡ 0
 
   -- one report before others
   pub all_follow : (es : List Event) (t : List ℕ) (n : ℕ) → length t ≡ table_bytes → AllMove es → Readies (book_of t) es → Exacts (book_of t) es → TellsAll read t n es
       → ((k : ℕ) → (at (book_of t) k).side ≡ (at c k).side) → length (book_of t) ≡ length c → ((i : ℕ) → order_id_at t i ≡ ids i) → Follows t n es
-  unfolding event_reports account_from traded unread boughtBy soldBy play
+  unfolding event_reports account_from traded unread bought_by sold_by play
   all_follow [] t n long m r x tells s z w =
       record { accounts = λ k h. refl; others = λ k g a. refl; bought = refl; sold = refl; taken = refl }
   all_follow (e ∷ es) t n long m r x tells s z w =

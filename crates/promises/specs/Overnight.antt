@@ -7,7 +7,7 @@ use Rattle.decimal.specs.declared.Instrument.{Instrument}
 use Rattle.table.specs.Opened.{is_opening, opened}
 use Rattle.image.specs.declared.SaveAnswer.TheVariants.{Saved}
 use Rattle.image.specs.declared.RestoreAnswer.TheVariants.{Restored}
-use Rattle.image.specs.Answers.{saved_answer, image_after, restored_answer, table_after as tableRead}
+use Rattle.image.specs.Answers.{saved_answer, image_after, restored_answer, table_after as table_read}
 use Rattle.promises.specs.History.{Call, table_of, reports_of, table_after, reports_after}
 
 -- a market opened with these settings: a table that it may come to have, and all reports of its history in turn
@@ -21,7 +21,7 @@ pub data Lived (q : Instrument) (before venue port code : List ℕ) (first : ℕ
   -- the image that it wrote, which nobody changed, read into the table u of any market or of none
   wakes : (t : List ℕ) (reports : List (List ℕ)) (image u : List ℕ) → Lived q before venue port code first mpids modes t reports
       → saved_answer q t image ≡ Saved → restored_answer q u (image_after q t image) ≡ Restored
-      → Lived q before venue port code first mpids modes (tableRead q u (image_after q t image)) reports
+      → Lived q before venue port code first mpids modes (table_read q u (image_after q t image)) reports
 
 -- a table and reports that an accepted Open and calls in turn come to, with nothing read back
 pub record Called (q : Instrument) (before venue port code : List ℕ) (first : ℕ) (mpids modes t : List ℕ) (reports : List (List ℕ)) : Type 0 where

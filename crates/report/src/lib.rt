@@ -10,7 +10,7 @@ use decimal::Instrument;
 // The value of a field. A word has three or four characters: the fourth is 0 where there are three. A text is a part of one of two
 // slices that are lent with a row: the message that was sent (or the report that was read), or the table where texts are stored. A
 // level and a mean say what is traded, since that decides how they are written.
-#[derive(Drop)]
+#[derive(Clone, Copy)]
 pub enum Value {
     Absent,
     Number(u64),
@@ -23,7 +23,7 @@ pub enum Value {
 }
 
 // A field: its tag and its value. One whose value is absent is not written.
-#[derive(Drop)]
+#[derive(Clone, Copy)]
 pub struct Field {
     pub tag: u64,
     pub value: Value,
@@ -31,7 +31,7 @@ pub struct Field {
 
 // Where a text stands: in the message that caused the report, or else in the table where it is stored; its first byte and how
 // many there are.
-#[derive(Drop)]
+#[derive(Clone, Copy)]
 pub struct Place {
     pub sent: bool,
     pub start: usize,
@@ -40,7 +40,7 @@ pub struct Place {
 
 // What the value of a field may be: one of five characters; a number in a range; one of eight numbers; a word; an OrderID, or
 // NONE; a text of at most so many characters from one on to 7E hex; 1 to 9 digits; a time; a yield or a price; AvgPx.
-#[derive(Drop)]
+#[derive(Clone, Copy)]
 pub enum Shape {
     Nothing,
     OneOf {
@@ -86,7 +86,7 @@ pub enum Shape {
 }
 
 // A place for a field in a kind of report.
-#[derive(Drop)]
+#[derive(Clone, Copy)]
 pub struct Slot {
     pub tag: u64,
     pub optional: bool,
@@ -94,21 +94,21 @@ pub struct Slot {
 }
 
 // A value that was read, or none.
-#[derive(Drop)]
+#[derive(Clone, Copy)]
 pub enum Pick {
     Is(Value),
     No,
 }
 
 // A field that was read, and the place behind it.
-#[derive(Drop)]
+#[derive(Clone, Copy)]
 pub enum Got {
     Value { value: Value, next: usize },
     Wrong,
 }
 
 // The fields of a row that was read and the place behind them, or not ok.
-#[derive(Drop)]
+#[derive(Clone, Copy)]
 pub struct Row {
     pub ok: bool,
     pub next: usize,
@@ -116,7 +116,7 @@ pub struct Row {
 }
 
 // The kinds of reports, and what is none.
-#[derive(Drop)]
+#[derive(Clone, Copy)]
 pub enum Kind {
     Accepted,
     Replaced,
@@ -129,21 +129,21 @@ pub enum Kind {
 }
 
 // A report that was read: its kind and its fields, in the order of its kind's slots.
-#[derive(Drop)]
+#[derive(Clone, Copy)]
 pub struct Reading {
     pub kind: Kind,
     pub fields: [Field; 36],
 }
 
 // Where the body of a report stands.
-#[derive(Drop)]
+#[derive(Clone, Copy)]
 pub enum Frame {
     Body { from: usize, len: usize },
     Not,
 }
 
 // Where the value of a field stands in a report.
-#[derive(Drop)]
+#[derive(Clone, Copy)]
 pub enum Part {
     At { start: usize, len: usize },
     Nowhere,

@@ -6,7 +6,7 @@ pub mod values;
 use fix::frame::Part;
 
 // The types of message that the market takes, and any other.
-#[derive(Drop)]
+#[derive(Clone, Copy)]
 pub enum Kind {
     NewOrder,
     Replacement,
@@ -15,21 +15,21 @@ pub enum Kind {
 }
 
 // What a value says as a number (a text says the place where it stands), or the reason (373) for which it fails.
-#[derive(Drop)]
+#[derive(Clone, Copy)]
 pub enum Judged {
     Says(u64),
     Fails(u64),
 }
 
 // The first field of a body that fails, with its reason (373) and its tag (371), or that none does.
-#[derive(Drop)]
+#[derive(Clone, Copy)]
 pub enum Verdict {
     Passes,
     Fails { reason: u64, tag: u64 },
 }
 
 // A session Reject: 373, 371, and of the message 34 as a number (for 45), where its 35 (for 372) and its 52 stand.
-#[derive(Drop)]
+#[derive(Clone, Copy)]
 pub struct Refusal {
     pub reason: u64,
     pub tag: u64,
@@ -40,7 +40,7 @@ pub struct Refusal {
 
 // The numbers of a new order: 38, 44 as a level, 54 (1 buys, any other sells), 59 (0 Day, 3 IOC, 4 Fill or Kill), 47 (a
 // character), 8060, and 109, 110, 544 and 8214, each 0 where it has none.
-#[derive(Drop)]
+#[derive(Clone, Copy)]
 pub struct Terms {
     pub quantity: u64,
     pub level: u64,
@@ -55,7 +55,7 @@ pub struct Terms {
 }
 
 // A new order: where 52, 11, 1 (of length 0 where it has none) and 55 stand, and its numbers.
-#[derive(Drop)]
+#[derive(Clone, Copy)]
 pub struct NewOrder {
     pub time: Part,
     pub id: Part,
@@ -65,7 +65,7 @@ pub struct NewOrder {
 }
 
 // A replacement: where 52, 11, 41 and 55 stand; 38, 44 as a level, and 54.
-#[derive(Drop)]
+#[derive(Clone, Copy)]
 pub struct Replacement {
     pub time: Part,
     pub id: Part,
@@ -77,7 +77,7 @@ pub struct Replacement {
 }
 
 // A cancel: where 52, 11, 41 and 55 stand, and 54.
-#[derive(Drop)]
+#[derive(Clone, Copy)]
 pub struct Cancellation {
     pub time: Part,
     pub id: Part,
@@ -87,7 +87,7 @@ pub struct Cancellation {
 }
 
 // What a message asks.
-#[derive(Drop)]
+#[derive(Clone, Copy)]
 pub enum Asked {
     Garbled,
     Refused(Refusal),

@@ -13,7 +13,7 @@ use matching::Order;
 use report::{Field, Place, Value};
 
 // What every report starts with: what its market trades, its number, and the 52 of the causing message, venue and port.
-#[derive(Drop)]
+#[derive(Clone, Copy)]
 pub struct Stamp {
     pub of: Instrument,
     pub number: u64,
@@ -25,7 +25,7 @@ pub struct Stamp {
 // An order as it is reported, after the event: what 37 calls it, its numbers, its capacity (a character), its classification, its
 // CashMargin and its MarginTransactionType (numbers of one digit, 0 for none of the last two), the bond code or symbol, its ClOrdID
 // and its account, if it has one.
-#[derive(Drop)]
+#[derive(Clone, Copy)]
 pub struct Shown {
     pub orderid: u64,
     pub order: Order,
@@ -40,7 +40,7 @@ pub struct Shown {
 
 // What is worked out of an order for its reports: 109, 110, 6, 151, 54, 59, 8060, 39 of a Trade and of Replaced, the field that each
 // market has of its own (423 or 544), and the one behind 8060 (8214, or none).
-#[derive(Drop)]
+#[derive(Clone, Copy)]
 pub struct Figures {
     pub client: Value,
     pub least: Value,
@@ -56,7 +56,7 @@ pub struct Figures {
 }
 
 // Why an order was replaced or canceled: its 41 and 378, or none.
-#[derive(Drop)]
+#[derive(Clone, Copy)]
 pub struct Ground {
     pub orig: Value,
     pub reason: Value,
@@ -64,7 +64,7 @@ pub struct Ground {
 
 // One fill: its quantity and its level, the other's MPID (0 for none), the number of the first of the two reports, and 1 for
 // liquidity added or 2 for liquidity removed.
-#[derive(Drop)]
+#[derive(Clone, Copy)]
 pub struct Fill {
     pub quantity: u64,
     pub level: u64,
@@ -74,7 +74,7 @@ pub struct Fill {
 }
 
 // A new order that is rejected: its ClOrdID, quantity, side and code as sent, and 103.
-#[derive(Drop)]
+#[derive(Clone, Copy)]
 pub struct Refused {
     pub id: Place,
     pub quantity: u64,
@@ -85,7 +85,7 @@ pub struct Refused {
 
 // A cancel or replacement that is rejected: 11 and 41 as sent, what 37 calls the order that has 41 (0 for none), its 39, 102,
 // and 434 (1 for a cancel, 2 for a replacement).
-#[derive(Drop)]
+#[derive(Clone, Copy)]
 pub struct Unchanged {
     pub id: Place,
     pub orderid: u64,
@@ -96,7 +96,7 @@ pub struct Unchanged {
 }
 
 // A message with a fault: its 34, the tag at fault, where its 35 stands, and 373.
-#[derive(Drop)]
+#[derive(Clone, Copy)]
 pub struct Faulty {
     pub sequence: u64,
     pub tag: u64,
@@ -105,7 +105,7 @@ pub struct Faulty {
 }
 
 // What makes an execution report the kind it is: its 39 and 150, its 41 and 378, or none, and the fill of a trade.
-#[derive(Drop)]
+#[derive(Clone, Copy)]
 pub struct Told {
     pub trade: bool,
     pub status: u8,

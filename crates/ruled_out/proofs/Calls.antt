@@ -17,7 +17,7 @@ use Rattle.matching.specs.Depth.{stands, behind, nearer, next, level_at, on_leve
 use Rattle.matching.specs.Held.{may_minimum}
 use Rattle.table.specs.Changes.{played, misses_now, step_events, step_work, numbered, stepped, entered, renewed, taken}
 use Rattle.table.specs.Heading.{instrument_of, entries, entry_of, is_listed, mode_of, mpid_bytes, next_of, decided_of, put_next, end_work}
-use Rattle.table.specs.Market.{every, is_code_character, is_padded, has_length, has_names, is_entry, has_list, has_settings, has_next, has_stamp, has_work, has_kind, rest_zero, is_capacity, is_class, is_cash, is_marked, is_record, is_ranged, is_known, is_within, is_shut, is_priced, is_order, has_orders, is_fresh_id, has_ids, is_fresh, are_fresh, has_order_ids, has_places, is_done, no_ioc, is_clear, no_cross, has_numbers, is_book, has_decision, has_best, is_market, is_of, is_market_of, is_text as isStoredText}
+use Rattle.table.specs.Market.{every, is_code_character, is_padded, has_length, has_names, is_entry, has_list, has_settings, has_next, has_stamp, has_work, has_kind, rest_zero, is_capacity, is_class, is_cash, is_marked, is_record, is_ranged, is_known, is_within, is_shut, is_priced, is_order, has_orders, is_fresh_id, has_ids, is_fresh, are_fresh, has_order_ids, has_places, is_done, no_ioc, is_clear, no_cross, has_numbers, is_book, has_decision, has_best, is_market, is_of, is_market_of, is_text as is_stored_text}
 use Rattle.table.specs.Best.{best_on, orders_bytes, levels_bytes, totals_bytes, best_row, book_row, best_due, put_best}
 use Rattle.table.specs.Opened.{is_name, is_new, is_given, are_given, are_names, are_settings, named_table, fresh_table, is_opening, opened}
 use Rattle.table.specs.Orders.{order_id_at, marks_at, order_at, filled, orders_from, book_of, first_record, record_with, record_for, term_bytes, amount_bytes, end_bytes, tail_bytes, record_of, applied, withdrawn, replaced, accepted, field_bytes}
@@ -25,7 +25,7 @@ use Rattle.calls.specs.Checks.{holder, new_stands, change_stands, cancel_stands,
 use Rattle.calls.specs.Submit.{rejecting, faulted, new_rejected, change_rejected, new_taken, replacement_taken, cancel_taken, submitted, Submitted, submit_number, submit_length}
 use Rattle.calls.specs.Run.{event_report, event_reports, step_reports, worked, ran, Ran, run_number, run_bytes, run_reports, run_steps}
 use Rattle.calls.specs.Told.{joined}
-use Rattle.report.specs.Fields.{label, written, field_bytes as writtenField}
+use Rattle.report.specs.Fields.{label, written, field_bytes as written_field}
 use Rattle.report.specs.Frame.{version, front, trailer, report_bytes}
 use Rattle.rows.specs.Rows.{text, or_number, digit, or_digit, or_nobody, group, own_field, last_field, other_field, count_field, avg_px, replaced_status, trade_status, status_of, figures_of, header, accepted_fields, replaced_fields, canceled_fields, trade_fields, cancel_reject_row}
 use Rattle.ticket.specs.Tickets.{or_stored_at, stamp_on, shown_on, row_of, ticket_of, unchanged_on, unchanged_row}
@@ -41,7 +41,7 @@ use Rattle.clauses.proofs.Books.{fresh, book_r, book_least, book_kill, full, lef
 
 -- opens all definitions that a call on a table comes to
 pub computes : ℕ
-unfolding le_at bytes_of put part_at text_at text_bytes same_bytes all_zero all_up_to first_from decimal places plain fixed level_text mean_text share_of mean_of is_digit digit_of run_of number_after is_number num_of fraction_of size_of level_of is_time_length two_at time_shaped time_ranged is_time is_text starts_tag leading tag_of value_from value_len field_of fields_after fields_from step_of find_tag value_of has_tag repeats clean_fields last_tag_or headed_by ordered header_right part_of end_of ten_at length_true sum_of check_sum sum_true garbled_message body_part head_of frame_of body_of said_in length_in has_in refusal_of terms_in request_in completed agreed body_asked head_asked asked_of kind_of one_of belongs listed shape_of char_says look_as judge first_failing first_missing minimum_clashes margin_clashes first_clashing open_of is_side_of meets better faces same_owner sum_over count_of choose best partner prevention meeting ending outcome preventing causes place_after change happens work_after after play run minimum_of would_trade misses decided_after may_minimum opposed opposed_to stands behind nearer next level_at on_level share total orders depth played misses_now step_events step_work numbered stepped entered renewed taken instrument_of entries entry_of is_listed mode_of mpid_bytes every is_code_character is_padded has_length has_names is_entry has_list has_settings has_next has_stamp has_work has_kind rest_zero is_capacity is_class is_cash is_marked is_record is_ranged is_known is_within is_shut is_priced is_order has_orders is_fresh_id has_ids is_fresh are_fresh has_order_ids has_places is_done no_ioc is_clear no_cross has_numbers is_book has_decision has_best is_market is_of is_market_of best_on orders_bytes levels_bytes totals_bytes best_row book_row best_due isStoredText is_name is_new is_given are_given are_names are_settings named_table fresh_table is_opening opened marks_at order_at filled orders_from book_of first_record record_with record_for term_bytes amount_bytes end_bytes tail_bytes record_of applied withdrawn replaced accepted field_bytes holder new_stands change_stands cancel_stands replace_stands rejecting faulted new_rejected change_rejected new_taken replacement_taken cancel_taken submitted event_report event_reports step_reports worked ran joined label written writtenField version front trailer report_bytes text or_number digit or_digit or_nobody group own_field last_field other_field count_field avg_px replaced_status trade_status status_of figures_of header accepted_fields replaced_fields canceled_fields trade_fields cancel_reject_row or_stored_at stamp_on shown_on row_of ticket_of unchanged_on unchanged_row open_answer depth_answer
+unfolding le_at bytes_of put part_at text_at text_bytes same_bytes all_zero all_up_to first_from decimal places plain fixed level_text mean_text share_of mean_of is_digit digit_of run_of number_after is_number num_of fraction_of size_of level_of is_time_length two_at time_shaped time_ranged is_time is_text starts_tag leading tag_of value_from value_len field_of fields_after fields_from step_of find_tag value_of has_tag repeats clean_fields last_tag_or headed_by ordered header_right part_of end_of ten_at length_true sum_of check_sum sum_true garbled_message body_part head_of frame_of body_of said_in length_in has_in refusal_of terms_in request_in completed agreed body_asked head_asked asked_of kind_of one_of belongs listed shape_of char_says look_as judge first_failing first_missing minimum_clashes margin_clashes first_clashing open_of is_side_of meets better faces same_owner sum_over count_of choose best partner prevention meeting ending outcome preventing causes place_after change happens work_after after play run minimum_of would_trade misses decided_after may_minimum opposed opposed_to stands behind nearer next level_at on_level share total orders depth played misses_now step_events step_work numbered stepped entered renewed taken instrument_of entries entry_of is_listed mode_of mpid_bytes every is_code_character is_padded has_length has_names is_entry has_list has_settings has_next has_stamp has_work has_kind rest_zero is_capacity is_class is_cash is_marked is_record is_ranged is_known is_within is_shut is_priced is_order has_orders is_fresh_id has_ids is_fresh are_fresh has_order_ids has_places is_done no_ioc is_clear no_cross has_numbers is_book has_decision has_best is_market is_of is_market_of best_on orders_bytes levels_bytes totals_bytes best_row book_row best_due is_stored_text is_name is_new is_given are_given are_names are_settings named_table fresh_table is_opening opened marks_at order_at filled orders_from book_of first_record record_with record_for term_bytes amount_bytes end_bytes tail_bytes record_of applied withdrawn replaced accepted field_bytes holder new_stands change_stands cancel_stands replace_stands rejecting faulted new_rejected change_rejected new_taken replacement_taken cancel_taken submitted event_report event_reports step_reports worked ran joined label written written_field version front trailer report_bytes text or_number digit or_digit or_nobody group own_field last_field other_field count_field avg_px replaced_status trade_status status_of figures_of header accepted_fields replaced_fields canceled_fields trade_fields cancel_reject_row or_stored_at stamp_on shown_on row_of ticket_of unchanged_on unchanged_row open_answer depth_answer
 computes = 0
 
 -- ---- Open

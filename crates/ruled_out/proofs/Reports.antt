@@ -19,7 +19,7 @@ use Rattle.matching.specs.Depth.{stands, behind, nearer, next, level_at, on_leve
 use Rattle.matching.specs.Held.{may_minimum}
 use Rattle.table.specs.Changes.{played, misses_now, step_events, step_work, numbered, stepped, entered, renewed, taken}
 use Rattle.table.specs.Heading.{instrument_of, entries, entry_of, is_listed, mode_of, mpid_bytes, put_next, end_work}
-use Rattle.table.specs.Market.{every, is_code_character, is_padded, has_length, has_names, is_entry, has_list, has_settings, has_next, has_stamp, has_work, has_kind, rest_zero, is_capacity, is_class, is_cash, is_marked, is_record, is_ranged, is_known, is_within, is_shut, is_priced, is_order, has_orders, is_fresh_id, has_ids, is_fresh, are_fresh, has_order_ids, has_places, is_done, no_ioc, is_clear, no_cross, has_numbers, is_book, has_decision, has_best, is_market, is_of, is_market_of, is_text as isStoredText}
+use Rattle.table.specs.Market.{every, is_code_character, is_padded, has_length, has_names, is_entry, has_list, has_settings, has_next, has_stamp, has_work, has_kind, rest_zero, is_capacity, is_class, is_cash, is_marked, is_record, is_ranged, is_known, is_within, is_shut, is_priced, is_order, has_orders, is_fresh_id, has_ids, is_fresh, are_fresh, has_order_ids, has_places, is_done, no_ioc, is_clear, no_cross, has_numbers, is_book, has_decision, has_best, is_market, is_of, is_market_of, is_text as is_stored_text}
 use Rattle.table.specs.Best.{best_on, orders_bytes, levels_bytes, totals_bytes, best_row, book_row, best_due, put_best}
 use Rattle.table.specs.Opened.{is_name, is_new, is_given, are_given, are_names, are_settings, named_table, fresh_table, is_opening, opened}
 use Rattle.table.specs.Orders.{marks_at, order_at, filled, orders_from, book_of, first_record, record_with, record_for, term_bytes, amount_bytes, end_bytes, tail_bytes, record_of, applied, withdrawn, replaced, accepted, field_bytes}
@@ -27,10 +27,10 @@ use Rattle.calls.specs.Checks.{holder, new_stands, change_stands, cancel_stands,
 use Rattle.calls.specs.Submit.{rejecting, faulted, new_rejected, change_rejected, new_taken, replacement_taken, cancel_taken, submitted, Submitted}
 use Rattle.calls.specs.Run.{event_report, event_reports, step_reports, worked, ran}
 use Rattle.calls.specs.Told.{joined}
-use Rattle.report.specs.Fields.{label, written, field_bytes as writtenField}
+use Rattle.report.specs.Fields.{label, written, field_bytes as written_field}
 use Rattle.report.specs.Frame.{version, front, trailer, report_bytes}
 use Rattle.report.specs.Parse.{value_at, field_at, hop, place_of}
-use Rattle.report.specs.Reports.{body_at, trailer_at, read_framed, execution_for, kind_for, first_of, one_reason, read_of, kind_of as kindOfReport, part_of as placeOfTag}
+use Rattle.report.specs.Reports.{body_at, trailer_at, read_framed, execution_for, kind_for, first_of, one_reason, read_of, kind_of as kind_of_report, part_of as place_of_tag}
 use Rattle.report.specs.Shapes.{one_in, word_in, order_id_in, text_in, time_in}
 use Rattle.report.specs.Slots.{accepted_slots, replaced_slots, canceled_slots, trade_slots, cancel_reject_slots}
 use Rattle.rows.specs.Rows.{text, or_number, digit, or_digit, or_nobody, group, own_field, last_field, other_field, count_field, avg_px, replaced_status, trade_status, status_of, figures_of, header, accepted_fields, replaced_fields, canceled_fields, trade_fields, cancel_reject_row}
@@ -43,7 +43,7 @@ use Rattle.clauses.proofs.Books.{fresh, book_r, mixed, book_least, book_kill, sh
 
 -- opens all definitions
 computes : ℕ
-unfolding le_at bytes_of put part_at text_at text_bytes same_bytes all_zero all_up_to first_from decimal places plain fixed level_text mean_text share_of mean_of bare bare_of exactly_of amount_of fixed_of level_in mean_in is_digit digit_of run_of number_after is_number num_of fraction_of size_of level_of is_time_length two_at time_shaped time_ranged is_time is_text starts_tag leading tag_of value_from value_len field_of fields_after fields_from step_of find_tag value_of has_tag repeats clean_fields last_tag_or headed_by ordered header_right part_of end_of ten_at length_true sum_of check_sum sum_true garbled_message body_part head_of frame_of body_of said_in length_in has_in refusal_of terms_in request_in completed agreed body_asked head_asked asked_of kind_of one_of belongs listed shape_of char_says look_as judge first_failing first_missing minimum_clashes margin_clashes first_clashing open_of is_side_of meets better faces same_owner sum_over count_of choose best partner prevention meeting ending outcome preventing causes change happens work_after after play run minimum_of would_trade misses decided_after may_minimum opposed opposed_to stands behind nearer next level_at on_level share total orders depth played misses_now step_events step_work numbered stepped entered renewed taken instrument_of entries entry_of is_listed mode_of mpid_bytes every is_code_character is_padded has_length has_names is_entry has_list has_settings has_next has_stamp has_work has_kind rest_zero is_capacity is_class is_cash is_marked is_record is_ranged is_known is_within is_shut is_priced is_order has_orders is_fresh_id has_ids is_fresh are_fresh has_order_ids has_places is_done no_ioc is_clear no_cross has_numbers is_book has_decision has_best is_market is_of is_market_of best_on orders_bytes levels_bytes totals_bytes best_row book_row best_due isStoredText is_name is_new is_given are_given are_names are_settings named_table fresh_table is_opening opened marks_at order_at filled orders_from book_of first_record record_with record_for term_bytes amount_bytes end_bytes tail_bytes record_of applied withdrawn replaced accepted field_bytes holder new_stands change_stands cancel_stands replace_stands rejecting faulted new_rejected change_rejected new_taken replacement_taken cancel_taken submitted event_report event_reports step_reports worked ran joined label written writtenField version front trailer report_bytes value_at field_at hop place_of body_at trailer_at read_framed execution_for kind_for first_of one_reason read_of kindOfReport placeOfTag one_in word_in order_id_in text_in time_in accepted_slots replaced_slots canceled_slots trade_slots cancel_reject_slots text or_number digit or_digit or_nobody group own_field last_field other_field count_field avg_px replaced_status trade_status status_of figures_of header accepted_fields replaced_fields canceled_fields trade_fields cancel_reject_row or_stored_at stamp_on shown_on row_of ticket_of unchanged_on unchanged_row says
+unfolding le_at bytes_of put part_at text_at text_bytes same_bytes all_zero all_up_to first_from decimal places plain fixed level_text mean_text share_of mean_of bare bare_of exactly_of amount_of fixed_of level_in mean_in is_digit digit_of run_of number_after is_number num_of fraction_of size_of level_of is_time_length two_at time_shaped time_ranged is_time is_text starts_tag leading tag_of value_from value_len field_of fields_after fields_from step_of find_tag value_of has_tag repeats clean_fields last_tag_or headed_by ordered header_right part_of end_of ten_at length_true sum_of check_sum sum_true garbled_message body_part head_of frame_of body_of said_in length_in has_in refusal_of terms_in request_in completed agreed body_asked head_asked asked_of kind_of one_of belongs listed shape_of char_says look_as judge first_failing first_missing minimum_clashes margin_clashes first_clashing open_of is_side_of meets better faces same_owner sum_over count_of choose best partner prevention meeting ending outcome preventing causes change happens work_after after play run minimum_of would_trade misses decided_after may_minimum opposed opposed_to stands behind nearer next level_at on_level share total orders depth played misses_now step_events step_work numbered stepped entered renewed taken instrument_of entries entry_of is_listed mode_of mpid_bytes every is_code_character is_padded has_length has_names is_entry has_list has_settings has_next has_stamp has_work has_kind rest_zero is_capacity is_class is_cash is_marked is_record is_ranged is_known is_within is_shut is_priced is_order has_orders is_fresh_id has_ids is_fresh are_fresh has_order_ids has_places is_done no_ioc is_clear no_cross has_numbers is_book has_decision has_best is_market is_of is_market_of best_on orders_bytes levels_bytes totals_bytes best_row book_row best_due is_stored_text is_name is_new is_given are_given are_names are_settings named_table fresh_table is_opening opened marks_at order_at filled orders_from book_of first_record record_with record_for term_bytes amount_bytes end_bytes tail_bytes record_of applied withdrawn replaced accepted field_bytes holder new_stands change_stands cancel_stands replace_stands rejecting faulted new_rejected change_rejected new_taken replacement_taken cancel_taken submitted event_report event_reports step_reports worked ran joined label written written_field version front trailer report_bytes value_at field_at hop place_of body_at trailer_at read_framed execution_for kind_for first_of one_reason read_of kind_of_report place_of_tag one_in word_in order_id_in text_in time_in accepted_slots replaced_slots canceled_slots trade_slots cancel_reject_slots text or_number digit or_digit or_nobody group own_field last_field other_field count_field avg_px replaced_status trade_status status_of figures_of header accepted_fields replaced_fields canceled_fields trade_fields cancel_reject_row or_stored_at stamp_on shown_on row_of ticket_of unchanged_on unchanged_row says
 computes = 0
 
 -- ---- Read
@@ -119,12 +119,12 @@ abbrev without : List ℕ
 without = message "8=FIX.4.2|9=194|35=8|34=1|49=V|50=DJGB|52=20260105-09:00:02|56=P|6=0.000000|11=BUY-1|14=0|17=1|20=0|37=7|38=1200|39=0|40=2|44=0.100|47=A|54=1|55=350|59=0|60=20260105-09:00:02|109=10|150=0|151=1200|423=9|8060=1|10=133|"
 
 -- 1 is not 11, nor 151, whose digits end with it
-shorter_tag : placeOfTag without 1 ≡ Nowhere
+shorter_tag : place_of_tag without 1 ≡ Nowhere
 unfolding computes
 shorter_tag = refl
 
 -- a tag that is not there has no place
-no_tag : placeOfTag without 999 ≡ Nowhere
+no_tag : place_of_tag without 999 ≡ Nowhere
 unfolding computes
 no_tag = refl
 

@@ -12,7 +12,7 @@ use Rattle.octets.proofs.Places.{length_bytes_of}
 use Rattle.octets.proofs.Parts.{length_text_bytes}
 use Rattle.matching.specs.declared.Order.{Order}
 use Rattle.matching.specs.declared.Event.{Event}
-use Rattle.matching.specs.Matching.{Book, at, put as putOrder, open_of, who, change, after, play, amounts, terms}
+use Rattle.matching.specs.Matching.{Book, at, put as put_order, open_of, who, change, after, play, amounts, terms}
 use Rattle.matching.specs.Held.{Sound, May, Ready, Readies}
 use Rattle.matching.specs.Accounts.{trades}
 use Rattle.matching.specs.Happens.{moves, Fits}
@@ -63,14 +63,14 @@ module _ (t : List ℕ) (k : ℕ) (o : Order) (long : length t ≡ table_bytes) 
   framed_terms = framed_put t k 48 (term_bytes o) low high (lit≤ tt) (omega (arith, length_terms o))
 
   pub book_amounts : Amounts o
-      → book_of (put_amounts t k o) ≡ putOrder (book_of t) k (amounts (order_at t k) o.executed o.decremented o.canceled o.sum)
+      → book_of (put_amounts t k o) ≡ put_order (book_of t) k (amounts (order_at t k) o.executed o.decremented o.canceled o.sum)
   book_amounts f =
       book_changed t (put_amounts t k o) k _ (framed_filled t (put_amounts t k o) long framed_amounts) low high
       (amounts_got t k o room f)
       (λ j l h n. order_elsewhere t k 64 (amount_bytes o) j n (omega (arith, length_amounts o)))
 
   pub book_terms : Terms o
-      → book_of (put_terms t k o) ≡ putOrder (book_of t) k (terms (order_at t k) o.level o.qty o.place)
+      → book_of (put_terms t k o) ≡ put_order (book_of t) k (terms (order_at t k) o.level o.qty o.place)
   book_terms f =
       book_changed t (put_terms t k o) k _ (framed_filled t (put_terms t k o) long framed_terms) low high
       (terms_got t k o room f)
@@ -126,8 +126,8 @@ module _ (t : List ℕ) (e : Event) (long : length t ≡ table_bytes) (m : moves
       let s : Sound o = rw order_there at r.sound in
       let y : May e o = rw order_there at r.may in
       book_amounts t (who e) (change e o) long r.inside.low who_high (change_amounts e o m s y)
-      ∙ ap (λ (p : Order). putOrder (book_of t) (who e) p) (change_only e o m)
-      ∙ ap (λ (p : Order). putOrder (book_of t) (who e) (change e p)) (sym order_there)
+      ∙ ap (λ (p : Order). put_order (book_of t) (who e) p) (change_only e o m)
+      ∙ ap (λ (p : Order). put_order (book_of t) (who e) (change e p)) (sym order_there)
 
 -- events one by one
 abbrev pub AllMove : List Event → Type 0

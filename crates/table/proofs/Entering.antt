@@ -16,7 +16,7 @@ use Rattle.octets.proofs.Places.{below_or, length_put}
 use Rattle.octets.proofs.Parts.{text_put_first}
 use Rattle.octets.proofs.Zeros.{zero_at, zero_from}
 use Rattle.matching.specs.declared.Order.{Order}
-use Rattle.matching.specs.Matching.{put as putOrder}
+use Rattle.matching.specs.Matching.{put as put_order}
 use Rattle.matching.specs.Held.{In, Takes}
 use Rattle.matching.proofs.Conserved.{takes_low, takes_high}
 use Rattle.matching.proofs.Requests.{takes_more, takes_in, takes_back, takes_most}
@@ -53,7 +53,7 @@ module _ (t : List ℕ) (k orderId : ℕ) (cl_ord_id account : List ℕ) (marks 
   after = accepted t k orderId cl_ord_id account marks o
 
   abbrev pub count : ℕ
-  count = length (putOrder (book_of t) k o)
+  count = length (put_order (book_of t) k o)
 
   low : 1 ≤ k
   low = takes_low (book_of t) k x
@@ -218,7 +218,7 @@ module _ (t : List ℕ) (k orderId : ℕ) (cl_ord_id account : List ℕ) (marks 
           (rw d (zero_later t (128 * (filled t + 1)) p (rest_zero_lem t f.rest) (omega arith)))
 
   -- the book, and who is listed
-  pub entered_book : Sized o → book_of after ≡ putOrder (book_of t) k o
+  pub entered_book : Sized o → book_of after ≡ put_order (book_of t) k o
   entered_book z =
       let e = entered_filled in
       book_put t after k o low (takes_high (book_of t) k x) e

@@ -14,7 +14,7 @@ use crate::record::{buys_at, four_at, level_at, open_at};
 use matching::ahead;
 
 // A level with its total open quantity and its number of orders; zeros for none.
-#[derive(Drop)]
+#[derive(Clone, Copy)]
 pub struct BestLevel {
     pub level: u64,
     pub total: u64,
@@ -22,14 +22,14 @@ pub struct BestLevel {
 }
 
 // A level of each side; 0 for none.
-#[derive(Drop)]
+#[derive(Clone, Copy)]
 struct Levels {
     buy: u64,
     sell: u64,
 }
 
 // What stands on a level of each side.
-#[derive(Drop)]
+#[derive(Clone, Copy)]
 struct Bests {
     buy: BestLevel,
     sell: BestLevel,

@@ -9,7 +9,7 @@ use crate::places;
 use crate::record::eight_at;
 
 // The first 32 bytes of a ClOrdID as a record holds it, its length, its characters and zeros behind them, as four numbers.
-#[derive(Drop)]
+#[derive(Clone, Copy)]
 pub struct Key {
     pub first: u64,
     pub second: u64,

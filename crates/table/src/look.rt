@@ -20,7 +20,7 @@ const LEVELS: u64 = 2000000000;
 const HALF: u64 = 9223372036854775808;
 
 // Turns from low on and before high.
-#[derive(Drop)]
+#[derive(Clone, Copy)]
 struct Window {
     low: u64,
     high: u64,

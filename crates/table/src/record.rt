@@ -11,7 +11,7 @@ use matching::Order;
 
 // The marks of an order, which only reports read: the capacity, a character, the classification, and CashMargin and MarginTransactionType, 0 for
 // none.
-#[derive(Drop)]
+#[derive(Clone, Copy)]
 pub struct Marks {
     pub capacity: u64,
     pub class: u64,

@@ -16,7 +16,7 @@ use rows::{Fill, Ground, Shown, Stamp, Told, telling};
 use table::places;
 
 // The message that causes a report: where its 52 stands, and its 41 (empty for none).
-#[derive(Drop)]
+#[derive(Clone, Copy)]
 pub struct Cause {
     pub time: Place,
     pub orig: Place,

@@ -36,7 +36,7 @@ pub fn soh(s: &mut [u8]) {
 }
 
 // What is tried of the lines behind a heading: the section, and the market of bonds or of equities.
-#[derive(Drop)]
+#[derive(Clone, Copy)]
 struct Trial {
     section: u64,
     of: Instrument,

@@ -35,7 +35,7 @@ fn order(side: u64, tif: u64, level: u64, qty: u64, place: u64, mpid: u64, minqt
 
 // How a market quotes the orders of its table: the side of the sell, and the levels of the resting sell, of the resting buy, and of the
 // buy that meets the sell.
-#[derive(Drop)]
+#[derive(Clone, Copy)]
 struct Quotes {
     side: u64,
     sell: u64,

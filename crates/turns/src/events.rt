@@ -12,7 +12,7 @@ use ticket::tell::tell;
 use ticket::{Cause, order_of};
 
 // What was written of some events: how many bytes, and how many reports.
-#[derive(Drop)]
+#[derive(Clone, Copy)]
 pub struct Told {
     pub bytes: usize,
     pub reports: u64,

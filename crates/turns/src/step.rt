@@ -22,7 +22,7 @@ use table::record::load;
 
 // What a step comes to: who is in work, the one he is matched with (0 for none), the outcome, whether the work ends with it, and the
 // decision to be noted if it does not.
-#[derive(Drop)]
+#[derive(Clone, Copy)]
 pub struct Plan {
     pub work: u64,
     pub other: u64,

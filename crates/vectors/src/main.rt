@@ -369,7 +369,7 @@ fn line(q: Instrument, table: &mut [u8], image: &mut [u8], s: &[u8]) -> Instrume
 }
 
 // What was read: a line of so many bytes, and whether the input goes on.
-#[derive(Drop)]
+#[derive(Clone, Copy)]
 struct Got {
     len: usize,
     more: bool,
@@ -405,7 +405,7 @@ fn read_line(buffer: &mut [u8]) -> Got {
 }
 
 // What the calls behind a line are of, and whether the input goes on.
-#[derive(Drop)]
+#[derive(Clone, Copy)]
 struct Onward {
     of: Instrument,
     more: bool,

@@ -1,0 +1,7 @@
+-- `write::put_byte` meets its contract.
+use Rattle.octets.proofs.Runs.{wrote_one}
+use borrow.Author.Rules.{rules}
+use Rattle.decimal.proofs.write.put_byte.Goals as goal
+
+pub returns : goal.returns
+returns c = wrote_one _ _ _
