@@ -1,0 +1,10 @@
+-- The sum in one byte. Invariant: the sum of the bytes before i.
+use Rattle.std.proofs.Common.{◌-◌, length, rules}
+use Rattle.fix.proofs.Sums.{Summing, sum_start, sum_more, sum_end}
+use Rattle.fix.proofs.frame.checksum.Given as goal
+
+abbrev pub invariant-loop-i : goal.invariant-loop-i
+invariant-loop-i l = Summing l.s l.sum l.i
+
+abbrev pub decreases-loop-i : goal.decreases-loop-i
+decreases-loop-i l = length l.s - l.i

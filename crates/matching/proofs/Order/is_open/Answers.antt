@@ -1,0 +1,6 @@
+-- What is open is above 0.
+use borrow.Author.Rules.{rules}
+use Rattle.matching.proofs.Order.is_open.Goals as goal
+
+pub returns : goal.returns
+returns c = simp c.open_of.ensures

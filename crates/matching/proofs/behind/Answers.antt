@@ -1,0 +1,8 @@
+-- Level 0, or a better level.
+use borrow.Author.Rules.{rules}
+use Rattle.matching.specs.Depth.{behind}
+use Rattle.matching.proofs.behind.Goals as goal
+
+pub returns : goal.returns
+unfolding behind
+returns c = cc

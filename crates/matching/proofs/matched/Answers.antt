@@ -1,0 +1,15 @@
+-- Of one owner the mode acts, else they trade.
+use borrow.Author.Rules.{rules}
+use mathlib.Core.Path.{sym, ◌∙◌}
+use Rattle.matching.specs.Matching.{meeting}
+use Rattle.matching.proofs.matched.Goals as goal
+
+pub returns-then-same_owner : goal.returns-then-same_owner
+unfolding meeting
+returns-then-same_owner c = let s = c in
+    simp (c.prevented.ensures, s.open_of-w.ensures, s.open_of-r.ensures, sym s.same_owner.ensures ∙ c.if-same_owner.true)
+
+pub returns : goal.returns
+unfolding meeting
+returns c = let s = c in
+    simp (c.smaller.ensures, s.open_of-w.ensures, s.open_of-r.ensures, sym s.same_owner.ensures ∙ c.if-same_owner.false)
