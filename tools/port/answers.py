@@ -89,14 +89,18 @@ class Function:
         if not rest:
             return head
         want = alike(rest[0])
+        if not self.has(self.goal_place, want) and rest[0].endswith("_lem"):
+            want = alike(rest[0][:-4])
         at = place if self.has(place, want) else self.goal_place
         while at is not None:
             old, new = self.step[at]
             if old and alike(old) == want:
-                if want.startswith("enumtold") and rest[1:3] == ["given", "1"]:
+                if rest[1:3] == ["given", "1"] and not self.given(place, old) or want.startswith("enumtold"):
                     arm = self.arm(at)
                     if arm:
                         return ".".join([head, arm, "is", *rest[3:]])
+                if len(rest) > 1 and re.fullmatch(r"keys\d*", rest[1]) and re.match(r"in[-_]", new):
+                    return ".".join([head, new, "is", *rest[2:]])
                 if len(rest) > 1 and rest[1] == "given":
                     var = self.given(place, old)
                     if var:

@@ -1,4 +1,6 @@
 // Whether the bytes of a table are a market.
+#![tactic(auto)]
+
 pub mod book;
 pub mod checks;
 pub mod marks;

@@ -1,5 +1,6 @@
 // What the calls on a table answer, each case once. specs/ gives for each case the paper's number and values, and what the
 // call leaves of the table and of the report area. No code: the crates above it do the work.
+#![tactic(auto)]
 
 // What Open answers: the table is opened, or its length or a setting is wrong.
 #[derive(Clone, Copy)]

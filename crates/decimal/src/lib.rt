@@ -1,4 +1,6 @@
 // Text against number: digits, yields and prices, averages, and times.
+#![tactic(auto)]
+
 pub mod canonical;
 pub mod read;
 pub mod write;

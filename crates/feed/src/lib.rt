@@ -1,6 +1,8 @@
 // Drop copies: a feed is handed one written report at a time with its own next number, and writes a copy of it for a back office or
 // does not; and copies are read back. Both ask nothing of their caller: a report, the identifiers, the area may be any bytes of any
 // length. Nothing is kept between calls.
+#![tactic(auto)]
+
 pub mod force;
 pub mod rows;
 pub mod settings;

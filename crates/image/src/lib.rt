@@ -1,5 +1,7 @@
 // A market kept overnight: its table written out as an image in blocks, each with a check, and read back. Both ask nothing of their
 // caller: table and image may be any bytes of any length. Nothing is kept between calls.
+#![tactic(auto)]
+
 pub mod block;
 pub mod places;
 pub mod weigh;

@@ -1,4 +1,6 @@
 // Submit: one message is taken or refused, and its first report is written, on a market of bonds or of equities.
+#![tactic(auto)]
+
 mod checks;
 mod handle;
 mod rejects;

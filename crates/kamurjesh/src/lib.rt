@@ -1,6 +1,8 @@
 // The market for programs in C (include/kamurjesh.h). Each call of bonds, and the call of equities beside it, is the one that both has for
 // either; both writes each value of an answer through a pointer, 0 where it has none. Load is in loads, and the calls that keep a market
 // overnight are in images. A slice passes as a pointer and a length.
+#![tactic(auto)]
+
 ghost use Rattle.std.specs.Prelude.{◌≡◌, length};
 ghost use Rattle.decimal.specs.declared.Instrument.TheVariants.{Bonds, Equities};
 ghost use Rattle.matching.specs.Depth.{total_of, orders_of};

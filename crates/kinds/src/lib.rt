@@ -1,5 +1,7 @@
 // Which kind of report bytes are, with no field kept: the fields of each kind are looked at one behind another, and only the place behind them is
 // handed on. For the call of C, which tells the kind alone; `report::read::read` gives the fields as well.
+#![tactic(auto)]
+
 pub mod standing;
 
 ghost use Rattle.std.specs.Prelude.{◌≡◌};

@@ -1,4 +1,6 @@
 // Load: the messages of a buffer, one behind another, each submitted and run to its end. The table is checked once for the whole call.
+#![tactic(auto)]
+
 pub mod find;
 pub mod go;
 pub mod take;

@@ -1,6 +1,8 @@
 // The six calls of a market: open, submit, run, depth, top, read, each for bonds or for equities. They ask nothing of their caller: a
 // table, a message, a report area may be any bytes of any length. Each contract says what is answered and what every lent byte is
 // afterwards, by the definitions of the crate calls.
+#![tactic(auto)]
+
 pub mod front;
 pub mod ladder;
 pub mod levels;

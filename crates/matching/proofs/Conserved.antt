@@ -138,7 +138,7 @@ accounts k (e ∷ es) b f s =
     let q = eqb-true k (who e) t in
     let z : at (after b e) k ≡ change e (at b (who e)) = rw q (after_here b e l h) in
     let g = accounts k es (after b e) f.1 (rw z (d.covered (rw q at s))) in
-    rw (t, q) (rw (z, d.qty, d.executed, d.decremented, d.canceled, q) at g))
+    rw (t, ap (λ (n : ℕ). at b n) q) (rw (z, d.qty, d.executed, d.decremented, d.canceled) at g))
     (λ t.
     let z : at (after b e) k ≡ at b k = after_there b e l h k (eqb-false k (who e) t) in
     let g = accounts k es (after b e) f.1 (rw z s) in

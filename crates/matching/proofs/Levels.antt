@@ -1,6 +1,6 @@
 -- The levels of a side: each is behind the one before it, together they hold every open order of the side once, and there are
 -- at most as many as orders. Levels in use are above 0, which is what "no level" is written as.
-use mathlib.Core.Path.{◌≡◌, refl, ◌∙◌}
+use mathlib.Core.Path.{◌≡◌, refl, sym, subst, ◌∙◌}
 use mathlib.Core.Bool.{Bool, true, false, cond, ◌&&◌, ◌||◌}
 use Prim.Native.Nat.{ℕ, zero, suc, ◌+◌, ◌*◌, ◌≤◌, ◌<◌}
 use native.Mathlib.Omega.{arith}
@@ -167,6 +167,10 @@ module _ (f : Order → ℕ) (b : Book) (s : ℕ) (high : (k : ℕ) → stands s
 one : Order → ℕ
 one o = 1
 
+some_more : (b : Book) (s y n : ℕ) → 0 < sum_over (here one s y) b n → 0 < sum_over (here one s y) b (suc n)
+unfolding sum_over
+some_more b s y n p = omega arith
+
 on_some : (b : Book) (s x n : ℕ) → 0 < next b s x n → 0 < sum_over (here one s (next b s x n)) b n
 unfolding next nearer sum_over here one on_level
 on_some b s x zero p = absurd (omega arith)
@@ -175,7 +179,9 @@ on_some b s x (suc n) p =
     let o = at b (suc n) in
     split (stands s o && behind s x o.level && (eqb c 0 || ahead (buys s) o.level c))
     (λ t. let a : stands s o ≡ true = both_l _ _ (both_l _ _ t) in rw (t, a, eq-eqb o.level o.level refl) (omega arith))
-    (λ t. rw t (omega (arith, on_some b s x n (rw t at p))))
+    (λ t.
+    let e : next b s x (suc n) ≡ next b s x n = rw t in
+    subst (λ (y : ℕ). 0 < sum_over (here one s y) b (suc n)) (sym e) (some_more b s (next b s x n) n (on_some b s x n (rw e at p))))
 
 module _ (b : Book) (s : ℕ) (high : (k : ℕ) → stands s (at b k) ≡ true → 0 < (at b k).level) where
   level_some : (n : ℕ) → 0 < level_at b s n → 0 < on one b s high (level_at b s n)

@@ -1,5 +1,7 @@
 // The matching of orders by value: which meet, which is better, what a meeting comes to, and an order after an event. The book itself is
 // the table's.
+#![tactic(auto)]
+
 ghost use Rattle.std.specs.Prelude.{◌≡◌, min};
 ghost use Rattle.matching.specs.Matching.{open_of, is_open, is_buy, is_immediate, minimum_of, opposite, same_owner, opposed, meets, better, faces, prevention, meeting, ending, place_after, change, prevented_reports, reports, buys, crosses, ahead};
 ghost use Rattle.matching.specs.Depth.{on_side, stands, behind, nearer};

@@ -1,5 +1,7 @@
 // The members of a market as a caller lends them to Open: a slice of MPIDs, each with its mode. Functions that touch the
 // slice of structs are few and thin: they read its length and its elements; everything else works on numbers.
+#![tactic(auto)]
+
 ghost use Rattle.std.specs.Prelude.{◌≡◌, ◌<◌, ◌≤◌, min, length, get_or, take};
 ghost use Rattle.members.specs.Members.{mpids_of, modes_of};
 ghost use Rattle.members.specs.Apart.{nobody, empty, added, listed_of};

@@ -1,4 +1,6 @@
 // Numbers and texts at places of a slice of bytes: reading, writing, comparing, clearing.
+#![tactic(auto)]
+
 pub mod number;
 pub mod part;
 pub mod text;

@@ -1,4 +1,6 @@
 // Reports: rows of fields, their bytes, and reading them back.
+#![tactic(auto)]
+
 pub mod parse;
 pub mod read;
 pub mod slots;

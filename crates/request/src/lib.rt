@@ -1,4 +1,6 @@
 // What a message asks of the market: garbled, a session reject, or a request.
+#![tactic(auto)]
+
 pub mod asks;
 pub mod body;
 pub mod values;

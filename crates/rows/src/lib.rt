@@ -1,4 +1,6 @@
 // The rows of the seven kinds of report, each a table of its fields.
+#![tactic(auto)]
+
 pub mod telling;
 pub mod write;
 

@@ -1,4 +1,6 @@
 // The report of what happens on a table.
+#![tactic(auto)]
+
 pub mod refusals;
 pub mod tell;
 

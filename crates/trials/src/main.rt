@@ -1,5 +1,7 @@
 // The program `trials`: hand-made trials of what the crates below the market do, in sections: messages, broken tables, samples of reports,
 // changed reports, opened markets. What each must write was worked out by hand or with the second program (tests/second).
+#![tactic(auto)]
+
 mod changed;
 mod lines;
 mod messages;

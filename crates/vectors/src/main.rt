@@ -1,4 +1,6 @@
 // Does the commands of tests/vectors (the form is told there) on a market of bonds or of equities and writes the answer to each, line by line.
+#![tactic(auto)]
+
 mod images;
 mod loads;
 mod say;

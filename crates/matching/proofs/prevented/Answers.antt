@@ -10,7 +10,7 @@ returns-in-1 c = search (rules, eq-eqb)
 
 pub returns-in-2 : goal.returns-in-2
 unfolding prevention
-returns-in-2 c = rw c.in-2.keys2
+returns-in-2 c = rw c.in-2.is
 
 pub returns-in_default : goal.returns-in_default
 unfolding prevention
