@@ -25,7 +25,7 @@ def items(text):
     """The file's items: [comment and blank lines, text]. An item begins at a line with no blank at its head."""
     out, comment, now = [], [], None
     for line in text.split("\n"):
-        if now is not None and (line.startswith((" ", "\t")) or line == ""):
+        if now is not None and (line.startswith((" ", "\t", ")")) or line == ""):
             now.append(line)
             continue
         if now is not None:
@@ -44,7 +44,8 @@ def joined(parts):
     """Signature, unfolding lines and equations of one name in one group."""
     groups = []
     for comment, text in parts:
-        name = re.match(r"(?:(?:pub|abbrev|unfoldable|data|record) )*(" + WORD + ")", text)[1]
+        named = re.match(r"(?:(?:pub|abbrev|unfoldable|data|record|syntax) )*(" + WORD + ")", text)
+        name = named[1] if named else text
         follows = groups and not comment and (name == groups[-1]["name"] or text.startswith("unfolding") or groups[-1]["open"])
         if text.startswith("use "):
             groups.append({"name": "use", "comment": comment, "text": [text], "open": False})

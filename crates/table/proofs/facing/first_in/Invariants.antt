@@ -1,0 +1,12 @@
+-- `table::facing::first_in` meets its contract: c is the first of the records passed.
+use Prim.Native.Nat.{◌+◌, ◌-◌, ◌≤◌}
+use Rattle.table.specs.Faced.{Lowest}
+use Rattle.table.proofs.Faced.{lowest_one, lowest_more, lowest_below, lowest_end}
+use borrow.Author.Rules.{rules}
+use Rattle.table.proofs.facing.first_in.Given as goal
+
+abbrev pub invariant-loop-i : goal.invariant-loop-i
+invariant-loop-i l = (l.i ≤ 16) × Lowest l.turns l.a (l.a + l.i) l.c
+
+abbrev pub decreases-loop-i : goal.decreases-loop-i
+decreases-loop-i l = 16 - l.i

@@ -1,0 +1,24 @@
+-- `table::facing::meets_none` meets its contract: there is no best order among the records passed.
+use mathlib.Core.Path.{◌≡◌, refl}
+use Prim.Native.Nat.{◌-◌, ◌≤◌}
+use Rattle.octets.proofs.Bools.{not_both}
+use Rattle.matching.specs.Matching.{best}
+use Rattle.table.specs.Orders.{book_of}
+use Rattle.table.proofs.Faced.{best_zero, due_timely, best_skip, best_end}
+use borrow.Author.Rules.{rules}
+use Rattle.table.proofs.facing.meets_none.Goals as goal
+
+pub loop-i-init : goal.loop-i-init
+loop-i-init c = (search rules, best_zero _ _)
+
+pub due-requires : goal.due-requires
+due-requires c = (search (rules, due_timely), search rules)
+
+pub returns-then-due-lt-END : goal.returns-then-due-lt-END
+returns-then-due-lt-END c = λ z. absurd (not_both z refl)
+
+pub loop-i-preserved : goal.loop-i-preserved
+loop-i-preserved c = (search rules, search (rules, best_skip))
+
+pub returns : goal.returns
+returns c = search (rules, best_end)

@@ -1,0 +1,15 @@
+-- `table::look::first_from` meets its contract: r is the first of the turns passed that is not before x.
+use Prim.Native.Nat.{◌-◌, ◌≤◌}
+use Rattle.table.specs.Looks.{Clear}
+use Rattle.table.proofs.Notes.{clear_none, first_more, clear_end}
+use borrow.Author.Rules.{rules}
+use Rattle.table.proofs.look.first_from.Goals as goal
+
+pub loop-i-init : goal.loop-i-init
+loop-i-init c = (search rules, search (rules, clear_none))
+
+pub loop-i-preserved : goal.loop-i-preserved
+loop-i-preserved c = (search rules, search (rules, first_more))
+
+pub returns : goal.returns
+returns c = search (rules, clear_end)

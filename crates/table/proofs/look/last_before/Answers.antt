@@ -1,0 +1,15 @@
+-- `table::look::last_before` meets its contract: r is behind the last of the turns passed that is before x.
+use Prim.Native.Nat.{◌-◌, ◌≤◌}
+use Rattle.table.specs.Looks.{Clear}
+use Rattle.table.proofs.Notes.{clear_none, last_more, clear_end}
+use borrow.Author.Rules.{rules}
+use Rattle.table.proofs.look.last_before.Goals as goal
+
+pub loop-i-init : goal.loop-i-init
+loop-i-init c = (search rules, search (rules, clear_none))
+
+pub loop-i-preserved : goal.loop-i-preserved
+loop-i-preserved c = (search rules, search (rules, last_more))
+
+pub returns : goal.returns
+returns c = search (rules, clear_end)

@@ -1,0 +1,10 @@
+-- `table::look::nearer_own` meets its contract.
+use Rattle.table.proofs.Notes.{where_before, where_not}
+use borrow.Author.Rules.{rules}
+use Rattle.table.proofs.look.nearer_own.Goals as goal
+
+pub returns-then-trades-offers : goal.returns-then-trades-offers
+returns-then-trades-offers c = search (rules, where_before)
+
+pub returns : goal.returns
+returns c = search (rules, where_not)

@@ -1,0 +1,12 @@
+-- `table::look::reach` meets its contract: what q reaches to lies in the window.
+use Prim.Native.Nat.{◌-◌}
+use Rattle.table.specs.Looks.{Between}
+use Rattle.table.proofs.Notes.{between_below, between_clear, clear_shrunk, one_turn}
+use borrow.Author.Rules.{rules}
+use Rattle.table.proofs.look.reach.Given as goal
+
+abbrev pub invariant-loop-w : goal.invariant-loop-w
+invariant-loop-w l = Between l.turns l.amounts l.n l.q l.w.low l.w.high
+
+abbrev pub decreases-loop-w : goal.decreases-loop-w
+decreases-loop-w l = l.w.high - l.w.low

@@ -1,0 +1,17 @@
+-- `table::opening::are_given` meets its contract: the lists are of one length, and every entry looked at is good.
+use mathlib.Core.Path.{◌≡◌, refl, sym, ◌∙◌}
+use mathlib.Core.Bool.{true}
+use Prim.Native.Nat.{◌-◌}
+use native.Mathlib.Omega.{arith}
+use lib.ListN.{length}
+use borrow.Author.Tests.{not-true, not-false}
+use Rattle.octets.proofs.Ranges.{Passed, passed_none, passed_more, passed_stop, passed_end}
+use Rattle.table.specs.Opened.{is_given}
+use Rattle.table.proofs.Settings.{counts, counts_same, given_not, given_stop, given_all}
+use Rattle.table.proofs.opening.are_given.Given as goal
+
+abbrev pub invariant-loop-k : goal.invariant-loop-k
+invariant-loop-k l = (l.n ≡ length l.mpids) × (counts l.mpids l.modes ≡ true) × Passed (is_given l.mpids l.modes) (length l.mpids) l.k
+
+abbrev pub decreases-loop-k : goal.decreases-loop-k
+decreases-loop-k l = l.n - l.k
