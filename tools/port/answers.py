@@ -126,6 +126,8 @@ class Function:
             for new, step, at in self.arms.get(place, [None, 0, []])[2]:
                 if alike(step) == want and at and fields[: len(at)] == at and (best is None or len(at) > len(best[1])):
                     best = (new, at)
+                if alike(step) == want and not at and fields[:1] == ["rest"] and best is None:
+                    best = (new, at)
             if best:
                 return [self.arms[place][0], best[0], *fields[len(best[1]) :]]
             place = self.parent.get(place)

@@ -1,6 +1,5 @@
 -- The numbers of a new order, by the row.
 use Rattle.request.specs.Gathers.{terms_row}
-use borrow.Author.Rules.{rules}
 use Rattle.request.proofs.asks.terms_at.Goals as goal
 
 pub returns : goal.returns

@@ -1,5 +1,4 @@
 -- Where a text stands, by the rows.
-use borrow.Author.Rules.{rules}
 use Rattle.request.proofs.asks.text_at.Goals as goal
 
 pub returns : goal.returns

@@ -1,8 +1,7 @@
 -- The first tag with nothing in the row. Invariant: it is the first from i on.
 use Prim.Native.Nat.{◌-◌}
 use lib.ListN.{length}
-use Rattle.request.proofs.Answers.{Unset, unset_here, unset_more, unset_none}
-use borrow.Author.Rules.{rules}
+use Rattle.request.proofs.Answers.{Unset}
 use Rattle.request.proofs.body.first_unset.Given as goal
 
 abbrev pub invariant-loop-i : goal.invariant-loop-i

@@ -1,7 +1,6 @@
 -- The fields from the left. Invariant: the verdict on all is that on those left in the row, and the rows hold what the fields
 -- before them say.
-use Prim.Native.Nat.{◌-◌}
-use Rattle.request.proofs.Gathering.{Seated, gather_start, seat_room, seat_behind, seat_within, seat_less, place_near, gather_fails, gather_more, gather_end}
+use Rattle.request.proofs.Gathering.{gather_start, seat_room, seat_behind, seat_within, seat_less, place_near, gather_fails, gather_more, gather_end}
 use borrow.Author.Rules.{rules}
 use Rattle.request.proofs.body.gather.Goals as goal
 

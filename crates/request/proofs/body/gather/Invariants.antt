@@ -1,8 +1,7 @@
 -- The fields from the left. Invariant: the verdict on all is that on those left in the row, and the rows hold what the fields
 -- before them say.
 use Prim.Native.Nat.{◌-◌}
-use Rattle.request.proofs.Gathering.{Seated, gather_start, seat_room, seat_behind, seat_within, seat_less, place_near, gather_fails, gather_more, gather_end}
-use borrow.Author.Rules.{rules}
+use Rattle.request.proofs.Gathering.{Seated}
 use Rattle.request.proofs.body.gather.Given as goal
 
 abbrev pub invariant-loop-tag : goal.invariant-loop-tag

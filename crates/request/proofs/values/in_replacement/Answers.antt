@@ -27,6 +27,6 @@ pub returns-in_default : goal.returns-in_default
 unfolding covered one_of
 returns-in_default c =
     let t = c.args.tag in
-    let f = c.in_default.rest.0.1 in
-    let g = c.in_default.rest.1 in
+    let f = c.in_default.in_default-own.rest.0.1 in
+    let g = c.in_default.in_default-own.rest.1 in
     record { told = λ q. none_belongs q Replacement t (none_of keys more [] t f g (λ z. z) (needed q Replacement) refl) (none_of keys more [] t f g (λ z. z) (optional q Replacement) refl) }

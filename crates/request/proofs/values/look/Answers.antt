@@ -1,8 +1,6 @@
 -- What a value of each tag says, by the shape that the table gives the tag.
-use mathlib.Core.List.{[], ◌∷◌}
 use Rattle.request.specs.Session.{shape_of, look_as, one_of}
 use borrow.Author.Tests.{ne_eqb}
-use borrow.Author.Rules.{rules}
 use Rattle.request.proofs.values.look.Goals as goal
 
 pub returns-in-1 : goal.returns-in-1
@@ -78,21 +76,21 @@ unfolding shape_of look_as one_of
 returns-in_default c =
     let t = c.args.tag in
     rw (
-      ne_eqb t 1 c.in_default.rest.0.0.0.0.0.0.0.0.0.0.0.0.0.0.0.0.1,
-      ne_eqb t 11 c.in_default.rest.0.0.0.0.0.0.0.0.0.0.0.0.0.0.0.1,
-      ne_eqb t 41 c.in_default.rest.0.0.0.0.0.0.0.0.0.0.0.0.0.0.1,
-      ne_eqb t 55 c.in_default.rest.0.0.0.0.0.0.0.0.0.0.0.0.0.1,
-      ne_eqb t 38 c.in_default.rest.0.0.0.0.0.0.0.0.0.0.0.0.1,
-      ne_eqb t 110 c.in_default.rest.0.0.0.0.0.0.0.0.0.0.0.1,
-      ne_eqb t 109 c.in_default.rest.0.0.0.0.0.0.0.0.0.0.1,
-      ne_eqb t 44 c.in_default.rest.0.0.0.0.0.0.0.0.0.1,
-      ne_eqb t 60 c.in_default.rest.0.0.0.0.0.0.0.0.1,
-      ne_eqb t 21 c.in_default.rest.0.0.0.0.0.0.0.1,
-      ne_eqb t 40 c.in_default.rest.0.0.0.0.0.0.1,
-      ne_eqb t 47 c.in_default.rest.0.0.0.0.0.1,
-      ne_eqb t 54 c.in_default.rest.0.0.0.0.1,
-      ne_eqb t 59 c.in_default.rest.0.0.0.1,
-      ne_eqb t 8060 c.in_default.rest.0.0.1,
-      ne_eqb t 544 c.in_default.rest.0.1,
-      ne_eqb t 8214 c.in_default.rest.1,
+      ne_eqb t 1 c.in_default.in_default-own.rest.0.0.0.0.0.0.0.0.0.0.0.0.0.0.0.0.1,
+      ne_eqb t 11 c.in_default.in_default-own.rest.0.0.0.0.0.0.0.0.0.0.0.0.0.0.0.1,
+      ne_eqb t 41 c.in_default.in_default-own.rest.0.0.0.0.0.0.0.0.0.0.0.0.0.0.1,
+      ne_eqb t 55 c.in_default.in_default-own.rest.0.0.0.0.0.0.0.0.0.0.0.0.0.1,
+      ne_eqb t 38 c.in_default.in_default-own.rest.0.0.0.0.0.0.0.0.0.0.0.0.1,
+      ne_eqb t 110 c.in_default.in_default-own.rest.0.0.0.0.0.0.0.0.0.0.0.1,
+      ne_eqb t 109 c.in_default.in_default-own.rest.0.0.0.0.0.0.0.0.0.0.1,
+      ne_eqb t 44 c.in_default.in_default-own.rest.0.0.0.0.0.0.0.0.0.1,
+      ne_eqb t 60 c.in_default.in_default-own.rest.0.0.0.0.0.0.0.0.1,
+      ne_eqb t 21 c.in_default.in_default-own.rest.0.0.0.0.0.0.0.1,
+      ne_eqb t 40 c.in_default.in_default-own.rest.0.0.0.0.0.0.1,
+      ne_eqb t 47 c.in_default.in_default-own.rest.0.0.0.0.0.1,
+      ne_eqb t 54 c.in_default.in_default-own.rest.0.0.0.0.1,
+      ne_eqb t 59 c.in_default.in_default-own.rest.0.0.0.1,
+      ne_eqb t 8060 c.in_default.in_default-own.rest.0.0.1,
+      ne_eqb t 544 c.in_default.in_default-own.rest.0.1,
+      ne_eqb t 8214 c.in_default.in_default-own.rest.1,
     )

@@ -1,7 +1,5 @@
 -- Whether a character is one of some. Invariant: it is, exactly if it is one from i on.
-use Prim.Native.Nat.{◌-◌}
-use lib.ListN.{length}
-use Rattle.request.proofs.Judging.{Sought, sought_here, sought_more, sought_none}
+use Rattle.request.proofs.Judging.{sought_here, sought_more, sought_none}
 use borrow.Author.Rules.{rules}
 use Rattle.request.proofs.values.one_of.Goals as goal
 

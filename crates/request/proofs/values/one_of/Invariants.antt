@@ -1,8 +1,7 @@
 -- Whether a character is one of some. Invariant: it is, exactly if it is one from i on.
 use Prim.Native.Nat.{◌-◌}
 use lib.ListN.{length}
-use Rattle.request.proofs.Judging.{Sought, sought_here, sought_more, sought_none}
-use borrow.Author.Rules.{rules}
+use Rattle.request.proofs.Judging.{Sought}
 use Rattle.request.proofs.values.one_of.Given as goal
 
 abbrev pub invariant-loop-i : goal.invariant-loop-i
