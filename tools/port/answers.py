@@ -18,7 +18,7 @@ PATH = re.compile(r"(?<![^\s(){};,@\[\]])(" + WORD + r")((?:\." + WORD + r")+)")
 
 
 def alike(name):
-    return re.sub(r"[-_]", "", name)
+    return re.sub(r"[-_]", "", name).lower()
 
 
 def items(text):
@@ -179,7 +179,7 @@ def body_turned(fn, place, text, heads, labels, said):
                 at = fn.parent.get(at) or at
             heads = {**heads, m[1]: at}
     text = PATH.sub(one, text)
-    text = re.sub(r"\bnot-(true|false) _ ", "", text)
+    text = re.sub(r"\bnot-(true|false) (_|[\w.-]+) (?=[(\w])", "", text)
     for old, new in labels.items():
         text = re.sub(r"(?<![^\s(){};,])" + re.escape(old) + r"(?= c\b)", "\1" + new, text)
     return text.replace("\1", "")

@@ -1,0 +1,12 @@
+-- `rows::replaced_row` meets its contract: the row is the table.
+use borrow.Author.Rules.{rules}
+use mathlib.Core.Path.{ap}
+use Rattle.rows.specs.declared.Figures.{Figures}
+use Rattle.rows.specs.Rows.{padded, header, replaced_fields}
+use Rattle.rows.proofs.replaced_row.Goals as goal
+
+pub returns : goal.returns
+unfolding replaced_fields header
+returns c =
+    let a = c.args in
+    rw c.group_of-group.ensures (ap (λ (g : Figures). padded (replaced_fields a.s a.o g a.w)) c.figures_of-g.ensures)

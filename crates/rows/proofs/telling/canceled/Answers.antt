@@ -1,0 +1,6 @@
+-- `telling::canceled` meets its contract: field by field.
+use borrow.Author.Rules.{rules}
+use Rattle.rows.proofs.telling.canceled.Goals as goal
+
+pub returns : goal.returns
+returns c = rw c.no_fill-fill.ensures
