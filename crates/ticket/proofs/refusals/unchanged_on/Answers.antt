@@ -13,8 +13,7 @@ use Rattle.ticket.specs.Tickets.{unchanged_on}
 use Rattle.ticket.specs.Legible.{Holder}
 use borrow.Author.Tests.{eq-eqb, ne_eqb}
 use borrow.Author.Rules.{rules}
-use Rattle.ticket.proofs.refusals.unchanged_on.Statement.{statement}
-use Rattle.ticket.proofs.refusals.unchanged_on.Tie as tie
+use Rattle.ticket.proofs.refusals.unchanged_on.Goals as goal
 
 -- what is executed, decremented and canceled of the order that has the 41 is covered
 held_covered : (t : List ℕ) (i : ℕ) (o : Order) → Holder t i → o ≡ order_at t i → (i ≡ 0 → ⊥) → Covered o
@@ -33,23 +32,14 @@ somebody : (t : List ℕ) (i : ℕ) (id orig : Place) (reason response : ℕ) (o
 unfolding unchanged_on
 somebody t i id orig reason response orderid o status n d e s = rw (ne_eqb i 0 n, d, s, e)
 
-returns : tie.Need-returns
-returns c = let a = c.before.before.args in nobody a.t.now a.i a.id a.orig a.reason a.response c.if1.true
+pub returns-then-i-eq0 : goal.returns-then-i-eq0
+returns-then-i-eq0 c = let a = c.args in nobody a.t.now a.i a.id a.orig a.reason a.response c.if-i-eq0.true
 
-order-id-requires : tie.Need-order-id-requires
-order-id-requires c κs = search rules
+pub status_of-status-requires : goal.status_of-status-requires
+status_of-status-requires c = search (rules, held_covered)
 
-load-requires : tie.Need-load-requires
-load-requires c κs = search rules
-
-status-of-requires : tie.Need-status-of-requires
-status-of-requires c κs = search (rules, held_covered)
-
-returns-2 : tie.Need-returns-2
-returns-2 c =
-    let a = c.before.before.before.before.before.args in
-    somebody a.t.now a.i a.id a.orig a.reason a.response c.before.before.order_id.result c.before.load.result c.status-of.result
-    c.before.before.before.if1.false c.before.before.order_id.ensures.0 c.before.load.ensures c.status-of.ensures
-
-pub unchanged_on_spec : {M : Type 1} → statement M
-unchanged_on_spec = tie.close (tie.spec returns order-id-requires load-requires status-of-requires returns-2)
+pub returns : goal.returns
+returns c =
+    let a = c.args in
+    somebody a.t.now a.i a.id a.orig a.reason a.response c.order_id-orderid.result c.load-o.result c.status_of-status.result
+    c.if-i-eq0.false c.order_id-orderid.ensures.0 c.load-o.ensures c.status_of-status.ensures

@@ -1,0 +1,7 @@
+-- `ticket::requested` meets its contract.
+use Rattle.report.specs.declared.Value.TheVariants.{Absent}
+use borrow.Author.Rules.{rules}
+use Rattle.ticket.proofs.requested.Goals as goal
+
+pub returns : goal.returns
+returns c = λ j. record { orig = c.text-value.ensures j; reason = Absent }
