@@ -1,17 +1,17 @@
 -- What a feed answers and leaves: what each answer rests on, and what writing the copy asks for.
-use Prim.Native.Nat.{ℕ, ◌+◌, ◌^◌, ◌≤◌, ◌<◌}
-use mathlib.Core.Path.{◌≡◌, refl, sym, ap, ◌∙◌, subst}
-use mathlib.Core.Bool.{Bool, true, false, cond, not, ◌||◌}
-use mathlib.Core.List.{List, []}
+use Prim.Native.Nat.{ℕ, ◌+◌, ◌≤◌, ◌<◌}
+use mathlib.Core.Path.{◌≡◌, sym, ap, ◌∙◌, subst}
+use mathlib.Core.Bool.{Bool, true, false, ◌||◌}
+use mathlib.Core.List.{List}
 use native.Mathlib.Omega.{arith}
 use native.Mathlib.Nat.{le_trans}
 use lib.Dec.{eqb, ltb}
 use lib.ListN.{length, take, replicate}
 use mir.Syntax.{w64}
 use mir.Val.{Fits}
-use borrow.Author.Tests.{lt-ltb, le-ltb, eqb-false, ltb-false, not-true, not-false}
+use borrow.Author.Tests.{lt-ltb, le-ltb, eqb-false, ltb-false}
 use Rattle.octets.specs.Octets.{put}
-use Rattle.octets.specs.Written.{Room, Wrote}
+use Rattle.octets.specs.Written.{Wrote}
 use Rattle.octets.proofs.Runs.{wrote_front}
 use Rattle.octets.proofs.Bools.{neither_l, neither_r}
 use Rattle.decimal.specs.declared.Instrument.{Instrument}
@@ -89,16 +89,16 @@ module _ (q : Instrument) (report : List ℕ) (subscription shows : ℕ) (port g
     no_report y = unfed_is answer.NoReport (no_report_is y)
 
     module _ (some : t ≡ false) (u : Bool) (ue : u ≡ is_setting q subscription shows port group) where
-      bad_setting_is : not u ≡ true → all ≡ unfed answer.BadSetting
+      bad_setting_is : u ≡ false → all ≡ unfed answer.BadSetting
       unfolding fed
-      bad_setting_is y = rw (le-ltb (length area) 1024 room, none_is ∙ some, sym ue ∙ not-true u y)
+      bad_setting_is y = rw (le-ltb (length area) 1024 room, none_is ∙ some, sym ue ∙ y)
 
-      pub bad_setting : not u ≡ true → (answer.BadSetting ≡ all.answer) × (area ≡ put area 0 all.bytes)
+      pub bad_setting : u ≡ false → (answer.BadSetting ≡ all.answer) × (area ≡ put area 0 all.bytes)
       bad_setting y = unfed_is answer.BadSetting (bad_setting_is y)
 
-      module _ (set : not u ≡ false) where
+      module _ (set : u ≡ true) where
         set_is : is_setting q subscription shows port group ≡ true
-        set_is = sym ue ∙ not-false u set
+        set_is = sym ue ∙ set
 
         spent_is : (eqb next 0 || ltb 999999999 next) ≡ true → all ≡ unfed answer.NumbersSpent
         unfolding fed

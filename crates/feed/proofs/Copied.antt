@@ -1,42 +1,41 @@
 -- The row of a copy: it fills the slots of a copy, says of every tag that is kept what the report's row says, and is short.
-use Prim.Native.Nat.{ℕ, zero, suc, ◌+◌, ◌≤◌, ◌<◌}
+use Prim.Native.Nat.{ℕ, zero, suc, ◌≤◌, ◌<◌}
 use mathlib.Core.Path.{◌≡◌, refl, sym, ap, ◌∙◌, subst}
 use mathlib.Core.Bool.{Bool, true, false, cond, not, ◌&&◌, ◌||◌, false≢true}
 use mathlib.Core.List.{List, [], ◌∷◌, ◌++◌, map}
 use native.Mathlib.Omega.{arith}
 use native.Mathlib.Nat.{le_trans}
 use lib.Dec.{ltb, leb, eqb, lit≤}
-use lib.ListN.{length, take, drop, get_or, replicate, take-append-drop}
+use lib.ListN.{length, take, drop, get_or}
 use lib.Seq.{take-length, get_or-take}
-use borrow.Author.Tests.{eqb-true, eqb-false, ltb-true, leb-true, le-leb, le-ltb, ne_eqb, eq-eqb, not-true}
+use borrow.Author.Tests.{eqb-true, eqb-false, leb-true, le-leb, le-ltb, ne_eqb, not-true}
 use Rattle.octets.specs.Octets.{part_at}
-use Rattle.octets.proofs.Bools.{split, both_l, both_r, or_r}
+use Rattle.octets.proofs.Bools.{split, both_l, both_r}
 use Rattle.decimal.specs.Writing.{decimal}
 use Rattle.decimal.specs.Canonical.{bare_of, within}
-use Rattle.decimal.specs.declared.Said.TheVariants.{Value as Says, Wrong as Saysnot}
+use Rattle.decimal.specs.declared.Said.TheVariants.{Value as Says}
 use Rattle.decimal.proofs.RoundTrip.{bare_back}
 use Rattle.decimal.specs.declared.Instrument.{Instrument}
 use Rattle.decimal.specs.declared.Instrument.TheVariants.{Bonds, Equities}
 use Rattle.report.specs.declared.Value.{Value}
-use Rattle.report.specs.declared.Value.TheVariants.{Absent, Number, Char, Word, Sent, Stored, Level, Mean}
+use Rattle.report.specs.declared.Value.TheVariants.{Absent, Number, Char, Sent, Stored}
 use Rattle.report.specs.declared.Field.{Field}
 use Rattle.report.specs.declared.Shape.{Shape}
 use Rattle.report.specs.declared.Shape.TheVariants as shape
 use Rattle.report.specs.declared.Slot.{Slot}
-use Rattle.report.specs.declared.Pick.TheVariants.{Is, No}
+use Rattle.report.specs.declared.Pick.TheVariants.{Is}
 use Rattle.report.specs.declared.Kind.{Kind}
 use Rattle.report.specs.declared.Kind.TheVariants.{Accepted, Replaced, Canceled, Trade, Rejected, CancelReject, SessionReject, Refused}
-use Rattle.report.specs.Fields.{field, is_absent, value_bytes, label, row_bytes}
+use Rattle.report.specs.Fields.{field, is_absent, label, row_bytes}
 use Rattle.report.specs.Frame.{trailer}
 use Rattle.report.specs.Shapes.{number_in, all_from, text_in, one_in, value_in}
 use Rattle.report.specs.Slots.{unused, accepted_slots, replaced_slots, canceled_slots, trade_slots, rejected_slots, cancel_reject_slots, session_reject_slots, slots_of}
 use Rattle.report.specs.Reports.{one_reason, agreed}
 use Rattle.report.proofs.Taken.{Proper}
-use Rattle.report.proofs.Back.{moved, Fit, Fits, widths, fits_short}
+use Rattle.report.proofs.Back.{Fit, Fits, widths, fits_short}
 use Rattle.feed.specs.Rows.{with797, shown_row, copy_value, copy_field, yes797, copy_row, longest, slot109, copy_slot, slot797, copy_slots}
 use Rattle.feed.specs.Settings.{is_identifier, copied_by}
 use Rattle.feed.specs.Kept.{at_tag, is_kept}
-use Rattle.feed.proofs.Shaped.{is_never}
 use Rattle.feed.proofs.Filled.{Filled, filled_none, filled_some, filled_skip, filled_front, distinct, tells, filled_fits}
 use Rattle.feed.proofs.Shown.{Tagged, filled_tagged, tag_at, has, shown_at, shown_slot, shown_slots, shown_fills}
 

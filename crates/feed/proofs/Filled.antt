@@ -1,13 +1,13 @@
 -- Rows that fill their slots: the row that is read of a report does; and one that does, of slots whose tags can be told apart, fits them,
 -- so that it is read back, and its 35 and 150 are found.
-use Prim.Native.Nat.{ℕ, zero, suc, ◌+◌, ◌-◌, ◌≤◌, ◌<◌}
+use Prim.Native.Nat.{ℕ, zero, suc, ◌+◌, ◌≤◌}
 use mathlib.Core.Path.{◌≡◌, refl, sym, ap, ◌∙◌, subst}
 use mathlib.Core.Bool.{Bool, true, false, cond, not, ◌&&◌, ◌||◌, false≢true}
 use mathlib.Core.List.{List, [], ◌∷◌, ◌++◌, append_assoc, append-nil}
 use mathlib.Core.Logic.{◌⊎◌, inl, inr}
 use native.Mathlib.Omega.{arith}
 use lib.Dec.{ltb, eqb}
-use lib.ListN.{length, take, drop, get_or, length-drop, length-append}
+use lib.ListN.{length, take, drop, get_or, length-drop}
 use lib.Seq.{length-take-le}
 use borrow.Author.Tests.{eqb-true, ltb-true, not-true}
 use Rattle.octets.specs.Octets.{part_at}
@@ -19,16 +19,16 @@ use Rattle.report.specs.declared.Field.{Field}
 use Rattle.report.specs.declared.Shape.{Shape}
 use Rattle.report.specs.declared.Shape.TheVariants as shape
 use Rattle.report.specs.declared.Slot.{Slot}
-use Rattle.report.specs.declared.Pick.TheVariants.{Is, No}
+use Rattle.report.specs.declared.Pick.TheVariants.{Is}
 use Rattle.report.specs.declared.Got.TheVariants.{Value as Found, Wrong}
-use Rattle.report.specs.Fields.{field, is_absent, value_bytes, label, written, field_bytes, row_bytes}
+use Rattle.report.specs.Fields.{field, value_bytes, label, written, field_bytes, row_bytes}
 use Rattle.report.specs.Frame.{check_sum, front, trailer, report_bytes}
 use Rattle.report.specs.Shapes.{value_in}
 use Rattle.report.specs.Parse.{starts, len_to, field_at, row, read_row}
 use Rattle.report.specs.Reports.{kind_for, first_of, kind_of}
 use Rattle.report.proofs.Bytes.{field_none}
 use Rattle.report.proofs.Labels.{differ, written_starts}
-use Rattle.report.proofs.Taken.{NoSoh, Proper, taken}
+use Rattle.report.proofs.Taken.{Proper, taken}
 use Rattle.report.proofs.Parses.{field_within}
 use Rattle.report.proofs.Only.{AllProper, Valued, value_found, next_row}
 use Rattle.report.proofs.Back.{moved, Fit, Fits, fits_none, fits_some, fits_skip, fit_bytes}

@@ -1,6 +1,6 @@
 -- The row with 59 and 110 as a copy shows them: looking a value up and changing a row, field by field; every other tag says what it said; and
 -- it fills the slots of its kind, with 59 in 0 and 3.
-use Prim.Native.Nat.{ℕ, zero, suc, ◌+◌, ◌-◌, ◌≤◌, ◌<◌}
+use Prim.Native.Nat.{ℕ, zero, suc, ◌+◌, ◌≤◌, ◌<◌}
 use mathlib.Core.Path.{◌≡◌, refl, sym, ap, ◌∙◌}
 use mathlib.Core.Bool.{Bool, true, false, cond, not, ◌&&◌, ◌||◌, and-false, false≢true}
 use mathlib.Core.List.{List, [], ◌∷◌, ◌++◌, map, append-nil}

@@ -2,9 +2,9 @@
 -- settings can give: it has at most 512 bytes; it is read as a copy of the report's kind; every field but 34, 17, 109 and 797, and of a
 -- Fill or Kill 59 and 110 (T-05), has the report's own bytes, and these have the number, the number, the text and Y, and 3 and 38's value.
 -- 8, 9 and 10 are those of every report.
-use Prim.Native.Nat.{ℕ, zero, suc, ◌+◌, ◌≤◌, ◌<◌}
+use Prim.Native.Nat.{ℕ, zero, suc, ◌+◌, ◌≤◌}
 use mathlib.Core.Path.{◌≡◌, refl, sym, ap, ◌∙◌, subst}
-use mathlib.Core.Bool.{Bool, true, false, cond, not, ◌&&◌, false≢true}
+use mathlib.Core.Bool.{true, false, false≢true}
 use mathlib.Core.List.{List, [], ◌∷◌, ◌++◌}
 use native.Mathlib.Omega.{arith}
 use lib.Dec.{eqb}
@@ -12,7 +12,7 @@ use lib.ListN.{length, take, drop, get_or, take-append-drop, length-append}
 use lib.Seq.{take-length}
 use borrow.Author.Tests.{not-true}
 use Rattle.octets.specs.Octets.{part_at}
-use Rattle.octets.proofs.Bools.{split, both_l, both_r}
+use Rattle.octets.proofs.Bools.{split}
 use Rattle.decimal.specs.Writing.{decimal}
 use Rattle.decimal.specs.declared.Instrument.{Instrument}
 use Rattle.report.specs.declared.Value.{Value}
@@ -20,21 +20,21 @@ use Rattle.report.specs.declared.Value.TheVariants.{Absent, Number, Char, Stored
 use Rattle.report.specs.declared.Field.{Field}
 use Rattle.report.specs.declared.Slot.{Slot}
 use Rattle.report.specs.declared.Kind.{Kind}
-use Rattle.report.specs.declared.Kind.TheVariants.{Accepted, Replaced, Canceled, Trade, Rejected, CancelReject, SessionReject, Refused}
+use Rattle.report.specs.declared.Kind.TheVariants.{Refused}
 use Rattle.report.specs.declared.Reading.{Reading}
-use Rattle.report.specs.Fields.{field, value_bytes, label, written, field_bytes, row_bytes}
-use Rattle.report.specs.Frame.{report_bytes, trailer}
+use Rattle.report.specs.Fields.{field, value_bytes, field_bytes, row_bytes}
+use Rattle.report.specs.Frame.{trailer}
 use Rattle.report.specs.Parse.{Rows, row, bad}
 use Rattle.report.specs.Slots.{unused, slots_of}
-use Rattle.report.specs.Reports.{kind_for, kind_of, agreed, refused, reading_of, read_framed, read_of}
+use Rattle.report.specs.Reports.{kind_for, kind_of, agreed, reading_of, read_framed, read_of}
 use Rattle.report.proofs.Bytes.{report_length, length_written}
 use Rattle.report.proofs.Frames.{body_within}
 use Rattle.report.proofs.Only.{framed_found, framed_only}
-use Rattle.report.proofs.Back.{Fits, fit_bytes, backs, start, reading_back}
+use Rattle.report.proofs.Back.{fit_bytes, backs, start, reading_back}
 use Rattle.report.proofs.Tables.{row_short as report_short}
 use Rattle.report.proofs.ReadOnly.{kinds_proper}
 use Rattle.report.proofs.Texts.{read_there}
-use Rattle.feed.specs.Rows.{with797, is_four, is_fill_or_kill, value_of, ioc_value, shown_row, copy_value, copy_field, yes797, copy_row, copy_slots}
+use Rattle.feed.specs.Rows.{is_four, is_fill_or_kill, value_of, ioc_value, shown_row, copy_value, copy_row, copy_slots}
 use Rattle.feed.specs.Settings.{copied_by}
 use Rattle.feed.specs.Copies.{is_none, copy_bytes, copy_kind, read_copy_of}
 use Rattle.feed.specs.Kept.{at_tag, is_kept}
