@@ -64,6 +64,11 @@ class Function:
         self.parent = {p[0]: p[1] for p in table["places"]}
         self.step = {p[0]: p[2] for p in table["places"]}
         self.typed = {p[0]: dict((s, v) for v, s in t) for p, t in zip(table["places"], table["typed"])}
+        self.arms = {p[0]: a for p, a in zip(table["places"], table["arms"]) if a}
+        self.args = {}
+        for old, new in table["args"]:
+            if old.startswith(".args ."):
+                self.args[old[len(".args .") :]] = new[len(".args .") :]
         self.needs = {}
         for (old, new), at in zip(table["needs"], table["asked_at"]):
             self.needs[alike(old)] = (new, at[0])
@@ -89,7 +94,12 @@ class Function:
         rest = fields[k:]
         if not rest:
             return head
+        if rest[0] == "args" and len(rest) > 1:
+            return ".".join([head, "args", self.args.get(rest[1], rest[1]), *rest[2:]])
         want = alike(rest[0])
+        bound = self.bound(place, want, rest[1:])
+        if bound:
+            return ".".join([head, *bound])
         if not self.has(self.goal_place, want) and rest[0].endswith("_lem"):
             want = alike(rest[0][:-4])
         at = place if self.has(place, want) else self.goal_place
@@ -109,6 +119,20 @@ class Function:
                 return ".".join([head, new, *rest[1:]])
             at = self.parent.get(at)
         return ".".join([head, *rest])
+
+    def bound(self, place, want, fields):
+        """What an arm binds, in today's form, of the old step that took the value apart."""
+        while place is not None:
+            best = None
+            for new, step, at in self.arms.get(place, [None, 0, []])[2]:
+                if alike(step) == want and at and fields[: len(at)] == at and (best is None or len(at) > len(best[1])):
+                    best = (new, at)
+                if alike(step) == want and not at and fields[:1] == ["rest"] and best is None:
+                    best = (new, at)
+            if best:
+                return [self.arms[place][0], best[0], *fields[len(best[1]) :]]
+            place = self.parent.get(place)
+        return None
 
     def has(self, place, want):
         while place is not None:
@@ -139,6 +163,8 @@ def body_turned(fn, place, text, heads, labels, said):
     """An answer's text: paths below c, and names let for c.before.. and for other answers."""
 
     fn.goal_place = place
+    for m in reversed(list(re.finditer(r"let (\w+) = (\w+(?:\.[^\s.]+)*\.given(?:\.\d)*) in\s+", text))):
+        text = text[: m.start()] + re.sub(r"(?<![\w.])" + m[1] + r"(?=\.)", lambda _: m[2], text[m.end() :])
 
     def one(m):
         head, fields = m[1], m[2][1:].split(".")

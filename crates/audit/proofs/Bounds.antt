@@ -1,6 +1,6 @@
 -- The best levels in one pass against looking for them and comparing every buy with every sell: they are those of the book apart from
 -- the order in work, with what stands on each, and a book is uncrossed exactly if the best buy level is above the best sell level.
-use Rattle.std.proofs.Common.{◌≡◌, ℕ, zero, suc, ◌+◌, ◌*◌, ◌<◌, ◌≤◌, Bool, true, false, cond, not, ◌&&◌, ◌||◌, eqb, ltb, leb, length, sym, refl, ap, ◌∙◌, arith, ltb-false, ltb-true, eq-eqb, ne_eqb, eqb-true, le-leb}
+use Rattle.std.proofs.Common.{◌≡◌, ℕ, zero, suc, ◌+◌, ◌*◌, ◌<◌, ◌≤◌, Bool, true, false, cond, not, ◌&&◌, ◌||◌, eqb, ltb, leb, length, sym, refl, subst, ap, ◌∙◌, arith, ltb-false, ltb-true, eq-eqb, ne_eqb, eqb-true, le-leb}
 use mathlib.Core.Bool.{and-true}
 use borrow.Author.Tests.{eqb-false, lt-leb, not-true}
 use Rattle.octets.specs.Tests.{all_up_to}
@@ -72,7 +72,12 @@ module _ (b : Book) (s : ℕ) (high : (k : ℕ) → stands s (at b k) ≡ true �
   standing_is : (n m x y : ℕ) → next b s 0 (suc n) ≡ m → x ≡ sum_over (share s m) b n + share s m (at b (suc n))
       → y ≡ count_of (on_level s m) b n + cond (on_level s m (at b (suc n))) 1 0 → standing b s (suc n) ≡ record { level = m; total = x; orders = y }
   unfolding standing count_of sum_over
-  standing_is n m x y e f g = rw e (three refl (sym f) (sym g))
+  standing_is n m x y e f g =
+      subst
+      (λ (k : ℕ). ◌≡◌ {A = BestLevel}
+          (record { level = k; total = sum_over (share s k) b (suc n); orders = count_of (on_level s k) b (suc n) })
+          (record { level = m; total = x; orders = y }))
+      (sym e) (three refl (sym f) (sym g))
 
   -- the best level stays, with what the order adds to it
   standing_same : (n : ℕ) (x y : ℕ) → next b s 0 (suc n) ≡ next b s 0 n → share s (next b s 0 n) (at b (suc n)) ≡ x → cond (on_level s (next b s 0 n) (at b (suc n))) 1 0 ≡ y

@@ -2,19 +2,17 @@
 use Prim.Native.Nat.{ℕ, zero, suc, ◌+◌, ◌-◌, ◌*◌, ◌/◌, ◌%◌, ◌^◌, ◌≤◌, ◌<◌}
 use mathlib.Core.Path.{◌≡◌, refl, sym, ap, ◌∙◌}
 use mathlib.Core.List.{List, [], ◌∷◌, ◌++◌, append_assoc, append-nil}
-use mathlib.Core.Bool.{Bool, true, false, cond, ◌&&◌}
+use mathlib.Core.Bool.{true}
 use native.Mathlib.Omega.{arith}
-use native.Mathlib.Nat.{pow-suc, pow-succ', add-mul, mul_assoc, add-zero, zero-add, add-suc, suc-add, zero-mul, add_assoc, div-div-eq-div-mul, mul-one}
+use native.Mathlib.Nat.{pow-succ', add-mul, mul_assoc, add-zero, add-suc, suc-add, add_assoc, div-div-eq-div-mul, mul-one}
 use native.Mathlib.Decide.{dec_lt}
-use lib.Dec.{ltb, leb, eqb}
 use lib.ListN.{length, length-append}
 use borrow.Author.Tests.{le-leb}
-use Rattle.octets.proofs.Bools.{split}
 use Rattle.decimal.specs.Reading.{is_digit, run_of, digit_run, number, number_after}
 use Rattle.decimal.specs.Writing.{decimal, places}
 use Rattle.decimal.proofs.Scans.{passed}
-use Rattle.decimal.proofs.Numbers.{digit_low, digit_high, number_below}
-use Rattle.decimal.proofs.Digits.{decimal_small, decimal_more, length_small, length_more, length_places}
+use Rattle.decimal.proofs.Numbers.{digit_low, digit_high}
+use Rattle.decimal.proofs.Digits.{decimal_small, decimal_more}
 
 -- ---- lists of digits
 pub digit_byte : (d : ℕ) → d < 10 → is_digit (48 + d) ≡ true

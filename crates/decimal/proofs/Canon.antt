@@ -1,11 +1,11 @@
 -- What each answer of the canonical readers rests on: the tests that led to it, and the definition's case.
-use Prim.Native.Nat.{ℕ, suc, ◌+◌, ◌-◌, ◌*◌, ◌^◌, ◌≤◌, ◌<◌}
+use Prim.Native.Nat.{ℕ, ◌+◌, ◌-◌, ◌*◌, ◌^◌, ◌≤◌}
 use mathlib.Core.Path.{◌≡◌, refl, sym, ap, ◌∙◌}
 use mathlib.Core.List.{List}
-use mathlib.Core.Bool.{Bool, true, false, cond, not, ◌&&◌, ◌||◌, and-false}
+use mathlib.Core.Bool.{true, false, not, ◌&&◌, ◌||◌, and-false}
 use native.Mathlib.Omega.{arith}
-use native.Mathlib.Nat.{pow-le-pow_right, mul-le-mul_left, mul-le-mul_right, add-mul}
-use lib.Dec.{ltb, leb, eqb, lit<, lit≤}
+use native.Mathlib.Nat.{pow-le-pow_right, mul-le-mul_right}
+use lib.Dec.{leb, eqb, lit<, lit≤}
 use lib.ListN.{length, get_or, take, drop, get_or-eq_default}
 use mir.Syntax.{w64}
 use mir.Val.{Fits}
@@ -16,8 +16,8 @@ use Rattle.decimal.specs.declared.Said.{Said}
 use Rattle.decimal.specs.declared.Said.TheVariants.{Value, Wrong}
 use Rattle.decimal.specs.Instruments.{decimals}
 use Rattle.decimal.specs.Reading.{digit_run, number, num_of}
-use Rattle.decimal.specs.Writing.{Scale, zero_of}
-use Rattle.decimal.specs.Canonical.{bare, bare_of, within, exactly_of, joined, amount_of, below_zero, above_zero, fixed_of, level_in, mean_in}
+use Rattle.decimal.specs.Writing.{Scale}
+use Rattle.decimal.specs.Canonical.{bare, bare_of, within, exactly_of, amount_of, below_zero, fixed_of, level_in, mean_in}
 use Rattle.decimal.proofs.Scans.{rest_is, byte_within}
 use Rattle.decimal.proofs.RoundTrip.{bare_small, exactly_small, amount_small}
 

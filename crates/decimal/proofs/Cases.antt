@@ -1,7 +1,6 @@
 -- Worked numbers of documents 01 and 02, by computing: the yield of case 9, the AvgPx of case 11 with its mirror below zero, halves,
 -- and the answers that other rules of rounding would give.
 use mathlib.Core.Path.{◌≡◌, refl}
-use mathlib.Core.List.{List, [], ◌∷◌, ◌++◌}
 use Prim.Native.Nat.{ℕ, ◌+◌, ◌-◌, ◌*◌}
 use native.Mathlib.Omega.{arith}
 use Rattle.octets.specs.Characters.{bytes}

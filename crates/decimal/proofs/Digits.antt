@@ -1,12 +1,10 @@
 -- The laws of writing numbers: digits one by one, how many there are, and what a turn of the writing loop leaves to do.
 use Prim.Native.Nat.{ℕ, zero, suc, ◌+◌, ◌-◌, ◌*◌, ◌/◌, ◌%◌, ◌^◌, ◌≤◌, ◌<◌}
 use mathlib.Core.Path.{◌≡◌, refl, sym, ap, ◌∙◌}
-use mathlib.Core.Bool.{Bool, true, false, cond}
 use mathlib.Core.List.{List, [], ◌∷◌, ◌++◌}
 use native.Mathlib.Omega.{arith}
-use native.Mathlib.Nat.{add-zero, not-suc-le-zero}
+use native.Mathlib.Nat.{not-suc-le-zero}
 use native.Mathlib.Decide.{dec_lt}
-use lib.Dec.{ltb, eqb}
 use lib.ListN.{length, length-append, set, length-set}
 use mir.Val.{Fits}
 use mir.Syntax.{w64}
@@ -16,7 +14,7 @@ use Rattle.octets.specs.Written.{Room, Wrote}
 use Rattle.octets.proofs.Places.{put_put, put_comm}
 use Rattle.decimal.specs.declared.Instrument.{Instrument}
 use Rattle.decimal.specs.declared.Instrument.TheVariants.{Bonds, Equities}
-use Rattle.decimal.specs.Writing.{decimal_in, decimal, places, Scale, zero_of, plain, fixed, level_text, mean_text}
+use Rattle.decimal.specs.Writing.{decimal_in, decimal, places, Scale, plain, fixed, level_text, mean_text}
 
 -- ---- a number without needless zeros
 small : (k n : ℕ) → n < 10 → decimal_in (suc k) n ≡ (48 + n) ∷ []

@@ -1,8 +1,7 @@
 -- AvgPx: a share is the nearest thousandth, halves up; dividing first and then the rest gives the same; a mean and its mirror
 -- below zero round alike; the range of a mean.
 use Prim.Native.Nat.{ℕ, ◌+◌, ◌-◌, ◌*◌, ◌/◌, ◌%◌, ◌≤◌, ◌<◌}
-use mathlib.Core.Path.{◌≡◌, refl, sym, ap, ◌∙◌}
-use mathlib.Core.Bool.{true, false}
+use mathlib.Core.Path.{◌≡◌, refl, ap, ◌∙◌}
 use native.Mathlib.Omega.{arith}
 use native.Mathlib.Decide.{dec_lt}
 use native.Mathlib.Nat.{add-mul, div-add-mod', div-le_self, div-le_of_le-mul, mod-lt, mul-add-div_right, mul-add-mod_self_right, mul-le-mul_right}

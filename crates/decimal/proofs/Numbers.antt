@@ -1,6 +1,6 @@
 -- Digits and the numbers that they say: the bounds, and what a loop over the digits wants.
-use Prim.Native.Nat.{ℕ, zero, suc, ◌+◌, ◌-◌, ◌*◌, ◌^◌, ◌≤◌, ◌<◌}
-use mathlib.Core.Path.{◌≡◌, refl, sym, ap, ◌∙◌}
+use Prim.Native.Nat.{ℕ, suc, ◌+◌, ◌-◌, ◌*◌, ◌^◌, ◌≤◌, ◌<◌}
+use mathlib.Core.Path.{◌≡◌, refl, sym, ◌∙◌}
 use mathlib.Core.List.{List, [], ◌∷◌}
 use mathlib.Core.Bool.{Bool, true, false, cond, ◌&&◌, and-false}
 use native.Mathlib.Omega.{arith}
@@ -13,10 +13,9 @@ use mir.Syntax.{w64}
 use mir.Val.{Fits}
 use borrow.Author.Tests.{leb-true, eqb-true, eq-eqb, ne_eqb, lt-ltb, le-leb, lt-leb}
 use Rattle.octets.proofs.Bools.{split, both_l, both_r}
-use Rattle.decimal.specs.declared.Said.{Said}
 use Rattle.decimal.specs.declared.Said.TheVariants.{Value, Wrong}
 use Rattle.decimal.specs.Reading.{is_digit, digit_of, run_of, digit_run, number, number_after, is_number, num_of}
-use Rattle.decimal.proofs.Scans.{passed, run_below, run_take, run_end, Scan, scan_more, scan_stop, scan_end}
+use Rattle.decimal.proofs.Scans.{passed, run_below, run_take, scan_more, scan_stop, scan_end}
 
 -- a test that passed, and the number that it lets through
 pub let_through : (t : Bool) (n m : ℕ) → cond t (Value n) Wrong ≡ Value m → (t ≡ true) × (n ≡ m)

@@ -1,10 +1,9 @@
 -- What the definitions say of texts that the rehearsed books and the limits of document 01 name. Each is computed.
 use mathlib.Core.Path.{◌≡◌, refl}
-use mathlib.Core.Bool.{Bool, true, false}
+use mathlib.Core.Bool.{true, false}
 use Prim.Native.Nat.{ℕ}
 use Rattle.octets.specs.Characters.{bytes}
 use Rattle.decimal.specs.declared.Instrument.TheVariants.{Bonds, Equities}
-use Rattle.decimal.specs.declared.Said.{Said}
 use Rattle.decimal.specs.declared.Said.TheVariants.{Value, Wrong}
 use Rattle.decimal.specs.Reading.{is_digit, digit_of, run_of, number_after, is_number, num_of, fraction_of, size_of, level_of, is_time_length, two_at, time_shaped, time_ranged, is_time}
 

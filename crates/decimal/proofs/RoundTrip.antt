@@ -5,27 +5,27 @@ use mathlib.Core.Path.{◌≡◌, refl, sym, ap, ◌∙◌}
 use mathlib.Core.List.{List, [], ◌∷◌, ◌++◌, append_assoc, append-nil}
 use mathlib.Core.Bool.{Bool, true, false, cond, not, ◌&&◌, ◌||◌}
 use native.Mathlib.Omega.{arith}
-use native.Mathlib.Nat.{pow-le-pow_right, div-lt_iff_lt-mul, pow-suc, mul_comm, mul-add-div_right, div-eq_of_lt, add-zero, zero-add, not-suc-le-zero, suc-ne-zero, mul-le-mul_right, add-mul, div-le_self}
+use native.Mathlib.Nat.{pow-le-pow_right, div-lt_iff_lt-mul, mul_comm, mul-add-div_right, div-eq_of_lt, add-zero, zero-add, not-suc-le-zero, div-le_self}
 use native.Mathlib.Numerals.{add-one}
 use native.Mathlib.Decide.{dec_lt}
 use lib.Dec.{ltb, leb, eqb}
-use lib.ListN.{length, length-append, get_or, take, drop, take-append-drop, length-take, length-drop}
+use lib.ListN.{length, length-append, get_or, take, drop, take-append-drop}
 use lib.Seq.{take_at, drop_at, drop-cons}
-use borrow.Author.Tests.{eq-eqb, ne_eqb, lt-ltb, le-ltb, le-leb, leb-true, eqb-true, eqb-false, ltb-true, not-true}
-use Rattle.octets.proofs.Bools.{split, both_i, both_l, both_r, or_l, or_r, not_both}
+use borrow.Author.Tests.{eq-eqb, ne_eqb, lt-ltb, le-ltb, le-leb, eqb-true, eqb-false, ltb-true, not-true}
+use Rattle.octets.proofs.Bools.{split, both_l, both_r, or_l, or_r}
 use Rattle.decimal.specs.declared.Instrument.{Instrument}
 use Rattle.decimal.specs.declared.Instrument.TheVariants.{Bonds, Equities}
 use Rattle.decimal.specs.declared.Said.{Said}
 use Rattle.decimal.specs.declared.Said.TheVariants.{Value, Wrong}
 use Rattle.decimal.specs.Reading.{is_digit, run_of, digit_run, number, number_after, is_number, num_of}
-use Rattle.decimal.specs.Instruments.{whole_digits, decimals, mean_decimals, stands_for, highest, highest_mean}
+use Rattle.decimal.specs.Instruments.{stands_for, highest, highest_mean}
 use Rattle.decimal.specs.Writing.{decimal, places, zero_of, plain, fixed, level_text, mean_text}
-use Rattle.decimal.specs.Canonical.{bare, bare_of, within, exactly_of, joined, amount_of, below_zero, above_zero, fixed_of, level_in, mean_in}
+use Rattle.decimal.specs.Canonical.{bare, bare_of, exactly_of, joined, amount_of, below_zero, above_zero, fixed_of, level_in, mean_in}
 use Rattle.decimal.proofs.Scans.{run_below, byte_within}
 use Rattle.decimal.proofs.Yields.{ten_some, under_both}
 use Rattle.decimal.proofs.Numbers.{digit_low, digit_high, number_below, num_below, let_through}
 use Rattle.decimal.proofs.Digits.{decimal_small, decimal_more, decimal_few, length_small, length_more, length_places}
-use Rattle.decimal.proofs.Afters.{digits_head, digits_tail, digits_cons, run_append, after_append, after_shift, said_decimal, digits_decimal, digits_places, said_places, written_places, written_decimal}
+use Rattle.decimal.proofs.Afters.{digits_head, digits_tail, run_append, after_shift, said_decimal, digits_decimal, digits_places, said_places, written_places, written_decimal}
 
 -- ---- numbers
 

@@ -1,6 +1,6 @@
 -- The sense of "better": of two levels the lower one is the lower yield, and the higher price. So a rule that takes the lower level
 -- first takes the lower yield first in a market of bonds, and the higher price first in a market of equities.
-use Prim.Native.Nat.{ℕ, ◌+◌, ◌-◌, ◌≤◌, ◌<◌}
+use Prim.Native.Nat.{ℕ, ◌-◌, ◌≤◌, ◌<◌}
 use mathlib.Core.Path.{◌≡◌, refl}
 use native.Mathlib.Omega.{arith}
 use Rattle.decimal.specs.declared.Instrument.{Instrument}

@@ -1,7 +1,7 @@
 -- A yield or a price as a level, test by test in the order in which it is read, and the bounds that the sums want.
-use Prim.Native.Nat.{ℕ, zero, suc, ◌+◌, ◌-◌, ◌*◌, ◌^◌, ◌≤◌, ◌<◌}
+use Prim.Native.Nat.{ℕ, ◌+◌, ◌-◌, ◌*◌, ◌^◌, ◌≤◌, ◌<◌}
 use mathlib.Core.Path.{◌≡◌, refl, sym, ap, ◌∙◌}
-use mathlib.Core.List.{List, [], ◌∷◌}
+use mathlib.Core.List.{List}
 use mathlib.Core.Bool.{Bool, true, false, cond, ◌&&◌, and-false}
 use native.Mathlib.Omega.{arith}
 use native.Mathlib.Nat.{suc-ne-zero, pow-le-pow_right, mul-le-mul_right, add-mul}
@@ -11,13 +11,13 @@ use mir.Val.{Fits}
 use lib.Dec.{ltb, leb, eqb}
 use lib.ListN.{length, get_or, take, drop, length-take, length-drop}
 use borrow.Author.Tests.{eq-eqb, ne_eqb, lt-ltb, le-leb, lt-leb, leb-true, eqb-false}
-use Rattle.octets.proofs.Bools.{split, both_r}
+use Rattle.octets.proofs.Bools.{both_r}
 use Rattle.decimal.specs.declared.Instrument.{Instrument}
 use Rattle.decimal.specs.declared.Instrument.TheVariants.{Bonds, Equities}
 use Rattle.decimal.specs.declared.Said.{Said}
 use Rattle.decimal.specs.declared.Said.TheVariants.{Value, Wrong}
 use Rattle.decimal.specs.Instruments.{whole_digits, decimals, stands_for, signed, highest}
-use Rattle.decimal.specs.Reading.{is_digit, run_of, digit_run, number, num_of, map_said, fraction_of, size_of, even, level_of}
+use Rattle.decimal.specs.Reading.{is_digit, digit_run, number, num_of, map_said, fraction_of, size_of, even, level_of}
 use Rattle.decimal.specs.Writing.{Scale}
 use Rattle.decimal.proofs.Scans.{rest_is, run_le, byte_within}
 use Rattle.decimal.proofs.Numbers.{run_small, num_length, num_within, num_below}

@@ -1,7 +1,7 @@
 -- What a text says where only one way of writing is taken: Read of document 01 and T-08 of document 02, which takes no needless
 -- zero, exactly three decimals of a yield and six of its AvgPx, or one of a price and four of its AvgPx, one whole digit or more
 -- and at most six, or eight of a price, and no minus on zero or on a price. Assumes nothing.
-use Rattle.std.specs.Prelude.{ℕ, zero, suc, ◌+◌, ◌-◌, ◌*◌, ◌^◌, List, Bool, cond, not, ◌&&◌, ◌||◌, length, get_or, take, drop, ltb, leb, eqb}
+use Rattle.std.specs.Prelude.{ℕ, ◌+◌, ◌-◌, ◌*◌, ◌^◌, List, Bool, cond, not, ◌&&◌, ◌||◌, length, get_or, take, drop, leb, eqb}
 use Rattle.octets.specs.Characters.{byte}
 use Rattle.decimal.specs.declared.Instrument.{Instrument}
 use Rattle.decimal.specs.declared.Said.{Said}

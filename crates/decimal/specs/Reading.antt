@@ -1,6 +1,6 @@
 -- What a text says: a number of some digits, a yield or a price as a level, a time. From "Reading a message" of document 01 and
 -- T-08 of document 02. A text is the list of its bytes; what is past its end reads as no digit. Assumes nothing.
-use Rattle.std.specs.Prelude.{ℕ, zero, suc, ◌+◌, ◌-◌, ◌*◌, ◌^◌, List, [], ◌∷◌, Bool, true, false, cond, not, ◌&&◌, ◌||◌, length, get_or, take, drop, ltb, leb, eqb}
+use Rattle.std.specs.Prelude.{ℕ, suc, ◌+◌, ◌-◌, ◌*◌, ◌^◌, List, [], ◌∷◌, Bool, cond, ◌&&◌, ◌||◌, length, get_or, take, drop, ltb, leb, eqb}
 use Rattle.octets.specs.Characters.{byte}
 use Rattle.decimal.specs.declared.Instrument.{Instrument}
 use Rattle.decimal.specs.declared.Said.{Said}

@@ -18,7 +18,7 @@ use Rattle.fix.specs.declared.fields.Field.{Field}
 use Rattle.fix.specs.declared.fields.Field.TheVariants.{Good, Broken, End}
 use Rattle.fix.specs.Fields.{Fld, is_text, starts_tag, leading, tag_of, value_from, value_len, field_of, step_of, fields_after, fields_from, fields_of, find_tag, has_tag, clean_fields, last_tag_or}
 use Rattle.fix.specs.Garbled.{headed_by, header, ordered, header_right, part_of, end_of, ten_at, length_true, sum_true, garbled_message, body_part}
-use Rattle.fix.specs.Steps.{fld, field_at, row_fields, moved, Holds, Held}
+use Rattle.fix.specs.Steps.{fld, field_at, row_fields, moved, Held}
 use Rattle.fix.proofs.Walk.{Says, step_says}
 use Rattle.fix.proofs.Verdict.{plain_none}
 use Rattle.fix.proofs.Plain.{clear_unbroken}

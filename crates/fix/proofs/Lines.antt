@@ -1,19 +1,18 @@
 -- The order of the fields by the row: the header first, 10 last; and the SOH at the end.
-use Rattle.std.proofs.Common.{◌≡◌, ℕ, zero, suc, ◌+◌, ◌-◌, ◌*◌, ◌%◌, ◌^◌, ◌<◌, ◌≤◌, Bool, true, false, cond, not, ◌&&◌, ◌||◌, eqb, leb, List, [], ◌∷◌, ◌++◌, length, get_or, take, drop, sym, refl, ap, ◌∙◌, subst, ⊎_elim, not-suc-le-zero, zero-add, suc-ne-zero, arith, ne_eqb, eqb-true}
+use Rattle.std.proofs.Common.{◌≡◌, ℕ, zero, suc, ◌+◌, ◌-◌, ◌*◌, ◌<◌, ◌≤◌, Bool, true, false, cond, not, ◌&&◌, eqb, List, [], ◌∷◌, ◌++◌, length, get_or, drop, sym, refl, ap, ◌∙◌, subst, ⊎_elim, not-suc-le-zero, zero-add, suc-ne-zero, arith, eqb-true}
 use mathlib.Core.Bool.{and-false}
 use borrow.Author.Tests.{eqb-false, not-true, not-false}
 use Rattle.octets.proofs.Bools.{split, both_l, both_r, neither_l, neither_r, not_both}
 use Rattle.octets.proofs.Places.{below_or}
 use Rattle.fix.specs.declared.fields.Found.TheVariants.{At}
 use Rattle.fix.specs.declared.frame.Part.{Part}
-use Rattle.fix.specs.declared.frame.Places.{Places}
 use Rattle.fix.specs.declared.frame.Opening.{Opening}
 use Rattle.fix.specs.declared.frame.Frame.{Frame}
 use Rattle.fix.specs.declared.frame.Frame.TheVariants.{Garbled}
 use Rattle.fix.specs.declared.pass.Walked.{Walked}
 use Rattle.fix.specs.Fields.{Fld, field_of, fields_after, fields_from, fields_of, find_tag, has_tag, repeats, clean_fields, last_tag_or, value_from, value_len}
 use Rattle.fix.specs.Garbled.{headed_by, header, ordered, part_of, end_of, garbled_message, frame_of}
-use Rattle.fix.specs.Steps.{fld, field_at, row_fields, part_row, Closed, Ready, Rowed, WalkSays, Headed, Counted, OpeningSays, Ended, Lined, Placed, Laid, Framed}
+use Rattle.fix.specs.Steps.{fld, field_at, row_fields, part_row, Ready, Rowed, WalkSays, Headed, OpeningSays, Lined, Laid, Framed}
 use Rattle.fix.proofs.Opening.{garbled_order, garbled_heads}
 use Rattle.fix.proofs.Verdict.{garbled_frame, plain_unclean, plain_other, is_good_lem}
 use Rattle.fix.proofs.Walk.{field_in}

@@ -1,14 +1,13 @@
 -- The loop that looks for a tag among the fields: what each need asks, by the answer of the step.
-use Rattle.std.proofs.Common.{◌≡◌, ℕ, zero, suc, ◌+◌, ◌-◌, ◌^◌, ◌<◌, ◌≤◌, Bool, true, false, cond, not, ◌&&◌, ◌||◌, eqb, List, [], ◌∷◌, length, take, drop, sym, refl, ap, ◌∙◌, zero-add, arith, w64, Fits, eq-eqb, ne_eqb, eqb-true}
-use mathlib.Core.Bool.{and-false}
+use Rattle.std.proofs.Common.{◌≡◌, ℕ, zero, suc, ◌+◌, ◌-◌, ◌^◌, ◌<◌, ◌≤◌, Bool, true, false, cond, eqb, List, [], ◌∷◌, length, take, drop, sym, refl, ◌∙◌, zero-add, arith, w64, Fits, eq-eqb, ne_eqb, eqb-true}
 use native.Mathlib.Nat.{add-sub_cancel_left}
 use Rattle.fix.specs.declared.fields.Cursor.{Cursor}
 use Rattle.fix.specs.declared.fields.Found.{Found}
 use Rattle.fix.specs.declared.fields.Found.TheVariants.{At, Nothing}
 use Rattle.fix.specs.declared.fields.Field.{Field}
 use Rattle.fix.specs.declared.fields.Field.TheVariants.{Good, Broken, End}
-use Rattle.fix.specs.Fields.{Fld, field_of, step_of, fields_after, fields_from, fields_of, find_tag, value_of, has_tag, repeats, clean_fields, last_tag_or, value_from, value_len}
-use Rattle.fix.proofs.Walk.{Says, Stepped, step_good, step_broken, step_end, field_in}
+use Rattle.fix.specs.Fields.{Fld, field_of, step_of, fields_after, fields_from, fields_of, find_tag, value_of, value_from, value_len}
+use Rattle.fix.proofs.Walk.{step_good, step_broken, step_end, field_in}
 
 -- ---- the first field with a tag
 module _ (s : List ℕ) (tag at : ℕ) (r : Field) (inv : find_tag tag (fields_of s) ≡ find_tag tag (fields_from at s)) (e : r ≡ step_of s at) where

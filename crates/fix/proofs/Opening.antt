@@ -1,18 +1,17 @@
 -- The clauses by which a message is garbled, and 8 and 9 by the row.
-use Rattle.std.proofs.Common.{◌≡◌, ℕ, zero, suc, ◌+◌, ◌-◌, ◌*◌, ◌<◌, ◌≤◌, Bool, true, false, cond, not, ◌&&◌, eqb, ltb, leb, List, [], ◌∷◌, ◌++◌, length, get_or, take, drop, sym, refl, ap, ◌∙◌, subst, suc-ne-zero, arith, eq-eqb, ne_eqb, eqb-true}
+use Rattle.std.proofs.Common.{◌≡◌, ℕ, ◌+◌, ◌*◌, Bool, true, false, not, List, get_or, sym, refl, ap, ◌∙◌}
 use mathlib.Core.Bool.{and-false}
 use borrow.Author.Tests.{not-true, not-false}
 use Rattle.octets.specs.Octets.{part_at, same_bytes}
-use Rattle.octets.proofs.Bools.{split}
 use Rattle.decimal.specs.declared.Said.{Said}
 use Rattle.decimal.specs.declared.Said.TheVariants.{Value, Wrong}
 use Rattle.decimal.specs.Reading.{num_of}
 use Rattle.fix.specs.declared.fields.Found.{Found}
 use Rattle.fix.specs.declared.fields.Found.TheVariants.{At, Nothing}
 use Rattle.fix.specs.declared.frame.Part.{Part}
-use Rattle.fix.specs.Fields.{Fld, step_of, fields_from, fields_of, found_in, find_tag, value_of, last_tag_or, clean_fields}
-use Rattle.fix.specs.Garbled.{headed_by, header, ordered, fix42, header_right, says_it, as_part, part_of, end_of, length_true, sum_true, garbled_message}
-use Rattle.fix.specs.Steps.{fld, part_row, Headed, Counted}
+use Rattle.fix.specs.Fields.{fields_of, found_in, find_tag, value_of}
+use Rattle.fix.specs.Garbled.{headed_by, header, ordered, fix42, header_right, as_part, part_of, end_of, length_true, sum_true, garbled_message}
+use Rattle.fix.specs.Steps.{part_row, Headed, Counted}
 
 -- ---- a clause that fails
 module _ (s : List ℕ) where

@@ -1,18 +1,17 @@
 -- The field at a cursor, read from bytes that end with SOH, with the sum of its bytes.
-use Rattle.std.proofs.Common.{◌≡◌, ℕ, zero, suc, ◌+◌, ◌-◌, ◌*◌, ◌%◌, ◌^◌, ◌<◌, ◌≤◌, Bool, true, false, cond, not, ◌&&◌, eqb, ltb, leb, List, [], ◌∷◌, length, get_or, take, drop, sym, refl, ap, ◌∙◌, ⊎_elim, suc-ne-zero, arith, length-drop, get_or-drop, w64, Fits, le-ltb, lt-ltb, eqb-true}
+use Rattle.std.proofs.Common.{◌≡◌, ℕ, ◌+◌, ◌-◌, ◌*◌, ◌%◌, ◌^◌, ◌<◌, ◌≤◌, Bool, true, false, not, ◌&&◌, eqb, ltb, leb, List, length, get_or, take, drop, sym, refl, ap, ◌∙◌, ⊎_elim, suc-ne-zero, arith, length-drop, get_or-drop, w64, Fits, le-ltb, lt-ltb}
 use borrow.Author.Tests.{not-true, not-false}
-use Rattle.octets.proofs.Bools.{split, both_r, not_both}
+use Rattle.octets.proofs.Bools.{not_both}
 use Rattle.octets.proofs.Places.{below_or}
-use Rattle.decimal.specs.Reading.{is_digit, digit_of, run_of, digit_run}
+use Rattle.decimal.specs.Reading.{is_digit, digit_of}
 use Rattle.decimal.proofs.Scans.{Scan, rest_is, run_below, scan_more, scan_stop}
 use Rattle.fix.specs.declared.fields.Tag.{Tag}
-use Rattle.fix.specs.declared.fields.Cursor.{Cursor}
 use Rattle.fix.specs.declared.fields.Field.{Field}
 use Rattle.fix.specs.declared.fields.Field.TheVariants.{Good, Broken, End}
 use Rattle.fix.specs.declared.pass.Text.{Text}
-use Rattle.fix.specs.Fields.{is_text, text_run, starts_tag, leading, tag_of, field_of, as_field, step_of}
+use Rattle.fix.specs.Fields.{is_text, step_of}
 use Rattle.fix.specs.Steps.{Closed, Carried, Tagged, Ran, Strode, Paced}
-use Rattle.fix.proofs.Spelling.{there, Spelled, spelled_start, spelled_more, tag_times, tag_fits, tag_good, tag_bad, tag_five, digits_none, digits_some, tag_equals, tag_inside, value_from_lem, from_fits, field_none, field_other, field_good, value_in_lem}
+use Rattle.fix.proofs.Spelling.{there, Spelled, spelled_start, spelled_more, tag_times, tag_fits, tag_good, tag_bad, tag_five, digits_none, digits_some, tag_equals, value_from_lem, from_fits, field_none, field_other, field_good}
 use Rattle.fix.proofs.Sums.{carried_none, carried_byte, carried_then}
 use Rattle.fix.proofs.Walk.{step_good}
 

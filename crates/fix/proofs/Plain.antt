@@ -1,14 +1,14 @@
 -- A message that is not garbled has no byte but 20 to 7E hex and SOH.
-use Rattle.std.proofs.Common.{◌≡◌, ℕ, zero, suc, ◌+◌, ◌-◌, ◌<◌, ◌≤◌, Bool, true, false, cond, not, ◌&&◌, ◌||◌, eqb, ltb, leb, List, [], ◌∷◌, length, get_or, drop, sym, refl, ap, ◌∙◌, ⊎_elim, le_of_suc-le-suc, not-suc-le-zero, eq-or-lt_of_le, zero-add, arith, get_or-drop, eqb-true, le-leb}
+use Rattle.std.proofs.Common.{◌≡◌, ℕ, zero, suc, ◌+◌, ◌-◌, ◌<◌, ◌≤◌, Bool, true, false, cond, not, ◌&&◌, ◌||◌, eqb, ltb, leb, List, [], ◌∷◌, length, get_or, drop, refl, ⊎_elim, le_of_suc-le-suc, not-suc-le-zero, eq-or-lt_of_le, arith, get_or-drop, eqb-true, le-leb}
 use mathlib.Core.Bool.{or-true}
 use borrow.Author.Tests.{eqb-false, not-true, not-false}
-use Rattle.octets.proofs.Bools.{split, both_i, both_l, both_r, neither_l, neither_r, not_both}
+use Rattle.octets.proofs.Bools.{both_i, both_l, both_r, neither_l, neither_r}
 use Rattle.octets.proofs.Places.{below_or}
-use Rattle.decimal.specs.Reading.{is_digit, run_of, digit_run}
+use Rattle.decimal.specs.Reading.{is_digit, digit_run}
 use Rattle.decimal.proofs.Scans.{run_below}
 use Rattle.decimal.proofs.Numbers.{digit_low, digit_high}
 use Rattle.fix.specs.declared.fields.Tag.{Tag}
-use Rattle.fix.specs.Fields.{is_text, text_run, starts_tag, leading, tag_of, value_from, value_len, Fld, field_of, fields_after, fields_from, fields_of, has_tag, repeats, clean_fields, last_tag_or}
+use Rattle.fix.specs.Fields.{is_text, starts_tag, leading, tag_of, value_from, value_len, field_of, fields_after, fields_from, fields_of, has_tag, repeats, clean_fields, last_tag_or}
 use Rattle.fix.specs.Garbled.{headed_by, header, ordered, header_right, length_true, sum_true, garbled_message}
 
 -- a byte that a message may have

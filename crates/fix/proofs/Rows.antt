@@ -1,15 +1,15 @@
 -- The row of places: what is written stands there, and the walk that fills it.
-use Rattle.std.proofs.Common.{◌≡◌, ℕ, zero, suc, ◌+◌, ◌-◌, ◌*◌, ◌%◌, ◌^◌, ◌<◌, ◌≤◌, Bool, true, false, cond, not, ◌&&◌, ◌||◌, eqb, ltb, List, [], ◌∷◌, ◌++◌, length, get_or, drop, set, sym, refl, ap, ◌∙◌, subst, append_assoc, append-nil, add-zero, zero-add, suc-ne-zero, add-one, arith, length-set, get_or-set_other, get_or-set_same, w64, Fits, ltb-true, eq-eqb, ne_eqb, eqb-true}
+use Rattle.std.proofs.Common.{◌≡◌, ℕ, zero, suc, ◌+◌, ◌-◌, ◌*◌, ◌%◌, ◌<◌, ◌≤◌, Bool, true, false, cond, ◌||◌, eqb, ltb, List, [], ◌∷◌, ◌++◌, length, get_or, drop, set, sym, refl, ap, ◌∙◌, append_assoc, append-nil, add-zero, zero-add, suc-ne-zero, add-one, arith, length-set, get_or-set_other, get_or-set_same, w64, Fits, eq-eqb, ne_eqb, eqb-true}
 use mathlib.Core.Bool.{and-false, or-true}
 use native.Mathlib.Nat.{sub-zero}
 use borrow.Author.Tests.{eqb-false}
-use Rattle.octets.proofs.Bools.{split, or_r, neither_l, neither_r, not_both}
+use Rattle.octets.proofs.Bools.{split, neither_l, neither_r, not_both}
 use Rattle.fix.specs.declared.fields.Cursor.{Cursor}
 use Rattle.fix.specs.declared.fields.Found.TheVariants.{At}
 use Rattle.fix.specs.declared.fields.Field.{Field}
 use Rattle.fix.specs.declared.fields.Field.TheVariants.{Good, Broken, End}
 use Rattle.fix.specs.declared.pass.Noted.{Noted}
-use Rattle.fix.specs.Fields.{Fld, field_of, as_field, step_of, fields_from, fields_of, find_tag, has_tag, repeats, clean_fields, last_tag_or, value_from}
+use Rattle.fix.specs.Fields.{Fld, field_of, step_of, fields_from, fields_of, find_tag, has_tag, repeats, clean_fields, last_tag_or, value_from}
 use Rattle.fix.specs.Steps.{slot, Closed, Carried, Paced, field_at, row_fields, noted, Notes, Marked, Passing, Ready, Lastly, Rowed, seat_of}
 use Rattle.fix.proofs.Walk.{Stepped, step_good, step_broken, step_end}
 use Rattle.fix.proofs.Bodies.{field_below, some_from}

@@ -1,5 +1,5 @@
 -- The tag and the field that a message starts with, test by test in the order in which they are read.
-use Rattle.std.proofs.Common.{◌≡◌, ℕ, zero, suc, ◌+◌, ◌-◌, ◌*◌, ◌^◌, ◌<◌, ◌≤◌, Bool, true, false, cond, not, ◌&&◌, eqb, ltb, leb, List, [], ◌∷◌, length, get_or, take, drop, sym, refl, ap, ◌∙◌, ⊎_elim, pow-suc, suc-ne-zero, add-one, arith, drop_of_length-le, drop-cons, w64, Fits, ltb-true, le-ltb, eq-eqb, ne_eqb, eqb-true, le-leb}
+use Rattle.std.proofs.Common.{◌≡◌, ℕ, suc, ◌+◌, ◌-◌, ◌*◌, ◌^◌, ◌<◌, ◌≤◌, Bool, true, false, cond, not, ◌&&◌, eqb, ltb, leb, List, [], ◌∷◌, length, get_or, take, drop, sym, refl, ap, ◌∙◌, ⊎_elim, pow-suc, suc-ne-zero, add-one, arith, drop-cons, w64, Fits, ltb-true, eq-eqb, ne_eqb, eqb-true}
 use mathlib.Core.Bool.{and-false}
 use native.Mathlib.Nat.{pow-le-pow_right}
 use lib.ListN.{get_or-eq_default}
@@ -8,12 +8,10 @@ use Rattle.octets.proofs.Bools.{split, not_both, both_l, both_r}
 use Rattle.octets.proofs.Places.{below_or}
 use Rattle.decimal.specs.Reading.{is_digit, digit_of, run_of, digit_run}
 use Rattle.decimal.proofs.Scans.{rest_is, run_step, run_within, scan_more, scan_stop, scan_end}
-use Rattle.decimal.proofs.Numbers.{digit_is, digit_some, digit_none, digit_low, digit_high}
+use Rattle.decimal.proofs.Numbers.{digit_is, digit_some, digit_none, digit_low}
 use Rattle.fix.specs.declared.fields.Tag.{Tag}
-use Rattle.fix.specs.declared.fields.Cursor.{Cursor}
-use Rattle.fix.specs.declared.fields.Field.{Field}
-use Rattle.fix.specs.declared.fields.Field.TheVariants.{Good, Broken, End}
-use Rattle.fix.specs.Fields.{is_text, text_run, starts_tag, leading, tag_of, value_from, value_len, Fld, field_of, as_field}
+use Rattle.fix.specs.declared.fields.Field.TheVariants.{Good, Broken}
+use Rattle.fix.specs.Fields.{is_text, text_run, starts_tag, leading, tag_of, value_from, value_len, field_of, as_field}
 
 -- a byte that is not 0 is within the list
 pub there : (s : List ℕ) (i b : ℕ) → get_or s i 0 ≡ suc b → i < length s

@@ -1,5 +1,5 @@
 -- Sums in one byte: a sum that goes on byte by byte and part by part, and the CheckSum.
-use Rattle.std.proofs.Common.{◌≡◌, ℕ, zero, suc, ◌+◌, ◌-◌, ◌%◌, ◌^◌, ◌<◌, ◌≤◌, List, [], ◌∷◌, length, get_or, take, drop, sym, refl, ap, ◌∙◌, add-one, arith, length-drop, take_all, drop-cons, drop-drop}
+use Rattle.std.proofs.Common.{◌≡◌, ℕ, zero, suc, ◌+◌, ◌-◌, ◌%◌, ◌^◌, ◌<◌, ◌≤◌, List, [], ◌∷◌, length, get_or, take, drop, refl, ◌∙◌, add-one, arith, length-drop, take_all, drop-cons, drop-drop}
 use Rattle.fix.specs.Garbled.{sum_of, check_sum}
 use Rattle.fix.specs.Steps.{Carried}
 

@@ -1,24 +1,23 @@
 -- What is known once the header is read, and the verdict: each test that fails makes the message garbled, and all together
 -- say that it is not.
-use Rattle.std.proofs.Common.{◌≡◌, ℕ, zero, suc, ◌+◌, ◌-◌, ◌%◌, ◌^◌, ◌<◌, ◌≤◌, Bool, true, false, cond, not, ◌&&◌, ◌||◌, eqb, ltb, leb, List, [], ◌∷◌, length, get_or, take, drop, set, replicate, sym, refl, ap, ◌∙◌, subst, suc-ne-zero, arith, eq-eqb, ne_eqb, le-leb}
+use Rattle.std.proofs.Common.{◌≡◌, ℕ, ◌-◌, ◌<◌, Bool, true, false, cond, not, eqb, leb, List, length, sym, refl, ap, ◌∙◌, subst, suc-ne-zero, arith, eq-eqb, ne_eqb, le-leb}
 use mathlib.Core.Bool.{and-false}
 use borrow.Author.Tests.{not-true, not-false, lt-leb}
-use Rattle.octets.specs.Octets.{part_at, same_bytes}
-use Rattle.octets.proofs.Bools.{split, both_i}
+use Rattle.octets.specs.Octets.{part_at}
 use Rattle.decimal.specs.declared.Said.{Said}
 use Rattle.decimal.specs.declared.Said.TheVariants.{Value, Wrong}
-use Rattle.decimal.specs.Reading.{num_of, is_time}
+use Rattle.decimal.specs.Reading.{num_of}
 use Rattle.fix.specs.declared.fields.Found.{Found}
-use Rattle.fix.specs.declared.fields.Found.TheVariants.{At, Nothing}
+use Rattle.fix.specs.declared.fields.Found.TheVariants.{Nothing}
 use Rattle.fix.specs.declared.frame.Part.{Part}
 use Rattle.fix.specs.declared.frame.Places.{Places}
 use Rattle.fix.specs.declared.frame.Head.{Head}
 use Rattle.fix.specs.declared.frame.Frame.{Frame}
 use Rattle.fix.specs.declared.frame.Frame.TheVariants.{Garbled, Good}
 use Rattle.fix.specs.declared.frame.Opening.{Opening}
-use Rattle.fix.specs.Fields.{Fld, fields_from, fields_of, find_tag, value_of, has_tag, repeats, last_tag_or, clean_fields}
-use Rattle.fix.specs.Garbled.{headed_by, header, ordered, fix42, said_of, says_it, header_right, part_of, end_of, ten_at, length_true, check_sum, sum_true, garbled_message, body_part, head_of, frame_of}
-use Rattle.fix.specs.Steps.{Counted, OpeningSays, Ended, Placed, part_in, right_of, sums_of, Laid}
+use Rattle.fix.specs.Fields.{fields_of, find_tag, value_of, last_tag_or, clean_fields}
+use Rattle.fix.specs.Garbled.{ordered, said_of, says_it, header_right, part_of, end_of, ten_at, length_true, sum_true, garbled_message, body_part, head_of, frame_of}
+use Rattle.fix.specs.Steps.{OpeningSays, part_in, right_of, sums_of, Laid}
 use Rattle.fix.proofs.Loops.{found_inside}
 use Rattle.fix.proofs.Opening.{garbled_order, garbled_header, garbled_length, garbled_sum, value_part}
 

@@ -1,12 +1,12 @@
 -- The list of fields, step by step: what a cursor's step says of the fields that are left.
-use Rattle.std.proofs.Common.{◌≡◌, ℕ, zero, suc, ◌+◌, ◌-◌, ◌*◌, ◌^◌, ◌<◌, ◌≤◌, Bool, true, false, cond, eqb, ltb, List, [], ◌∷◌, length, get_or, take, drop, sym, refl, ap, ◌∙◌, subst, not-suc-le-zero, add-zero, add-suc, suc-add, zero-add, arith, length-drop, drop_of_length-le, drop-drop, ltb-false, ltb-true, ne_eqb, eqb-true}
+use Rattle.std.proofs.Common.{◌≡◌, ℕ, zero, suc, ◌+◌, ◌-◌, ◌<◌, ◌≤◌, Bool, true, false, cond, eqb, ltb, List, [], ◌∷◌, length, get_or, drop, sym, refl, ap, ◌∙◌, subst, not-suc-le-zero, add-zero, add-suc, suc-add, arith, length-drop, drop_of_length-le, drop-drop, ltb-false, ltb-true, eqb-true}
 use lib.Seq.{drop-nil}
 use borrow.Author.Tests.{eqb-false}
 use Rattle.octets.proofs.Bools.{split}
 use Rattle.fix.specs.declared.fields.Cursor.{Cursor}
 use Rattle.fix.specs.declared.fields.Field.{Field}
 use Rattle.fix.specs.declared.fields.Field.TheVariants.{Good, Broken, End}
-use Rattle.fix.specs.Fields.{tag_of, Fld, field_of, as_field, step_of, fields_after, fields_from, value_from, value_len}
+use Rattle.fix.specs.Fields.{Fld, field_of, step_of, fields_after, fields_from, value_from, value_len}
 use Rattle.fix.proofs.Spelling.{there}
 
 -- ---- the list, past the bytes of a field

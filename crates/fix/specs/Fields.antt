@@ -1,11 +1,10 @@
 -- What the fields of a message are. From "Reading a message" of document 01: a tag of 1 to 4 digits, the first not 0, `=`,
 -- a value of characters 20 to 7E hex, SOH (01 hex). A message is the list of its bytes. A field is its tag and where its
 -- value stands; the tag 0 is no tag, so what is no field has it. Assumes nothing.
-use Rattle.std.specs.Prelude.{ℕ, zero, suc, ◌+◌, ◌-◌, ◌*◌, Bool, true, false, cond, not, ◌&&◌, ◌||◌, List, [], ◌∷◌, length, take, drop, ◌==◌, nat_le, nat_lt, slice_index}
+use Rattle.std.specs.Prelude.{ℕ, zero, suc, ◌+◌, ◌-◌, ◌*◌, Bool, false, cond, not, ◌&&◌, ◌||◌, List, [], ◌∷◌, length, take, drop, ◌==◌, nat_le, nat_lt, slice_index}
 use Rattle.octets.specs.Characters.{byte, soh}
 use Rattle.decimal.specs.Reading.{is_digit, run_of, digit_run}
 use Rattle.fix.specs.declared.fields.Tag.{Tag}
-use Rattle.fix.specs.declared.fields.Cursor.{Cursor}
 use Rattle.fix.specs.declared.fields.Found.{Found}
 use Rattle.fix.specs.declared.fields.Found.TheVariants.{At, Nothing}
 use Rattle.fix.specs.declared.fields.Field.{Field}

@@ -1,6 +1,6 @@
 -- When a message is garbled, and where the parts of one that is not stand. From "Reading a message" of document 01: length,
 -- order of the fields, values of the header, BodyLength and CheckSum. Assumes nothing: every list of bytes is garbled or not.
-use Rattle.std.specs.Prelude.{ℕ, zero, suc, ◌+◌, ◌-◌, ◌%◌, Bool, true, false, cond, not, ◌&&◌, List, [], ◌∷◌, length, take, ◌==◌, nat_le, nat_lt}
+use Rattle.std.specs.Prelude.{ℕ, ◌+◌, ◌-◌, ◌%◌, Bool, true, false, cond, not, ◌&&◌, List, [], ◌∷◌, length, take, ◌==◌, nat_le, nat_lt}
 use Rattle.octets.specs.Characters.{bytes}
 use Rattle.octets.specs.Octets.{same_bytes}
 use Rattle.decimal.specs.declared.Said.{Said}

@@ -1,23 +1,22 @@
 -- What the inner functions of the reading answer, one step of it each. Nothing here need be believed: `garbled` and `frame`
 -- do not cite it.
-use Rattle.std.specs.Prelude.{◌≡◌, ℕ, zero, suc, ◌+◌, ◌-◌, ◌*◌, ◌%◌, ◌<◌, ◌≤◌, Bool, true, false, cond, ◌&&◌, List, [], ◌∷◌, length, take, drop, replicate, ◌==◌, ◌≢◌, nat_le, nat_lt, slice_index, slice_index_or, slice_set}
-use Rattle.decimal.specs.declared.Said.TheVariants.{Value, Wrong}
+use Rattle.std.specs.Prelude.{◌≡◌, ℕ, zero, suc, ◌+◌, ◌-◌, ◌*◌, ◌%◌, ◌<◌, ◌≤◌, Bool, true, false, cond, ◌&&◌, List, [], ◌∷◌, length, take, drop, ◌==◌, ◌≢◌, nat_le, nat_lt, slice_index, slice_index_or, slice_set}
+use Rattle.decimal.specs.declared.Said.TheVariants.{Value}
 use Rattle.decimal.specs.Reading.{num_of, is_time}
 use Rattle.octets.specs.Octets.{part_at, same_bytes}
-use Rattle.fix.specs.declared.fields.Found.TheVariants.{At, Nothing}
+use Rattle.fix.specs.declared.fields.Found.TheVariants.{At}
 use Rattle.fix.specs.declared.fields.Tag.{Tag}
 use Rattle.fix.specs.declared.fields.Cursor.{Cursor}
 use Rattle.fix.specs.declared.fields.Field.{Field}
 use Rattle.fix.specs.declared.pass.Text.{Text}
 use Rattle.fix.specs.declared.pass.Walked.{Walked}
-use Rattle.fix.specs.declared.pass.Seat.{Seat}
 use Rattle.fix.specs.declared.pass.Noted.{Noted}
 use Rattle.fix.specs.declared.frame.Part.{Part}
 use Rattle.fix.specs.declared.frame.Head.{Head}
 use Rattle.fix.specs.declared.frame.Frame.{Frame}
 use Rattle.fix.specs.declared.frame.Opening.{Opening}
 use Rattle.fix.specs.declared.frame.Places.{Places}
-use Rattle.fix.specs.Fields.{Fld, text_run, tag_of, field_of, as_field, step_of, fields_of, fields_from, find_tag, value_of, has_tag, repeats, clean_fields, last_tag_or}
+use Rattle.fix.specs.Fields.{Fld, text_run, tag_of, field_of, as_field, step_of, fields_of, find_tag, value_of, has_tag, clean_fields, last_tag_or}
 use Rattle.fix.specs.Garbled.{headed_by, header, fix42, says_it, part_of, end_of, sum_of, check_sum, garbled_message, body_part, frame_of}
 
 -- ---- the values, by their places

@@ -1,7 +1,7 @@
 -- Each order's accounts: over events that can happen, the quantity accepted is what the events since then execute, decrement and
 -- cancel and what is open.
 use mathlib.Core.Path.{◌≡◌, refl, sym, ap, ◌∙◌}
-use mathlib.Core.Bool.{Bool, true, false}
+use mathlib.Core.Bool.{Bool, true}
 use mathlib.Core.List.{List, [], ◌∷◌, ◌++◌}
 use mathlib.Core.Logic.{◌⊎◌, inl, inr}
 use Prim.Native.Nat.{ℕ, zero, suc, ◌+◌, ◌≤◌, ◌<◌}
@@ -14,7 +14,7 @@ use Rattle.matching.specs.declared.Order.{Order}
 use Rattle.matching.specs.declared.Event.{Event}
 use Rattle.matching.specs.declared.Event.TheVariants.{Accepted, Replaced, Withdrawn, Canceled, Decremented, Traded, Killed, Expired}
 use Rattle.matching.specs.Matching.{Book, at, open_of, who, change, after, play, run}
-use Rattle.matching.specs.Held.{Covered, In, Takes, anew, over}
+use Rattle.matching.specs.Held.{Covered, Takes, anew, over}
 use Rattle.matching.specs.Accounts.{tally, trades, decrements, cancels, in_force, sum_with, tallied, accepted}
 use Rattle.matching.specs.Happens.{moves, Fit, Fits, Asked, Follow}
 use Rattle.matching.proofs.Steps.{run_fits}

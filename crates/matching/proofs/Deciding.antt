@@ -1,9 +1,9 @@
 -- The decision on a minimum: when none is asked for, and what a run comes to that was decided: an order that misses its minimum is
 -- killed whole in one step, and one that does not has traded it when its work has ended.
 use mathlib.Core.Path.{◌≡◌, refl, sym, ap, ◌∙◌}
-use mathlib.Core.Bool.{Bool, true, false, ◌&&◌}
-use mathlib.Core.List.{List, [], ◌∷◌}
-use mathlib.Core.Logic.{◌≢◌, ◌⊎◌, inl, inr}
+use mathlib.Core.Bool.{true, false}
+use mathlib.Core.List.{[], ◌∷◌}
+use mathlib.Core.Logic.{◌⊎◌, inl, inr}
 use Prim.Native.Nat.{ℕ, zero, suc, ◌+◌, ◌-◌, ◌≤◌, ◌<◌}
 use native.Mathlib.Omega.{arith}
 use native.Mathlib.Nat.{add_comm}
@@ -11,9 +11,8 @@ use lib.ListN.{length}
 use lib.Dec.{eqb, ltb}
 use borrow.Author.Tests.{ltb-false, lt-ltb, le-ltb, eq-eqb, ne_eqb}
 use Rattle.octets.proofs.Bools.{split, both_not_r}
-use Rattle.matching.specs.declared.Event.{Event}
 use Rattle.matching.specs.declared.Event.TheVariants.{Killed}
-use Rattle.matching.specs.Matching.{Book, at, open_of, is_open, partner, outcome, causes, after, play, happens, work_after, Ran, run, minimum_of, would_trade, misses, decided_after}
+use Rattle.matching.specs.Matching.{Book, at, open_of, outcome, causes, after, play, happens, work_after, Ran, run, minimum_of, would_trade, misses, decided_after}
 use Rattle.matching.specs.Held.{In}
 use Rattle.matching.specs.Accounts.{tally}
 use Rattle.matching.specs.Happens.{Fits}

@@ -10,7 +10,7 @@ use native.Mathlib.Omega.{arith}
 use lib.ListN.{length, get_or}
 use lib.Dec.{ltb, leb, eqb}
 use borrow.Author.Tests.{ltb-true, ltb-false, leb-true, leb-false, eqb-true, eqb-false, lt-ltb, le-leb, eq-eqb, ne_eqb}
-use Rattle.octets.proofs.Bools.{split, not_both, both_i, both_l, both_r, both_not_l, both_not_r}
+use Rattle.octets.proofs.Bools.{split, not_both, both_i, both_l, both_r}
 use Rattle.matching.specs.declared.Order.{Order}
 use Rattle.matching.specs.Matching.{Book, at, open_of, is_open, is_buy, buys, ahead, opposite, meets, better, faces, choose, best, partner, sum_over, count_of}
 use Rattle.matching.specs.Depth.{on_side, stands, orders_on}

@@ -6,20 +6,20 @@ use mathlib.Core.List.{List, [], ◌∷◌, ◌++◌, map, append_assoc, append-
 use mathlib.Core.Logic.{◌≢◌}
 use Prim.Native.Nat.{ℕ, zero, suc, ◌+◌, ◌-◌, ◌≤◌, ◌<◌, min}
 use native.Mathlib.Omega.{arith}
-use lib.ListN.{length, get_or}
-use lib.Dec.{ltb, leb, eqb}
-use borrow.Author.Tests.{ltb-true, ltb-false, eqb-true, eqb-false, lt-ltb, le-ltb, eq-eqb, ne_eqb}
-use Rattle.octets.proofs.Bools.{split, not_both, both_i, both_l, both_r}
+use lib.ListN.{length}
+use lib.Dec.{ltb, eqb}
+use borrow.Author.Tests.{ltb-true, ltb-false, eqb-true, eqb-false, lt-ltb, eq-eqb, ne_eqb}
+use Rattle.octets.proofs.Bools.{split, not_both, both_l}
 use Rattle.matching.specs.declared.Order.{Order}
 use Rattle.matching.specs.declared.Event.{Event}
-use Rattle.matching.specs.declared.Event.TheVariants.{Canceled, Traded, Killed, Expired}
-use Rattle.matching.specs.Matching.{Book, at, open_of, is_open, is_buy, is_immediate, buys, crosses, meets, better, faces, best, same_owner, partner, prevention, meeting, ending, outcome, preventing, causes, after, play, happens, book_after, work_after, Ran, run, would_trade, misses, minimum_of}
+use Rattle.matching.specs.declared.Event.TheVariants.{Canceled, Traded, Expired}
+use Rattle.matching.specs.Matching.{Book, at, open_of, is_open, is_buy, is_immediate, buys, crosses, meets, best, same_owner, partner, prevention, meeting, ending, outcome, preventing, causes, after, play, happens, work_after, Ran, run, would_trade, misses}
 use Rattle.matching.specs.Depth.{stands}
 use Rattle.matching.specs.InTurn.{in_turn}
 use Rattle.matching.specs.Held.{In, amount}
 use Rattle.matching.specs.Accounts.{tally, trades, cancels}
 use Rattle.matching.specs.Happens.{Fit, Fits}
-use Rattle.matching.specs.OutOfTheWay.{those, facing, is_of, others_on, Lot, lot_of, SameOrder, OutOfTheWay, fill, fills, lapse, lapsed, SameFills}
+use Rattle.matching.specs.OutOfTheWay.{those, facing, is_of, others_on, Lot, lot_of, SameOrder, OutOfTheWay, fill, fills, lapsed, SameFills}
 use Rattle.matching.proofs.Books.{open_in}
 use Rattle.matching.proofs.Events.{two_fit, change_open, change_executed, change_canceled, after_same, play_tally, Terms, terms_of, play_terms, play_open, length_play}
 use Rattle.matching.proofs.Steps.{both_no, best_none, Pair, paired, happens_fits, run_plays, run_fits}

@@ -1,15 +1,15 @@
 -- How own orders come out of the way: canceled one by one, each as its owner asks; and an order that enters on the other side, or is
 -- replaced there, leaves those of this side as they are.
 use mathlib.Core.Path.{◌≡◌, refl, sym, ap, ◌∙◌}
-use mathlib.Core.Bool.{Bool, true, false, not, ◌&&◌}
+use mathlib.Core.Bool.{true, false, not, ◌&&◌}
 use mathlib.Core.List.{List, [], ◌∷◌, map}
 use mathlib.Core.Logic.{◌≢◌}
 use Prim.Native.Nat.{ℕ, suc, ◌≤◌, ◌<◌}
 use native.Mathlib.Omega.{arith}
 use lib.ListN.{length}
 use lib.Dec.{eqb}
-use borrow.Author.Tests.{ltb-true, eqb-true, eqb-false}
-use Rattle.octets.proofs.Bools.{split, not_both, both_i, both_l, both_r}
+use borrow.Author.Tests.{eqb-true, eqb-false}
+use Rattle.octets.proofs.Bools.{split, not_both, both_i}
 use Rattle.matching.specs.declared.Event.{Event}
 use Rattle.matching.specs.declared.Event.TheVariants.{Withdrawn}
 use Rattle.matching.specs.Matching.{Book, at, open_of, who, after}
@@ -17,10 +17,9 @@ use Rattle.matching.specs.Held.{In}
 use Rattle.matching.specs.Happens.{Fit}
 use Rattle.matching.specs.Depth.{stands}
 use Rattle.matching.specs.InTurn.{in_turn}
-use Rattle.matching.specs.OutOfTheWay.{those, is_of, others_on, Lot, lot_of, OutOfTheWay}
+use Rattle.matching.specs.OutOfTheWay.{is_of, others_on, Lot, lot_of, OutOfTheWay}
 use Rattle.matching.proofs.Events.{after_there, after_same, after_other, change_open}
-use Rattle.matching.proofs.Steps.{both_no}
-use Rattle.matching.proofs.InTurn.{Each, each_imp, each_those, in_turn_stands, those_all, Stay, in_turn_stay, closed_stands, and_true}
+use Rattle.matching.proofs.InTurn.{Each, each_imp, in_turn_stands, those_all, in_turn_stay, closed_stands, and_true}
 use Rattle.matching.proofs.OutOfTheWay.{lots_same}
 
 -- ---- a side that stays as it is

@@ -2,37 +2,33 @@
 -- longer than its slots allow.
 use Prim.Native.Nat.{ℕ, zero, suc, ◌+◌, ◌-◌, ◌≤◌, ◌<◌, zero-le}
 use mathlib.Core.Path.{◌≡◌, refl, sym, ap, ◌∙◌, subst}
-use mathlib.Core.Bool.{Bool, true, false, cond, ◌&&◌}
-use mathlib.Core.List.{List, [], ◌∷◌, ◌++◌, append_assoc, append-nil}
+use mathlib.Core.Bool.{true, false}
+use mathlib.Core.List.{List, [], ◌∷◌, ◌++◌, append_assoc}
 use native.Mathlib.Omega.{arith}
 use native.Mathlib.Nat.{add-zero}
-use lib.Dec.{ltb, leb, eqb}
-use lib.ListN.{length, take, drop, get_or, length-append, length-drop}
+use lib.ListN.{length, take, drop, get_or, length-append}
 use lib.Seq.{take_at, drop_at}
 use borrow.Author.Tests.{eq-eqb, ne_eqb, le-leb}
 use Rattle.octets.specs.Octets.{part_at, same_bytes}
-use Rattle.octets.proofs.Bools.{split}
 use Rattle.decimal.specs.Writing.{decimal}
 use Rattle.decimal.specs.Canonical.{bare_of, within}
-use Rattle.decimal.specs.declared.Said.TheVariants.{Value as Says, Wrong as Saysnot}
+use Rattle.decimal.specs.declared.Said.TheVariants.{Value as Says}
 use Rattle.decimal.proofs.RoundTrip.{bare_back}
 use Rattle.report.specs.declared.Value.{Value}
 use Rattle.report.specs.declared.Value.TheVariants.{Absent, Number, Char, Word, Sent, Stored, Level, Mean}
 use Rattle.report.specs.declared.Field.{Field}
 use Rattle.report.specs.declared.Slot.{Slot}
-use Rattle.report.specs.declared.Pick.{Pick}
-use Rattle.report.specs.declared.Pick.TheVariants.{Is, No}
-use Rattle.report.specs.declared.Got.{Got}
-use Rattle.report.specs.declared.Got.TheVariants.{Value as Found, Wrong}
-use Rattle.report.specs.declared.Frame.TheVariants.{Body, Not}
+use Rattle.report.specs.declared.Pick.TheVariants.{Is}
+use Rattle.report.specs.declared.Got.TheVariants.{Value as Found}
+use Rattle.report.specs.declared.Frame.TheVariants.{Body}
 use Rattle.report.specs.declared.Kind.{Kind}
 use Rattle.report.specs.declared.Kind.TheVariants.{Accepted, Replaced, Canceled, Trade, Rejected, CancelReject, SessionReject, Refused}
 use Rattle.report.specs.Fields.{field, is_absent, value_bytes, label, written, field_bytes, row_bytes}
 use Rattle.report.specs.Frame.{check_sum, version, front, trailer, report_bytes}
 use Rattle.report.specs.Shapes.{number_in, value_in}
-use Rattle.report.specs.Parse.{starts, len_to, got_of, value_at, field_at, Rows, row, bad, cons_row, next_rows, read_row}
-use Rattle.report.specs.Reports.{length_in, length_slot, body_at, trailer_at, checked, read_framed, one_reason, agreed, reading_of}
-use Rattle.report.proofs.Bytes.{field_some, field_none, length_written, report_length, trailer_length}
+use Rattle.report.specs.Parse.{starts, len_to, field_at, row, cons_row, next_rows, read_row}
+use Rattle.report.specs.Reports.{length_slot, body_at, trailer_at, checked, read_framed, one_reason, agreed, reading_of}
+use Rattle.report.proofs.Bytes.{field_none}
 use Rattle.report.proofs.Parses.{value_is}
 use Rattle.report.proofs.Taken.{NoSoh, Taken, Proper, taken, width_of}
 
@@ -121,13 +117,14 @@ fit_taken : (sent stored : List ℕ) (slot : Slot) (f : Field) (place : ℕ) →
     → Taken (value_bytes sent stored f.value) (width_of slot.shape) place (moved sent stored place f.value)
 fit_taken sent stored slot f place p = taken slot.shape place (value_bytes sent stored f.value) (moved sent stored place f.value) p.proper (p.picked place)
 
-pub rows_back : (pre sent stored post : List ℕ) (slots : List Slot) (fs : List Field) → Fits sent stored post slots fs
+pub rows_back : (sent stored post pre : List ℕ) (slots : List Slot) (fs : List Field) → Fits sent stored post slots fs
     → read_row (pre ++ (row_bytes sent stored fs ++ post)) (length pre) slots ≡ row (backs sent stored (length pre) fs) (length pre + length (row_bytes sent stored fs))
-rows_back pre sent stored post slots fs fits_none = ap (λ (k : ℕ). row [] k) (sym (add-zero (length pre)))
-rows_back pre sent stored post slots fs (fits_skip {slot} {f} {slots = ss} {fs = gs} fe o e p) =
+unfolding field_bytes field_at label
+rows_back sent stored post pre slots fs fits_none = ap (λ (k : ℕ). row [] k) (sym (add-zero (length pre)))
+rows_back sent stored post pre slots fs (fits_skip {slot} {f} {slots = ss} {fs = gs} fe o e p) =
     subst (λ (g : Field). read_row (pre ++ ((field_bytes sent stored g ++ row_bytes sent stored gs) ++ post)) (length pre) (slot ∷ ss)
     ≡ row (backs sent stored (length pre) (g ∷ gs)) (length pre + length (field_bytes sent stored g ++ row_bytes sent stored gs))) (sym fe)
-    (skipped (rows_back pre sent stored post ss gs p))
+    (skipped (rows_back sent stored post pre ss gs p))
   where
     none : field_bytes sent stored (field slot.tag Absent) ≡ []
     none = field_none sent stored (field slot.tag Absent) refl
@@ -140,7 +137,7 @@ rows_back pre sent stored post slots fs (fits_skip {slot} {f} {slots = ss} {fs =
         (ap (λ g. next_rows slot.tag g (λ n. read_row (pre ++ (row_bytes sent stored gs ++ post)) n ss)) (skip_back pre (row_bytes sent stored gs ++ post) slot o e)
         ∙ ap (cons_row (field slot.tag Absent)) ih
         ∙ ap (λ (k : ℕ). row (field slot.tag Absent ∷ backs sent stored k gs) (length pre + length (row_bytes sent stored gs))) (sym (add-zero (length pre))))
-rows_back pre sent stored post slots fs (fits_some {slot} {f} {slots = ss} {fs = gs} p r) =
+rows_back sent stored post pre slots fs (fits_some {slot} {f} {slots = ss} {fs = gs} p r) =
     let b = field_bytes sent stored f in
     let t = row_bytes sent stored gs in
     let s = pre ++ ((b ++ t) ++ post) in
@@ -154,7 +151,7 @@ rows_back pre sent stored post slots fs (fits_some {slot} {f} {slots = ss} {fs =
     let one : field_at s (length pre) slot ≡ Found y (length pre + length b) =
     rw (s_is, fit_bytes sent stored slot f p) (field_back pre v (t ++ post) slot y clean (p.picked (length pre + length (label slot.tag)))) in
     let rest : read_row s (length pre + length b) ss ≡ row (backs sent stored (length pre + length b) gs) (length pre + length (b ++ t)) =
-    rw (last, s_is₂, ← next) (rows_back (pre ++ b) sent stored post ss gs r) in
+    rw (last, s_is₂, ← next) (rows_back sent stored post (pre ++ b) ss gs r) in
     ap (λ g. next_rows slot.tag g (λ n. read_row s n ss)) one
     ∙ ap (cons_row (field slot.tag y)) rest
     ∙ ap (λ (g : ℕ). row (field g (moved sent stored (length pre + length (label g)) f.value) ∷ backs sent stored (length pre + length b) gs) (length pre + length (b ++ t))) (sym p.tag_is)
@@ -240,7 +237,7 @@ framed_back sent stored slots fs l h f =
     let s = pre ++ body ++ tail in
     let s_is : s ≡ pre ++ (body ++ tail) = append_assoc pre body tail in
     let read : read_row s (start body) slots ≡ row (backs sent stored (start body) fs) (start body + n) =
-    ap (λ (w : List ℕ). read_row w (start body) slots) s_is ∙ rows_back pre sent stored tail slots fs f in
+    ap (λ (w : List ℕ). read_row w (start body) slots) s_is ∙ rows_back sent stored tail pre slots fs f in
     let end : length (pre ++ body) ≡ start body + n = length-append pre body in
     let before : take (start body + n) s ≡ pre ++ body = take_at (pre ++ body) tail (start body + n) end in
     let after : drop (start body + n) s ≡ tail = drop_at (pre ++ body) tail (start body + n) end in

@@ -1,9 +1,9 @@
 -- The bytes of rows and reports: one field more, and how long they are.
-use Prim.Native.Nat.{ℕ, zero, suc, ◌+◌, ◌≤◌, ◌<◌}
+use Prim.Native.Nat.{ℕ, suc, ◌+◌, ◌≤◌, ◌<◌}
 use native.Mathlib.Omega.{arith}
 use native.Mathlib.Numerals.{add-one}
 use mathlib.Core.Path.{◌≡◌, refl, sym, ap, ◌∙◌}
-use mathlib.Core.Bool.{Bool, true, false, cond}
+use mathlib.Core.Bool.{true, false}
 use mathlib.Core.List.{List, [], ◌∷◌, ◌++◌, append_assoc, append-nil}
 use lib.Dec.{lit<}
 use lib.ListN.{take, drop, length, get_or, length-append, take-append-drop}
@@ -13,8 +13,7 @@ use Rattle.decimal.proofs.Digits.{decimal_few, length_places}
 use Rattle.octets.specs.Written.{Room, Wrote}
 use Rattle.octets.proofs.Runs.{room_first, room_then, then}
 use Rattle.report.specs.declared.Field.{Field}
-use Rattle.report.specs.declared.Value.{Value}
-use Rattle.report.specs.declared.Value.TheVariants.{Absent, Number, Char, Word, Sent, Stored, Level, Mean}
+use Rattle.report.specs.declared.Value.TheVariants.{Absent}
 use Rattle.report.specs.Fields.{field, is_absent, value_bytes, label, written, field_bytes, row_bytes}
 use Rattle.report.specs.Frame.{check_sum, version, front, trailer, report_bytes}
 

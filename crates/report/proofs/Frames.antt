@@ -1,20 +1,18 @@
 -- The frame of a report: what each answer of its readers rests on.
-use Prim.Native.Nat.{ℕ, zero, suc, ◌+◌, ◌-◌, ◌^◌, ◌≤◌, ◌<◌}
+use Prim.Native.Nat.{ℕ, ◌+◌, ◌-◌, ◌^◌, ◌≤◌, ◌<◌}
 use mathlib.Core.Path.{◌≡◌, refl, sym, ap, ◌∙◌}
 use mathlib.Core.Bool.{Bool, true, false, cond, not, ◌&&◌, and-false}
-use mathlib.Core.List.{List, [], ◌∷◌, ◌++◌}
+use mathlib.Core.List.{List, [], ◌∷◌}
 use native.Mathlib.Omega.{arith}
-use lib.Dec.{ltb, leb, eqb}
-use lib.ListN.{length, take, drop, get_or, replicate, length-drop, length-take}
+use lib.Dec.{leb, eqb}
+use lib.ListN.{length, take, drop, replicate, length-drop}
 use lib.Seq.{take_all}
 use mir.Syntax.{w64}
 use mir.Val.{Fits}
 use borrow.Author.Tests.{le-leb, lt-leb, leb-true, not-true, not-false}
 use Rattle.octets.specs.Octets.{part_at, same_bytes}
-use Rattle.octets.specs.Written.{Room, Wrote}
-use Rattle.octets.proofs.Runs.{wrote_front}
+use Rattle.octets.specs.Written.{Room}
 use Rattle.octets.proofs.Bools.{split}
-use Rattle.report.specs.declared.Value.{Value}
 use Rattle.report.specs.declared.Value.TheVariants.{Absent, Number, Char, Word, Sent, Stored, Level, Mean}
 use Rattle.report.specs.declared.Slot.{Slot}
 use Rattle.report.specs.declared.Row.{Row}

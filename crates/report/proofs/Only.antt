@@ -1,22 +1,21 @@
 -- What is read, written again, is the same bytes: a field, a row, a whole report. So only the one way of writing is read.
-use Prim.Native.Nat.{ℕ, zero, suc, ◌+◌, ◌-◌, ◌≤◌, ◌<◌}
+use Prim.Native.Nat.{ℕ, suc, ◌+◌, ◌-◌, ◌≤◌, ◌<◌}
 use mathlib.Core.Path.{◌≡◌, refl, sym, ap, ◌∙◌, subst}
 use mathlib.Core.Bool.{Bool, true, false, cond, ◌&&◌, false≢true}
 use mathlib.Core.List.{List, [], ◌∷◌, ◌++◌, append_assoc}
 use native.Mathlib.Omega.{arith}
 use native.Mathlib.Nat.{not-suc-le-zero}
 use lib.Dec.{ltb, leb, eqb}
-use lib.ListN.{length, take, drop, length-drop, length-take, length-append, take-append-drop}
+use lib.ListN.{length, take, drop, length-drop, length-append, take-append-drop}
 use lib.Seq.{take_at, take-add, drop-drop, length-take-le}
-use borrow.Author.Tests.{eqb-true, eqb-false, ltb-true}
-use Rattle.octets.specs.Octets.{part_at, same_bytes}
+use borrow.Author.Tests.{eqb-true, ltb-true}
+use Rattle.octets.specs.Octets.{part_at}
 use Rattle.octets.proofs.Bools.{split, both_l, both_r}
 use Rattle.decimal.specs.Writing.{decimal}
 use Rattle.report.specs.declared.Value.{Value}
 use Rattle.report.specs.declared.Value.TheVariants.{Absent, Number, Char, Word, Sent, Stored, Level, Mean}
 use Rattle.report.specs.declared.Field.{Field}
 use Rattle.report.specs.declared.Shape.{Shape}
-use Rattle.report.specs.declared.Shape.TheVariants as shape
 use Rattle.report.specs.declared.Slot.{Slot}
 use Rattle.report.specs.declared.Pick.{Pick}
 use Rattle.report.specs.declared.Pick.TheVariants.{Is, No}
@@ -24,15 +23,14 @@ use Rattle.report.specs.declared.Got.{Got}
 use Rattle.report.specs.declared.Got.TheVariants.{Value as Found, Wrong}
 use Rattle.report.specs.declared.Frame.{Frame}
 use Rattle.report.specs.declared.Frame.TheVariants.{Body, Not}
-use Rattle.report.specs.Fields.{field, is_absent, value_bytes, label, written, field_bytes, row_bytes}
+use Rattle.report.specs.Fields.{field, value_bytes, label, written, field_bytes, row_bytes}
 use Rattle.report.specs.Frame.{check_sum, version, front, trailer, report_bytes}
 use Rattle.report.specs.Shapes.{value_in}
 use Rattle.report.specs.Parse.{starts, len_to, got_of, value_at, field_at, Rows, row, bad, cons_row, next_rows, read_row}
 use Rattle.report.specs.Reports.{length_in, length_slot, body_at, trailer_at, checked, in_frame, read_framed}
-use Rattle.report.proofs.Bytes.{field_some, field_none}
+use Rattle.report.proofs.Bytes.{field_some}
 use Rattle.report.proofs.Labels.{starts_length}
-use Rattle.report.proofs.Frames.{body_within}
-use Rattle.report.proofs.Taken.{Taken, Proper, taken, same_is}
+use Rattle.report.proofs.Taken.{Proper, taken, same_is}
 
 -- ---- pieces of a list
 pub starts_split : (p s : List ℕ) → starts p s ≡ true → s ≡ p ++ drop (length p) s

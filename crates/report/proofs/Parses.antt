@@ -1,11 +1,11 @@
 -- Reading fields slot by slot: what each answer rests on, and what the loop over the slots knows after i of them.
-use Prim.Native.Nat.{ℕ, zero, suc, ◌+◌, ◌-◌, ◌^◌, ◌≤◌, ◌<◌, zero-le}
+use Prim.Native.Nat.{ℕ, suc, ◌+◌, ◌-◌, ◌^◌, ◌≤◌, ◌<◌}
 use mathlib.Core.Path.{◌≡◌, refl, sym, ap, ◌∙◌}
-use mathlib.Core.Bool.{Bool, true, false, cond, false≢true}
+use mathlib.Core.Bool.{Bool, true, false, cond}
 use mathlib.Core.List.{List, [], ◌∷◌, ◌++◌}
 use native.Mathlib.Omega.{arith}
 use native.Mathlib.Numerals.{add-one}
-use lib.Dec.{ltb, eqb}
+use lib.Dec.{ltb}
 use lib.ListN.{length, take, drop, get_or, set, replicate, length-drop, length-append, drop_of_length-le}
 use lib.Seq.{drop-cons, set_at, append_snoc}
 use mir.Syntax.{w64}
@@ -25,7 +25,7 @@ use Rattle.report.specs.declared.Got.{Got}
 use Rattle.report.specs.declared.Got.TheVariants.{Value as Found, Wrong}
 use Rattle.report.specs.Fields.{field, label}
 use Rattle.report.specs.Shapes.{value_in}
-use Rattle.report.specs.Parse.{starts, len_to, got_of, value_at, field_at, Rows, row, bad, cons_row, next_rows, read_row, row_of}
+use Rattle.report.specs.Parse.{starts, len_to, got_of, value_at, field_at, Rows, row, bad, cons_row, next_rows, read_row}
 
 -- ---- values
 module _ (s : List ℕ) (v : ℕ) (shape : Shape) (e : ℕ) (k : e ≡ v + len_to (drop v s)) where

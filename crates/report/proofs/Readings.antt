@@ -1,10 +1,9 @@
 -- The kind of a report, where a field stands, and the whole reading: what each answer rests on.
-use Prim.Native.Nat.{ℕ, zero, suc, ◌+◌, ◌-◌, ◌^◌, ◌≤◌, ◌<◌}
-use mathlib.Core.Path.{◌≡◌, refl, sym, ap, ◌∙◌}
-use mathlib.Core.Bool.{Bool, true, false, cond, not, ◌&&◌, ◌||◌}
+use Prim.Native.Nat.{ℕ, ◌+◌, ◌-◌, ◌^◌, ◌≤◌, ◌<◌}
+use mathlib.Core.Path.{◌≡◌, sym, ap, ◌∙◌}
+use mathlib.Core.Bool.{true}
 use mathlib.Core.List.{List}
 use native.Mathlib.Omega.{arith}
-use lib.Dec.{ltb, leb, eqb}
 use lib.ListN.{length, drop, get_or, get_or-eq_default}
 use mir.Syntax.{w64}
 use mir.Val.{Fits}
@@ -12,10 +11,8 @@ use borrow.Author.Tests.{eq-eqb, ne_eqb, lt-ltb, le-ltb}
 use Rattle.decimal.specs.Writing.{decimal}
 use Rattle.decimal.specs.declared.Instrument.{Instrument}
 use Rattle.report.specs.declared.Slot.{Slot}
-use Rattle.report.specs.declared.Field.{Field}
 use Rattle.report.specs.declared.Kind.{Kind}
-use Rattle.report.specs.declared.Kind.TheVariants.{Accepted, Replaced, Canceled, Trade, Rejected, CancelReject, SessionReject, Refused}
-use Rattle.report.specs.declared.Part.{Part}
+use Rattle.report.specs.declared.Kind.TheVariants.{CancelReject, SessionReject, Refused}
 use Rattle.report.specs.declared.Part.TheVariants.{At, Nowhere}
 use Rattle.report.specs.declared.Reading.{Reading}
 use Rattle.report.specs.Fields.{label}

@@ -1,20 +1,20 @@
 -- What a value that a shape takes is like: it has no SOH and at most so many bytes, and writing what was read gives it again.
-use Prim.Native.Nat.{ℕ, zero, suc, ◌+◌, ◌-◌, ◌*◌, ◌/◌, ◌^◌, ◌≤◌, ◌<◌, zero-le}
+use Prim.Native.Nat.{ℕ, suc, ◌-◌, ◌/◌, ◌^◌, ◌≤◌, ◌<◌}
 use mathlib.Core.Path.{◌≡◌, refl, sym, ap, ◌∙◌, subst}
 use mathlib.Core.Bool.{Bool, true, false, cond, ◌&&◌, ◌||◌, false≢true}
 use mathlib.Core.List.{List, [], ◌∷◌, ◌++◌}
 use native.Mathlib.Omega.{arith}
-use native.Mathlib.Nat.{pow-le-pow_right, div-le_self}
+use native.Mathlib.Nat.{div-le_self}
 use lib.Dec.{ltb, leb, eqb, lit<, lit≤}
-use lib.ListN.{length, take, drop, get_or, length-append}
-use borrow.Author.Tests.{eqb-true, ltb-false, eqb-false, leb-true}
+use lib.ListN.{length, get_or}
+use borrow.Author.Tests.{eqb-true, ltb-false, leb-true}
 use Rattle.octets.specs.Octets.{part_at, same_bytes}
 use Rattle.octets.proofs.Bools.{split, both_l, both_r}
 use Rattle.decimal.specs.declared.Instrument.{Instrument}
 use Rattle.decimal.specs.declared.Instrument.TheVariants.{Bonds, Equities}
 use Rattle.decimal.specs.declared.Said.{Said}
 use Rattle.decimal.specs.declared.Said.TheVariants.{Value as Says, Wrong as Saysnot}
-use Rattle.decimal.specs.Reading.{digit_run, run_of, number, is_number, num_of, is_time}
+use Rattle.decimal.specs.Reading.{digit_run, number, is_number, num_of, is_time}
 use Rattle.decimal.specs.Instruments.{amount_from, signed, decimals, mean_decimals, highest, highest_mean}
 use Rattle.decimal.specs.Writing.{decimal, places, plain, fixed, zero_of, level_text, mean_text}
 use Rattle.decimal.specs.Canonical.{bare_of, within, level_in, mean_in}
@@ -24,10 +24,9 @@ use Rattle.decimal.proofs.Afters.{digits_head, digits_tail, digits_decimal, digi
 use Rattle.decimal.proofs.Digits.{decimal_few}
 use Rattle.decimal.proofs.RoundTrip.{bare_only, bare_small, level_only, level_within, level_length, mean_only, mean_within, mean_length}
 use Rattle.report.specs.declared.Value.{Value}
-use Rattle.report.specs.declared.Value.TheVariants.{Absent, Number, Char, Word, Sent, Stored, Level, Mean}
+use Rattle.report.specs.declared.Value.TheVariants.{Number, Char, Word, Sent, Level, Mean}
 use Rattle.report.specs.declared.Shape.{Shape}
 use Rattle.report.specs.declared.Shape.TheVariants as shape
-use Rattle.report.specs.declared.Pick.{Pick}
 use Rattle.report.specs.declared.Pick.TheVariants.{Is, No}
 use Rattle.report.specs.Fields.{is_absent, word_bytes, value_bytes}
 use Rattle.report.specs.Shapes.{one_in, number_in, listed_in, word_in, order_id_in, all_from, text_in, place_in, time_in, quote_in, average_in, value_in}

@@ -1,8 +1,7 @@
 -- How the fields of a report are read from its bytes, slot by slot: a slot's tag and `=`, a value that goes to the next SOH and
 -- has the slot's shape; a field that may be missing is passed over where another tag stands. Assumes nothing.
-use Rattle.std.specs.Prelude.{ℕ, zero, suc, ◌+◌, Bool, true, false, cond, ◌&&◌, List, [], ◌∷◌, ltb, eqb, length, take, drop, replicate}
+use Rattle.std.specs.Prelude.{ℕ, suc, ◌+◌, Bool, true, false, cond, ◌&&◌, List, [], ◌∷◌, ltb, eqb, length, take, drop, replicate}
 use Rattle.octets.specs.Characters.{soh}
-use Rattle.report.specs.declared.Value.{Value}
 use Rattle.report.specs.declared.Value.TheVariants.{Absent}
 use Rattle.report.specs.declared.Field.{Field}
 use Rattle.report.specs.declared.Shape.{Shape}

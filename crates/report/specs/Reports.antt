@@ -2,11 +2,10 @@
 -- CheckSum of all before it; the body is the fields of one kind, slot by slot, and nothing else. 35, and 150 where 35 is 8, say
 -- which kind it can be. A Canceled has exactly one of 41 and 378. No other field is compared with another. Each market reads its own
 -- reports: q is what it trades. Assumes nothing.
-use Rattle.std.specs.Prelude.{ℕ, ◌+◌, ◌-◌, Bool, true, false, cond, not, ◌&&◌, List, [], ◌∷◌, ◌++◌, ltb, leb, eqb, length, take, drop, get_or}
+use Rattle.std.specs.Prelude.{ℕ, ◌+◌, Bool, true, false, cond, not, ◌&&◌, List, ltb, leb, eqb, length, take, drop, get_or}
 use Rattle.octets.specs.Octets.{same_bytes}
 use Rattle.octets.specs.Characters.{byte}
 use Rattle.decimal.specs.declared.Instrument.{Instrument}
-use Rattle.report.specs.declared.Value.{Value}
 use Rattle.report.specs.declared.Value.TheVariants.{Absent, Number, Char, Word, Sent, Stored, Level, Mean}
 use Rattle.report.specs.declared.Field.{Field}
 use Rattle.report.specs.declared.Shape.TheVariants as shape

@@ -1,6 +1,6 @@
 -- What the value of a field may be where a report is read, and what it then is: document 01, "The reports", Read, and document
 -- 02, T-08 (prices) and T-09 (37). A text is given as its place in the report. Assumes nothing.
-use Rattle.std.specs.Prelude.{ℕ, Bool, true, false, cond, ◌&&◌, ◌||◌, List, [], ◌∷◌, ltb, leb, eqb, length, get_or}
+use Rattle.std.specs.Prelude.{ℕ, Bool, true, false, cond, ◌||◌, List, [], ◌∷◌, ltb, eqb, length, get_or}
 use Rattle.octets.specs.Octets.{same_bytes}
 use Rattle.octets.specs.Characters.{bytes}
 use Rattle.decimal.specs.declared.Instrument.{Instrument}
@@ -8,8 +8,7 @@ use Rattle.decimal.specs.declared.Said.{Said}
 use Rattle.decimal.specs.declared.Said.TheVariants.{Value as Says, Wrong as Saysnot}
 use Rattle.decimal.specs.Reading.{num_of, is_time}
 use Rattle.decimal.specs.Canonical.{bare_of, within, level_in, mean_in}
-use Rattle.report.specs.declared.Value.{Value}
-use Rattle.report.specs.declared.Value.TheVariants.{Absent, Number, Char, Word, Sent, Stored, Level, Mean}
+use Rattle.report.specs.declared.Value.TheVariants.{Number, Char, Word, Sent, Level, Mean}
 use Rattle.report.specs.declared.Shape.{Shape}
 use Rattle.report.specs.declared.Shape.TheVariants as shape
 use Rattle.report.specs.declared.Pick.{Pick}

@@ -2,7 +2,7 @@
 -- missing, what its value may be. From sections 7.2 and 7.5.1 to 7.5.4 of source documents 000 (bonds) and 003 (equities), without
 -- 797, document 01, "The reports", and document 02, T-05, T-08 and T-09. Both markets have one table for each kind; the entries that
 -- depend on what is traded stand in front. Assumes nothing.
-use Rattle.std.specs.Prelude.{ℕ, Bool, true, false, List, [], ◌∷◌, ◌++◌, replicate, get_or}
+use Rattle.std.specs.Prelude.{ℕ, true, false, List, [], ◌∷◌, ◌++◌, replicate, get_or}
 use Prim.Native.String.{String}
 use Rattle.octets.specs.Characters.{bytes, byte_at}
 use Rattle.decimal.specs.declared.Instrument.{Instrument}

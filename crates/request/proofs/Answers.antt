@@ -1,26 +1,25 @@
 -- From the rows to the answer: the first tag that clashes, the smallest that is missing, the request, and the session rejects
 -- before them.
-use Prim.Native.Nat.{ℕ, zero, suc, ◌+◌, ◌-◌, ◌^◌, ◌≤◌, ◌<◌}
-use mathlib.Core.Path.{◌≡◌, refl, sym, ap, subst, ◌∙◌}
+use Prim.Native.Nat.{ℕ, ◌+◌, ◌≤◌, ◌<◌}
+use mathlib.Core.Path.{◌≡◌, refl, sym, ap, ◌∙◌}
 use mathlib.Core.List.{List, [], ◌∷◌}
 use mathlib.Core.Bool.{Bool, true, false, cond, not, ◌&&◌, ◌||◌}
 use native.Mathlib.Omega.{arith}
 use native.Mathlib.Nat.{suc-ne-zero}
 use native.Mathlib.Numerals.{add-one}
 use lib.Dec.{ltb, eqb}
-use lib.ListN.{length, get_or, set, take, drop, replicate, length-take, length-drop, drop_of_length-le}
+use lib.ListN.{length, get_or, set, drop, replicate, drop_of_length-le}
 use lib.Seq.{drop-cons}
-use borrow.Author.Tests.{eq-eqb, ne_eqb, eqb-true, eqb-false, not-true, not-false}
+use borrow.Author.Tests.{eq-eqb, ne_eqb, not-true, not-false}
 use Rattle.octets.specs.Octets.{part_at, same_bytes}
 use Rattle.octets.proofs.Bools.{split, both_l, both_r}
 use Rattle.decimal.specs.declared.Instrument.{Instrument}
 use Rattle.decimal.specs.declared.Instrument.TheVariants.{Bonds, Equities}
-use Rattle.fix.specs.declared.fields.Found.{Found}
 use Rattle.fix.specs.declared.frame.Part.{Part}
 use Rattle.fix.specs.declared.frame.Head.{Head}
 use Rattle.fix.specs.declared.frame.Frame.{Frame}
 use Rattle.fix.specs.Fields.{Fld, fields_of, find_tag, has_tag, value_of}
-use Rattle.fix.specs.Garbled.{garbled_message, part_of, body_part, head_of, frame_of}
+use Rattle.fix.specs.Garbled.{body_part, head_of}
 use Rattle.fix.specs.Steps.{Held, Framed}
 use Rattle.fix.proofs.Opening.{value_part}
 use Rattle.fix.proofs.Verdict.{is_garbled, is_good_lem, good_head}
@@ -30,9 +29,9 @@ use Rattle.request.specs.declared.Judged.{Judged}
 use Rattle.request.specs.declared.Verdict.{Verdict}
 use Rattle.request.specs.declared.Terms.{Terms}
 use Rattle.request.specs.declared.Asked.{Asked}
-use Rattle.request.specs.declared.Asked.TheVariants.{Garbled, Refused, Enters, Replaces, Cancels}
-use Rattle.request.specs.Session.{kind_of, needed, optional, one_of, belongs, listed, judge, or_else, first_failing, minimum_clashes, margin_clashes, first_clashing, first_missing}
-use Rattle.request.specs.Asks.{length_found, said_in, length_in, has_in, text_in, terms_in, request_in, refusal_of, completed, agreed, after_body, body_asked, is_known, body_of, head_asked, asked_of}
+use Rattle.request.specs.declared.Asked.TheVariants.{Garbled, Enters, Replaces, Cancels}
+use Rattle.request.specs.Session.{kind_of, needed, one_of, belongs, listed, judge, or_else, first_failing, minimum_clashes, margin_clashes, first_clashing, first_missing}
+use Rattle.request.specs.Asks.{length_found, said_in, length_in, has_in, text_in, terms_in, request_in, refusal_of, completed, agreed, body_asked, is_known, body_of, head_asked, asked_of}
 use Rattle.request.specs.Gathers.{slots, slot, Starts, Admitted, kept_says, kept_lens, known, Gathered, Walked, first_unset, row_at, has_row, text_row, terms_row, request_row, Blank, outcome_row, completed_by, agreed_by}
 use Rattle.request.proofs.Keys.{each_is}
 use Rattle.request.proofs.Gathering.{says_means}

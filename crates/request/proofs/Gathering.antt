@@ -1,33 +1,32 @@
 -- The walk over the fields of a body: the verdict, and the rows of what the values say.
-use Prim.Native.Nat.{ℕ, zero, suc, ◌+◌, ◌-◌, ◌*◌, ◌%◌, ◌^◌, ◌≤◌, ◌<◌}
-use mathlib.Core.Path.{◌≡◌, refl, sym, ap, subst, ◌∙◌}
+use Prim.Native.Nat.{ℕ, zero, suc, ◌+◌, ◌-◌, ◌*◌, ◌^◌, ◌≤◌, ◌<◌}
+use mathlib.Core.Path.{◌≡◌, refl, sym, ap, ◌∙◌}
 use mathlib.Core.List.{List, [], ◌∷◌}
 use mathlib.Core.Bool.{Bool, true, false, cond, not, ◌&&◌, ◌||◌, or-true}
 use native.Mathlib.Omega.{arith}
 use native.Mathlib.Nat.{suc-ne-zero}
-use lib.Dec.{ltb, leb, eqb}
+use lib.Dec.{eqb}
 use lib.ListN.{length, get_or, set, take, drop, replicate, length-set}
 use lib.Seq.{get_or-set_same, get_or-set_other}
 use types.Run.{OneOf}
 use borrow.Author.Tests.{eq-eqb, ne_eqb, eqb-true, eqb-false, not-true, not-false}
 use Rattle.octets.specs.Octets.{part_at}
 use Rattle.octets.proofs.Parts.{lent_part}
-use Rattle.octets.proofs.Bools.{split, both_l, both_r, or_r, not_both, neither_l, neither_r}
+use Rattle.octets.proofs.Bools.{split, both_l, both_r, or_r, not_both}
 use Rattle.decimal.specs.declared.Instrument.{Instrument}
 use Rattle.decimal.specs.declared.Instrument.TheVariants.{Bonds, Equities}
-use Rattle.fix.specs.declared.fields.Found.{Found}
 use Rattle.fix.specs.declared.fields.Found.TheVariants.{At, Nothing}
 use Rattle.fix.specs.declared.pass.Seat.{Seat}
 use Rattle.fix.specs.declared.pass.Noted.{Noted}
-use Rattle.fix.specs.Fields.{Fld, fields_of, find_tag, has_tag}
-use Rattle.fix.specs.Steps.{field_at, moved, Holds, Held, seat_of}
+use Rattle.fix.specs.Fields.{Fld, fields_of, find_tag}
+use Rattle.fix.specs.Steps.{field_at, moved, Held, seat_of}
 use Rattle.request.specs.declared.Kind.{Kind}
 use Rattle.request.specs.declared.Kind.TheVariants.{NewOrder, Replacement, Cancel, Unknown}
 use Rattle.request.specs.declared.Judged.{Judged}
 use Rattle.request.specs.declared.Verdict.{Verdict}
-use Rattle.request.specs.Session.{needed, optional, one_of, belongs, listed, shape_of, look_as, judge, or_else, first_failing, first_missing}
-use Rattle.request.specs.Asks.{number_said, said_found, length_found, said_in, length_in}
-use Rattle.request.specs.Gathers.{slots, slot, is_equities, InEach, Starts, kept_says, kept_lens, known, Gathered, Walked, first_unset}
+use Rattle.request.specs.Session.{needed, optional, one_of, belongs, listed, shape_of, look_as, judge, first_failing}
+use Rattle.request.specs.Asks.{said_in, length_in}
+use Rattle.request.specs.Gathers.{slots, slot, is_equities, InEach, Starts, kept_says, kept_lens, known, Walked}
 use Rattle.request.proofs.Insides.{Inside, fields_inside}
 use Rattle.request.proofs.Keys.{Each, covered, none_of, each_is, each_at}
 

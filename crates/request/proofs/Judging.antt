@@ -1,11 +1,11 @@
 -- What a value of each shape says, test by test.
-use Prim.Native.Nat.{ℕ, zero, suc, ◌+◌, ◌-◌, ◌≤◌, ◌<◌}
-use mathlib.Core.Path.{◌≡◌, refl, sym, ap, ◌∙◌}
-use mathlib.Core.List.{List, [], ◌∷◌}
-use mathlib.Core.Bool.{Bool, true, false, cond, not, ◌&&◌, ◌||◌}
+use Prim.Native.Nat.{ℕ, ◌+◌, ◌-◌, ◌≤◌, ◌<◌}
+use mathlib.Core.Path.{◌≡◌, sym, ◌∙◌}
+use mathlib.Core.List.{List}
+use mathlib.Core.Bool.{Bool, true, false, not, ◌&&◌}
 use native.Mathlib.Omega.{arith}
 use native.Mathlib.Numerals.{add-one}
-use lib.Dec.{ltb, leb, eqb}
+use lib.Dec.{leb}
 use lib.ListN.{length, get_or, drop, drop_of_length-le}
 use lib.Seq.{drop-cons}
 use borrow.Author.Tests.{eq-eqb, ne_eqb, not-true, not-false}
@@ -17,7 +17,7 @@ use Rattle.decimal.specs.declared.Said.TheVariants.{Value, Wrong}
 use Rattle.decimal.specs.Reading.{is_digit, num_of, level_of, time_shaped, time_ranged}
 use Rattle.request.specs.declared.Judged.{Judged}
 use Rattle.request.specs.declared.Judged.TheVariants.{Says, Fails}
-use Rattle.request.specs.Session.{one_of, Text, Digits, Amount, Quote, Time, Among, Unlisted, code_shape, side_shape, cash_shape, margin_shape, char_says, look_as}
+use Rattle.request.specs.Session.{one_of, Text, Digits, Amount, Quote, Time, Among, code_shape, side_shape, cash_shape, margin_shape, char_says, look_as}
 
 module _ (at n : ℕ) (v : List ℕ) where
   pub text_is : (leb 1 (length v) && leb (length v) n) ≡ true → Says at ≡ look_as at (Text n) v

@@ -1,7 +1,7 @@
 -- What the numbers and texts of a request may be, whatever the message: the ranges in which a market keeps its orders. A
 -- theorem for each of the three requests.
-use Prim.Native.Nat.{ℕ, zero, suc, ◌+◌, ◌≤◌, ◌<◌}
-use mathlib.Core.Path.{◌≡◌, refl, sym, ap, subst, ◌∙◌}
+use Prim.Native.Nat.{ℕ, ◌≤◌, ◌<◌}
+use mathlib.Core.Path.{◌≡◌, refl, sym, subst}
 use mathlib.Core.List.{List, [], ◌∷◌}
 use mathlib.Core.Bool.{Bool, true, false, cond, not, ◌&&◌, ◌||◌, or-true}
 use native.Mathlib.Omega.{arith}
@@ -15,7 +15,7 @@ use Rattle.decimal.specs.Instruments.{highest}
 use Rattle.fix.specs.declared.fields.Found.{Found}
 use Rattle.fix.specs.declared.fields.Found.TheVariants.{At, Nothing}
 use Rattle.fix.specs.declared.frame.Head.{Head}
-use Rattle.fix.specs.Fields.{fields_of, find_tag, value_of}
+use Rattle.fix.specs.Fields.{fields_of, find_tag}
 use Rattle.fix.specs.Garbled.{head_of, body_part}
 use Rattle.request.specs.declared.Kind.{Kind}
 use Rattle.request.specs.declared.Kind.TheVariants.{NewOrder, Replacement, Cancel, Unknown}
@@ -23,12 +23,11 @@ use Rattle.request.specs.declared.Verdict.{Verdict}
 use Rattle.request.specs.declared.NewOrder.{NewOrder as NewOrderAsked}
 use Rattle.request.specs.declared.Replacement.{Replacement as ReplacementAsked}
 use Rattle.request.specs.declared.Cancellation.{Cancellation}
-use Rattle.request.specs.declared.Asked.{Asked}
 use Rattle.request.specs.declared.Asked.TheVariants.{Enters, Replaces, Cancels}
-use Rattle.request.specs.Session.{kind_of, needed, one_of, belongs, listed, shape_of, Text, first_failing, first_clashing, first_missing}
+use Rattle.request.specs.Session.{needed, one_of, belongs, listed, shape_of, first_failing, first_clashing, first_missing}
 use Rattle.request.specs.Asks.{body_of, said_in, length_in, has_in, text_in, terms_in, request_in, refusal_of, asked_of}
 use Rattle.request.proofs.Clashes.{minimum_below, minimum_tif, margin_apart}
-use Rattle.request.proofs.Told.{Told, Stands, has_stands, lacks_nothing, found_tells, sides, cash_in, margin_in, stands_told, needed_has, needed_told, quantity_range, level_in_lem, mpid_range, minqty_range, side_in, tif_in, capacity_in, class_in, text_in_lem, Passed, request_passed}
+use Rattle.request.proofs.Told.{Told, has_stands, lacks_nothing, found_tells, sides, cash_in, margin_in, stands_told, needed_has, needed_told, quantity_range, level_in_lem, mpid_range, minqty_range, side_in, tif_in, capacity_in, class_in, text_in_lem, Passed, request_passed}
 
 -- 38 and 44 and 54, and the length of 11
 pub record Sized (q : Instrument) (quantity level side id : ℕ) : Type 0 where

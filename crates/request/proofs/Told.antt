@@ -1,16 +1,16 @@
 -- What is known of a request: each needed tag stands in the body, and each value that stands there is of its shape. For the
 -- ranges that a market keeps.
-use Prim.Native.Nat.{ℕ, zero, suc, ◌+◌, ◌-◌, ◌*◌, ◌^◌, ◌≤◌, ◌<◌}
-use mathlib.Core.Path.{◌≡◌, refl, sym, ap, subst, ◌∙◌}
+use Prim.Native.Nat.{ℕ, ◌+◌, ◌^◌, ◌≤◌, ◌<◌}
+use mathlib.Core.Path.{◌≡◌, refl, sym, ap, ◌∙◌}
 use mathlib.Core.List.{List, [], ◌∷◌}
-use mathlib.Core.Bool.{Bool, true, false, cond, not, ◌&&◌, ◌||◌}
+use mathlib.Core.Bool.{Bool, true, false, not, ◌&&◌}
 use native.Mathlib.Omega.{arith}
 use native.Mathlib.Nat.{suc-ne-zero}
-use lib.Dec.{ltb, leb, eqb}
-use lib.ListN.{length, get_or, take, drop, length-take, length-drop}
-use borrow.Author.Tests.{eq-eqb, ne_eqb, eqb-true, eqb-false, leb-true, not-true, not-false}
+use lib.Dec.{leb, eqb}
+use lib.ListN.{length, get_or, length-take, length-drop}
+use borrow.Author.Tests.{eqb-true, eqb-false, leb-true, not-true}
 use Rattle.octets.specs.Octets.{part_at, same_bytes}
-use Rattle.octets.proofs.Bools.{split, both_l, both_r, or_r, neither_l, neither_r, not_both}
+use Rattle.octets.proofs.Bools.{split, both_l, both_r, neither_l, neither_r, not_both}
 use Rattle.decimal.specs.declared.Instrument.{Instrument}
 use Rattle.decimal.specs.declared.Instrument.TheVariants.{Bonds, Equities}
 use Rattle.decimal.specs.declared.Said.{Said}
@@ -19,7 +19,6 @@ use Rattle.decimal.specs.Instruments.{highest}
 use Rattle.decimal.specs.Reading.{is_digit, num_of, level_of}
 use Rattle.decimal.proofs.Numbers.{num_below}
 use Rattle.decimal.proofs.Yields.{level_range}
-use Rattle.fix.specs.declared.fields.Found.{Found}
 use Rattle.fix.specs.declared.fields.Found.TheVariants.{At, Nothing}
 use Rattle.fix.specs.Fields.{Fld, fields_of, find_tag, has_tag, value_of}
 use Rattle.fix.specs.Garbled.{garbled_message, head_of, body_part}
@@ -30,7 +29,7 @@ use Rattle.request.specs.declared.Judged.{Judged}
 use Rattle.request.specs.declared.Verdict.{Verdict}
 use Rattle.request.specs.declared.Asked.{Asked}
 use Rattle.request.specs.declared.Asked.TheVariants.{Garbled, Refused, Enters, Replaces, Cancels}
-use Rattle.request.specs.Session.{kind_of, needed, one_of, Text, Digits, Amount, Quote, Time, Among, code_shape, side_shape, shape_of, char_says, look_as, judge, or_else, first_failing, first_clashing, first_missing}
+use Rattle.request.specs.Session.{kind_of, needed, one_of, Text, Amount, Quote, Among, shape_of, char_says, look_as, judge, or_else, first_failing, first_clashing, first_missing}
 use Rattle.request.specs.Asks.{body_of, said_in, length_in, has_in, request_in, refusal_of, completed, agreed, after_body, body_asked, is_known, head_asked, asked_of}
 use Rattle.request.proofs.Keys.{each_is, each_at}
 use Rattle.request.proofs.Gathering.{Means, says_means}

@@ -2,21 +2,20 @@
 -- asks for a new order, a replacement or a cancel. From "Reading a message" of document 01 and T-05 and T-08 of document 02; what the
 -- market trades is q. A text is given by where it stands in the message, a number as a number. Assumes nothing: every list of bytes
 -- has one answer.
-use Rattle.std.specs.Prelude.{ℕ, ◌+◌, List, [], ◌∷◌, Bool, true, false, cond, not, eqb}
+use Rattle.std.specs.Prelude.{ℕ, ◌+◌, List, Bool, true, false, cond, not, eqb}
 use Rattle.octets.specs.Octets.{part_at, same_bytes}
 use Rattle.decimal.specs.declared.Instrument.{Instrument}
 use Rattle.fix.specs.declared.fields.Found.{Found}
 use Rattle.fix.specs.declared.fields.Found.TheVariants.{At, Nothing}
 use Rattle.fix.specs.declared.frame.Part.{Part}
 use Rattle.fix.specs.declared.frame.Head.{Head}
-use Rattle.fix.specs.Fields.{Fld, fields_of, find_tag, has_tag, value_of}
+use Rattle.fix.specs.Fields.{fields_of, find_tag, has_tag, value_of}
 use Rattle.fix.specs.Garbled.{garbled_message, head_of, body_part}
 use Rattle.request.specs.declared.Kind.{Kind}
 use Rattle.request.specs.declared.Kind.TheVariants.{NewOrder, Replacement, Cancel, Unknown}
 use Rattle.request.specs.declared.Judged.{Judged}
 use Rattle.request.specs.declared.Judged.TheVariants.{Says, Fails}
 use Rattle.request.specs.declared.Verdict.{Verdict}
-use Rattle.request.specs.declared.Refusal.{Refusal}
 use Rattle.request.specs.declared.Terms.{Terms}
 use Rattle.request.specs.declared.Asked.{Asked}
 use Rattle.request.specs.declared.Asked.TheVariants.{Garbled, Refused, Enters, Replaces, Cancels}

@@ -1,9 +1,9 @@
 -- What the inner functions of the reading of a body answer. Nothing here need be believed: `asked` does not cite it.
-use Rattle.std.specs.Prelude.{ℕ, ◌+◌, ◌-◌, ◌%◌, ◌^◌, ◌<◌, ◌≡◌, List, [], ◌∷◌, Bool, true, false, cond, not, ◌||◌, length, get_or, set, replicate, eqb}
+use Rattle.std.specs.Prelude.{ℕ, ◌%◌, ◌≡◌, List, [], ◌∷◌, Bool, true, false, cond, not, ◌||◌, get_or, set, replicate, eqb}
 use Rattle.octets.specs.Octets.{part_at}
 use Rattle.decimal.specs.declared.Instrument.{Instrument}
 use Rattle.decimal.specs.declared.Instrument.TheVariants.{Bonds, Equities}
-use Rattle.fix.specs.Fields.{Fld, fields_of, find_tag}
+use Rattle.fix.specs.Fields.{fields_of}
 use Rattle.fix.specs.Garbled.{head_of, body_part}
 use Rattle.fix.specs.Steps.{Held}
 use Rattle.fix.specs.declared.frame.Part.{Part}

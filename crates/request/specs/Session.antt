@@ -2,7 +2,7 @@
 -- "Reading a message" of document 01, the part on the session Reject, and T-05 and T-08 of document 02: fields are asked from the
 -- left, each for the reasons 3, 2, 4, 6 and 5 in this order; then one that clashes with others, for the reason 5; then the smallest
 -- needed tag that is missing, for the reason 1. What the market trades is q. Assumes nothing.
-use Rattle.std.specs.Prelude.{ℕ, ◌+◌, ◌-◌, List, [], ◌∷◌, ◌++◌, Bool, true, false, cond, not, ◌&&◌, ◌||◌, length, get_or, ltb, leb, eqb}
+use Rattle.std.specs.Prelude.{ℕ, ◌+◌, ◌-◌, List, [], ◌∷◌, ◌++◌, Bool, false, cond, not, ◌&&◌, ◌||◌, length, get_or, ltb, leb, eqb}
 use Rattle.octets.specs.Characters.{byte, bytes}
 use Rattle.octets.specs.Octets.{part_at, same_bytes}
 use Rattle.decimal.specs.declared.Instrument.{Instrument}

@@ -1,5 +1,4 @@
 -- Level 0, or a better level.
-use borrow.Author.Rules.{rules}
 use Rattle.matching.specs.Depth.{behind}
 use Rattle.matching.proofs.behind.Goals as goal
 

@@ -1,5 +1,4 @@
 -- Of one owner the mode acts, else they trade.
-use borrow.Author.Rules.{rules}
 use mathlib.Core.Path.{sym, ◌∙◌}
 use Rattle.matching.specs.Matching.{meeting}
 use Rattle.matching.proofs.matched.Goals as goal

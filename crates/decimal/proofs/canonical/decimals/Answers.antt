@@ -1,6 +1,5 @@
 -- `canonical::decimals` meets its contract, for each instrument.
 use lib.Dec.{lit≤}
-use borrow.Author.Rules.{rules}
 use Rattle.decimal.proofs.canonical.decimals.Goals as goal
 
 pub returns-in-Bonds : goal.returns-in-Bonds

@@ -1,6 +1,5 @@
 -- `canonical::unit` meets its contract, for each instrument.
 use lib.Dec.{lit≤}
-use borrow.Author.Rules.{rules}
 use Rattle.decimal.proofs.canonical.unit.Goals as goal
 
 pub returns-in-Bonds : goal.returns-in-Bonds

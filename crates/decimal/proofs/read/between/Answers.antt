@@ -1,10 +1,6 @@
 -- Each byte between its bounds: what was tested so far holds exactly if the test holds at every place so far.
-use Prim.Native.Nat.{◌-◌}
-use mathlib.Core.Bool.{◌&&◌}
 use native.Mathlib.Omega.{arith}
-use lib.Dec.{leb}
-use lib.ListN.{length, get_or}
-use Rattle.decimal.proofs.Times.{Gathered, gathered_none, gathered_more, gathered_end}
+use Rattle.decimal.proofs.Times.{gathered_none, gathered_more, gathered_end}
 use Rattle.decimal.proofs.read.between.Goals as goal
 
 pub loop-i-init : goal.loop-i-init

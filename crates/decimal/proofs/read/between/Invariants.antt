@@ -1,10 +1,9 @@
 -- Each byte between its bounds: what was tested so far holds exactly if the test holds at every place so far.
 use Prim.Native.Nat.{◌-◌}
 use mathlib.Core.Bool.{◌&&◌}
-use native.Mathlib.Omega.{arith}
 use lib.Dec.{leb}
 use lib.ListN.{length, get_or}
-use Rattle.decimal.proofs.Times.{Gathered, gathered_none, gathered_more, gathered_end}
+use Rattle.decimal.proofs.Times.{Gathered}
 use Rattle.decimal.proofs.read.between.Given as goal
 
 abbrev pub invariant-loop-i : goal.invariant-loop-i

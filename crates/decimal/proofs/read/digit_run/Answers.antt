@@ -1,10 +1,6 @@
 -- The number of digits at the front. Invariant: the first i bytes are digits.
 use mathlib.Core.Path.{sym, ◌∙◌}
-use borrow.Author.Tests.{not-true, not-false}
-use Prim.Native.Nat.{◌-◌}
-use lib.ListN.{length}
-use Rattle.decimal.specs.Reading.{is_digit}
-use Rattle.decimal.proofs.Scans.{Scan, scan_more, scan_stop, scan_end}
+use Rattle.decimal.proofs.Scans.{scan_more, scan_stop, scan_end}
 use borrow.Author.Rules.{rules}
 use Rattle.decimal.proofs.read.digit_run.Goals as goal
 

@@ -1,11 +1,8 @@
 -- The number of digits at the front. Invariant: the first i bytes are digits.
-use mathlib.Core.Path.{sym, ◌∙◌}
-use borrow.Author.Tests.{not-true, not-false}
 use Prim.Native.Nat.{◌-◌}
 use lib.ListN.{length}
 use Rattle.decimal.specs.Reading.{is_digit}
-use Rattle.decimal.proofs.Scans.{Scan, scan_more, scan_stop, scan_end}
-use borrow.Author.Rules.{rules}
+use Rattle.decimal.proofs.Scans.{Scan}
 use Rattle.decimal.proofs.read.digit_run.Given as goal
 
 abbrev pub invariant-loop-i : goal.invariant-loop-i

@@ -1,9 +1,7 @@
 -- The number that the digits say. Invariant: the first i digits say n.
 use Prim.Native.Nat.{◌-◌}
-use native.Mathlib.Omega.{arith}
 use lib.ListN.{length}
-use Rattle.decimal.proofs.Numbers.{Digits, digit_at, pow_nine, digits_more, number_end}
-use borrow.Author.Rules.{rules}
+use Rattle.decimal.proofs.Numbers.{Digits}
 use Rattle.decimal.proofs.read.number.Given as goal
 
 abbrev pub invariant-loop-i : goal.invariant-loop-i

@@ -1,7 +1,5 @@
 -- What 1 to `most` digits say. Invariant: the first i bytes are digits and say n.
-use Prim.Native.Nat.{◌-◌}
-use lib.ListN.{length}
-use Rattle.decimal.proofs.Numbers.{Tried, tried_start, tried_times, tried_fits, tried_more, tried_wrong, num_empty, num_long, num_is}
+use Rattle.decimal.proofs.Numbers.{tried_start, tried_times, tried_fits, tried_more, tried_wrong, num_empty, num_long, num_is}
 use borrow.Author.Rules.{rules}
 use Rattle.decimal.proofs.read.read_number.Goals as goal
 

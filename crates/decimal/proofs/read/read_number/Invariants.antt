@@ -1,8 +1,7 @@
 -- What 1 to `most` digits say. Invariant: the first i bytes are digits and say n.
 use Prim.Native.Nat.{◌-◌}
 use lib.ListN.{length}
-use Rattle.decimal.proofs.Numbers.{Tried, tried_start, tried_times, tried_fits, tried_more, tried_wrong, num_empty, num_long, num_is}
-use borrow.Author.Rules.{rules}
+use Rattle.decimal.proofs.Numbers.{Tried}
 use Rattle.decimal.proofs.read.read_number.Given as goal
 
 abbrev pub invariant-loop-i : goal.invariant-loop-i

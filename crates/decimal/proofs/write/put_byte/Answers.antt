@@ -1,6 +1,5 @@
 -- `write::put_byte` meets its contract.
 use Rattle.octets.proofs.Runs.{wrote_one}
-use borrow.Author.Rules.{rules}
 use Rattle.decimal.proofs.write.put_byte.Goals as goal
 
 pub returns : goal.returns

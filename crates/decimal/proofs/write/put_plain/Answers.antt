@@ -1,7 +1,6 @@
 -- `write::put_plain` meets its contract: one writing after another.
 use Rattle.decimal.proofs.Digits.{plain_is}
-use Rattle.octets.proofs.Runs.{room_first, room_then, then, wrote_length}
-use borrow.Author.Rules.{rules}
+use Rattle.octets.proofs.Runs.{room_first, room_then, then}
 use Rattle.decimal.proofs.write.put_plain.Goals as goal
 
 pub put_decimal-a-requires : goal.put_decimal-a-requires

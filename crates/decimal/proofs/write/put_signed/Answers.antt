@@ -1,8 +1,7 @@
 -- `write::put_signed` meets its contract: a minus where the number is below zero, and the amount.
 use Rattle.decimal.proofs.Digits.{signed_below, signed_above}
-use Rattle.octets.proofs.Runs.{room_first, room_then, then, wrote_length}
+use Rattle.octets.proofs.Runs.{room_first, room_then, then}
 use native.Mathlib.Omega.{arith}
-use borrow.Author.Rules.{rules}
 use Rattle.decimal.proofs.write.put_signed.Goals as goal
 
 pub put_byte-a-requires : goal.put_byte-a-requires

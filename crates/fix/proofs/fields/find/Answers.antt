@@ -1,6 +1,5 @@
 -- The first field with the tag. Invariant: it is the first from the cursor on.
-use Rattle.std.proofs.Common.{◌≡◌, ◌-◌, length, rules}
-use Rattle.fix.specs.Fields.{find_tag, fields_of, fields_from}
+use Rattle.std.proofs.Common.{rules}
 use Rattle.fix.proofs.Walk.{step_less}
 use Rattle.fix.proofs.Loops.{find_here, find_next, find_broken, find_end}
 use Rattle.fix.proofs.fields.find.Goals as goal

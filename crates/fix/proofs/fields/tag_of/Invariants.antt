@@ -1,6 +1,6 @@
 -- The tag at the front. Invariant: the first i bytes are digits, at most four, and say n.
-use Rattle.std.proofs.Common.{◌-◌, length, rules}
-use Rattle.fix.proofs.Spelling.{Spelled, spelled_start, spelled_more, tag_times, tag_fits, tag_good, tag_bad, tag_five, tag_end}
+use Rattle.std.proofs.Common.{◌-◌, length}
+use Rattle.fix.proofs.Spelling.{Spelled}
 use Rattle.fix.proofs.fields.tag_of.Given as goal
 
 abbrev pub invariant-loop-i : goal.invariant-loop-i

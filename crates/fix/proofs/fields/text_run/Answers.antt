@@ -1,8 +1,6 @@
 -- The number of characters at the front. Invariant: the first i bytes are characters.
-use Rattle.std.proofs.Common.{◌-◌, length, sym, ◌∙◌, rules}
-use borrow.Author.Tests.{not-true, not-false}
-use Rattle.fix.specs.Fields.{is_text}
-use Rattle.decimal.proofs.Scans.{Scan, scan_more, scan_stop, scan_end}
+use Rattle.std.proofs.Common.{sym, ◌∙◌, rules}
+use Rattle.decimal.proofs.Scans.{scan_more, scan_stop, scan_end}
 use Rattle.fix.proofs.fields.text_run.Goals as goal
 
 pub returns-then-not-is_text : goal.returns-then-not-is_text

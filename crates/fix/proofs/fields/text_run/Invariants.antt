@@ -1,8 +1,7 @@
 -- The number of characters at the front. Invariant: the first i bytes are characters.
-use Rattle.std.proofs.Common.{◌-◌, length, sym, ◌∙◌, rules}
-use borrow.Author.Tests.{not-true, not-false}
+use Rattle.std.proofs.Common.{◌-◌, length}
 use Rattle.fix.specs.Fields.{is_text}
-use Rattle.decimal.proofs.Scans.{Scan, scan_more, scan_stop, scan_end}
+use Rattle.decimal.proofs.Scans.{Scan}
 use Rattle.fix.proofs.fields.text_run.Given as goal
 
 abbrev pub invariant-loop-i : goal.invariant-loop-i

@@ -1,5 +1,5 @@
 -- The value of the tag, where it was found.
-use Rattle.fix.proofs.Loops.{value_within, value_fits, value_end, value_is, value_none}
+use Rattle.fix.proofs.Loops.{value_fits, value_end, value_is, value_none}
 use Rattle.std.proofs.Common.{rules}
 use Rattle.fix.proofs.fields.value_of.Goals as goal
 

@@ -1,6 +1,6 @@
 -- The sum in one byte. Invariant: the sum of the bytes before i.
-use Rattle.std.proofs.Common.{◌-◌, length, rules}
-use Rattle.fix.proofs.Sums.{Summing, sum_start, sum_more, sum_end}
+use Rattle.std.proofs.Common.{◌-◌, length}
+use Rattle.fix.proofs.Sums.{Summing}
 use Rattle.fix.proofs.frame.checksum.Given as goal
 
 abbrev pub invariant-loop-i : goal.invariant-loop-i

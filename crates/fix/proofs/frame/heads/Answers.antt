@@ -2,7 +2,6 @@
 use mathlib.Core.Bool.{and-true}
 use Rattle.fix.specs.Garbled.{headed_by}
 use Rattle.fix.specs.Steps.{field_at, row_fields}
-use Rattle.std.proofs.Common.{rules}
 use Rattle.fix.proofs.frame.heads.Goals as goal
 
 pub returns : goal.returns

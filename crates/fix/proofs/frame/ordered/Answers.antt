@@ -1,5 +1,5 @@
 -- The header first, and 10 last.
-use Rattle.fix.proofs.Lines.{ordered_short, ordered_heads, ordered_last, ordered_room, ordered_is}
+use Rattle.fix.proofs.Lines.{ordered_short, ordered_heads, ordered_last, ordered_is}
 use Rattle.std.proofs.Common.{rules}
 use Rattle.fix.proofs.frame.ordered.Goals as goal
 

@@ -1,6 +1,5 @@
 -- The values of the header.
 use Rattle.fix.specs.Steps.{right_of}
-use Rattle.std.proofs.Common.{rules}
 use Rattle.fix.proofs.frame.right.Goals as goal
 
 pub returns : goal.returns

@@ -1,6 +1,5 @@
 -- 10 against the sum.
 use Rattle.fix.specs.Steps.{sums_of}
-use Rattle.std.proofs.Common.{rules}
 use Rattle.fix.proofs.frame.sums.Goals as goal
 
 pub returns : goal.returns

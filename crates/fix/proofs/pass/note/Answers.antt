@@ -1,5 +1,5 @@
 -- The three numbers of a field, one behind another.
-use Rattle.std.proofs.Common.{refl, rules}
+use Rattle.std.proofs.Common.{refl}
 use Rattle.fix.specs.Steps.{noted}
 use Rattle.fix.proofs.pass.note.Goals as goal
 

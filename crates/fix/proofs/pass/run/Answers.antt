@@ -1,6 +1,6 @@
 -- The characters at the front. Invariant: the first i bytes are characters, and took the sum on.
-use Rattle.std.proofs.Common.{◌-◌, length, rules}
-use Rattle.fix.proofs.Paces.{Running, running_start, running_in, running_step, running_less, ran, running_more}
+use Rattle.std.proofs.Common.{rules}
+use Rattle.fix.proofs.Paces.{running_start, running_in, running_step, running_less, ran, running_more}
 use Rattle.fix.proofs.pass.run.Goals as goal
 
 pub loop-i-init : goal.loop-i-init

@@ -1,6 +1,6 @@
 -- The characters at the front. Invariant: the first i bytes are characters, and took the sum on.
-use Rattle.std.proofs.Common.{◌-◌, length, rules}
-use Rattle.fix.proofs.Paces.{Running, running_start, running_in, running_step, running_less, ran, running_more}
+use Rattle.std.proofs.Common.{◌-◌, length}
+use Rattle.fix.proofs.Paces.{Running}
 use Rattle.fix.proofs.pass.run.Given as goal
 
 abbrev pub invariant-loop-i : goal.invariant-loop-i

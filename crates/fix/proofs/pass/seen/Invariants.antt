@@ -1,8 +1,7 @@
 -- A tag in the row. Invariant: it is among the first n fields exactly if it is among those from the j-th on.
-use Rattle.std.proofs.Common.{◌≡◌, ◌-◌, rules}
+use Rattle.std.proofs.Common.{◌≡◌, ◌-◌}
 use Rattle.fix.specs.Fields.{has_tag}
 use Rattle.fix.specs.Steps.{row_fields}
-use Rattle.fix.proofs.Rows.{seen_start, seen_here, seen_next, seen_end}
 use Rattle.fix.proofs.pass.seen.Given as goal
 
 abbrev pub invariant-loop-j : goal.invariant-loop-j

@@ -1,6 +1,6 @@
 -- The tag at the front. Invariant: the first i bytes are digits, at most four, say n, and took the sum on; b is the byte behind them.
-use Rattle.std.proofs.Common.{◌-◌, length, rules}
-use Rattle.fix.proofs.Paces.{closed_some, Spelling, spelling_start, spelling_times, spelling_fits, spelling_step, spelling_next, spelling_less, spelling_more, tagged_five, tagged_good, tagged_bad}
+use Rattle.std.proofs.Common.{◌-◌, length}
+use Rattle.fix.proofs.Paces.{Spelling}
 use Rattle.fix.proofs.pass.spelled.Given as goal
 
 abbrev pub invariant-loop-none : goal.invariant-loop-none

@@ -1,5 +1,5 @@
 -- The tag, the value behind it, and the SOH that ends it, with the sum.
-use Rattle.fix.proofs.Paces.{strode_none, strode_start, strode_fits, strode_rest, strode_end, strode_other, strode_good}
+use Rattle.fix.proofs.Paces.{strode_none, strode_start, strode_fits, strode_rest, strode_other, strode_good}
 use Rattle.std.proofs.Common.{rules}
 use Rattle.fix.proofs.pass.strode.Goals as goal
 

@@ -1,6 +1,6 @@
 -- The one walk. Invariant: the fields before the cursor stand in the row and are right, and the rest of the message is left.
-use Rattle.std.proofs.Common.{◌-◌, length, refl, rules}
-use Rattle.fix.proofs.Rows.{Walking, walk_start, walk_closed, walk_passing, walk_count, walk_slot, walk_broken, walk_end, walk_less, walk_notes, walk_twice, walk_more}
+use Rattle.std.proofs.Common.{◌-◌, length}
+use Rattle.fix.proofs.Rows.{Walking}
 use Rattle.fix.proofs.pass.walk.Given as goal
 
 abbrev pub invariant-loop-tag : goal.invariant-loop-tag

@@ -1,5 +1,4 @@
 -- An immediate order with something open expires; else the order rests.
-use borrow.Author.Rules.{rules}
 use Rattle.matching.specs.Matching.{ending}
 use Rattle.matching.proofs.Order.ending.Goals as goal
 

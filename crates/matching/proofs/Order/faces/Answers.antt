@@ -1,5 +1,4 @@
 -- The three tests of the definition.
-use borrow.Author.Rules.{rules}
 use Rattle.matching.specs.Matching.{faces}
 use Rattle.matching.proofs.Order.faces.Goals as goal
 

@@ -1,5 +1,4 @@
 -- What is open is above 0.
-use borrow.Author.Rules.{rules}
 use Rattle.matching.proofs.Order.is_open.Goals as goal
 
 pub returns : goal.returns

@@ -1,5 +1,4 @@
 -- The two tests of the definition.
-use borrow.Author.Rules.{rules}
 use Rattle.matching.specs.Matching.{opposed}
 use Rattle.matching.proofs.Order.opposed.Goals as goal
 

@@ -1,5 +1,4 @@
 -- One buys and the other does not.
-use borrow.Author.Rules.{rules}
 use mathlib.Core.Path.{sym, ◌∙◌}
 use Rattle.matching.proofs.Order.opposite.Goals as goal
 

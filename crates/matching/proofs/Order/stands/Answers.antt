@@ -1,5 +1,4 @@
 -- The two tests of the definition.
-use borrow.Author.Rules.{rules}
 use Rattle.matching.specs.Depth.{stands}
 use Rattle.matching.proofs.Order.stands.Goals as goal
 

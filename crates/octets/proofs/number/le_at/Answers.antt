@@ -1,10 +1,10 @@
 -- `octets::le_at` meets its contract: from the last byte down, what is read so far is the number of the bytes from k on.
 use mathlib.Core.Path.{◌≡◌, sym, ap, ◌∙◌}
-use Prim.Native.Nat.{ℕ, ◌+◌, ◌*◌, ◌-◌, ◌^◌, ◌<◌, ◌≤◌}
+use Prim.Native.Nat.{ℕ, ◌+◌, ◌*◌, ◌-◌}
 use native.Mathlib.Nat.{le_refl, sub_self, sub-zero, add-zero, lt_of_le_of_lt, le-add_left}
 use native.Mathlib.Omega.{arith}
 use lib.ListN.{get_or}
-use Rattle.octets.specs.Octets.{le_at, Bytes}
+use Rattle.octets.specs.Octets.{Bytes}
 use Rattle.octets.proofs.Places.{le_at_back, le_at_none, le_at_lt, le_at_room}
 use Rattle.octets.proofs.number.le_at.Goals as goal
 

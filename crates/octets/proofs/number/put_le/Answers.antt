@@ -1,9 +1,9 @@
 -- `octets::put_le` meets its contract: at each turn, putting what is left of the number gives the whole put.
 use mathlib.Core.Path.{◌≡◌, refl, sym, ap, ◌∙◌}
-use Prim.Native.Nat.{ℕ, ◌+◌, ◌-◌, ◌≤◌, zero-le}
+use Prim.Native.Nat.{ℕ, ◌+◌, ◌-◌, zero-le}
 use native.Mathlib.Nat.{add-zero, sub-zero}
 use native.Mathlib.Omega.{arith}
-use lib.ListN.{length, length-set}
+use lib.ListN.{length-set}
 use Rattle.octets.specs.Octets.{put, bytes_of}
 use Rattle.octets.proofs.Places.{put_more}
 use Rattle.octets.proofs.number.put_le.Goals as goal

@@ -1,10 +1,9 @@
 -- `octets::copy_into` meets its contract: after j bytes the first j are written.
 use mathlib.Core.Path.{◌≡◌}
-use Prim.Native.Nat.{◌-◌, ◌≤◌, zero-le}
+use Prim.Native.Nat.{zero-le}
 use native.Mathlib.Omega.{arith}
-use lib.ListN.{length, take}
+use lib.ListN.{length}
 use lib.Seq.{take-length}
-use Rattle.octets.specs.Written.{Wrote}
 use Rattle.octets.proofs.Runs.{wrote_none, wrote_length, copy_place, copy_more}
 use Rattle.octets.proofs.part.copy_into.Goals as goal
 

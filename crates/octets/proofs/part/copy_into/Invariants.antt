@@ -1,11 +1,7 @@
 -- `octets::copy_into` meets its contract: after j bytes the first j are written.
-use mathlib.Core.Path.{◌≡◌}
-use Prim.Native.Nat.{◌-◌, ◌≤◌, zero-le}
-use native.Mathlib.Omega.{arith}
+use Prim.Native.Nat.{◌-◌, ◌≤◌}
 use lib.ListN.{length, take}
-use lib.Seq.{take-length}
 use Rattle.octets.specs.Written.{Wrote}
-use Rattle.octets.proofs.Runs.{wrote_none, wrote_length, copy_place, copy_more}
 use Rattle.octets.proofs.part.copy_into.Given as goal
 
 abbrev pub invariant-loop-j : goal.invariant-loop-j

@@ -1,9 +1,8 @@
 -- `octets::same` meets its contract: what is left to compare is the same exactly if the whole is.
 use mathlib.Core.Path.{◌≡◌, refl, sym, ap, ◌∙◌}
-use Prim.Native.Nat.{◌-◌, ◌≤◌, ◌<◌, zero-le}
+use Prim.Native.Nat.{◌<◌, zero-le}
 use native.Mathlib.Omega.{arith}
-use lib.ListN.{length, drop}
-use Rattle.octets.specs.Octets.{same_bytes}
+use lib.ListN.{length}
 use Rattle.octets.proofs.Parts.{not_same, same_more, same_stop, same_end}
 use Rattle.octets.proofs.part.same.Goals as goal
 

@@ -1,10 +1,8 @@
 -- `octets::same` meets its contract: what is left to compare is the same exactly if the whole is.
-use mathlib.Core.Path.{◌≡◌, refl, sym, ap, ◌∙◌}
-use Prim.Native.Nat.{◌-◌, ◌≤◌, ◌<◌, zero-le}
-use native.Mathlib.Omega.{arith}
+use mathlib.Core.Path.{◌≡◌}
+use Prim.Native.Nat.{◌-◌, ◌≤◌}
 use lib.ListN.{length, drop}
 use Rattle.octets.specs.Octets.{same_bytes}
-use Rattle.octets.proofs.Parts.{not_same, same_more, same_stop, same_end}
 use Rattle.octets.proofs.part.same.Given as goal
 
 abbrev pub invariant-loop-i : goal.invariant-loop-i

@@ -5,7 +5,6 @@ use lib.ListN.{length, length-set}
 use Rattle.octets.specs.Octets.{text_bytes}
 use Rattle.octets.proofs.Places.{length_put}
 use Rattle.octets.proofs.Runs.{wrote_length, wrote_text}
-use borrow.Author.Rules.{rules}
 use Rattle.octets.proofs.text.put_text.Goals as goal
 
 pub copy_into-q-requires : goal.copy_into-q-requires

@@ -2,7 +2,6 @@
 use mathlib.Core.Path.{◌∙◌}
 use native.Mathlib.Omega.{arith}
 use Rattle.octets.proofs.Parts.{no_text_lem, text_part}
-use borrow.Author.Rules.{rules}
 use Rattle.octets.proofs.text.text_at.Goals as goal
 
 pub returns-then-t-p : goal.returns-then-t-p

@@ -1,6 +1,5 @@
 -- `octets::text_is` meets its contract.
 use mathlib.Core.Path.{◌∙◌}
-use borrow.Author.Rules.{rules}
 use Rattle.octets.proofs.text.text_is.Goals as goal
 
 pub returns : goal.returns

@@ -1,8 +1,6 @@
 -- `octets::all_zero` meets its contract: the bytes tested are zero, and the rest is, exactly if the whole is.
-use Prim.Native.Nat.{◌-◌}
 use native.Mathlib.Omega.{arith}
-use lib.ListN.{length}
-use Rattle.octets.proofs.Zeros.{Gathered, gathered_none, gathered_more, gathered_end}
+use Rattle.octets.proofs.Zeros.{gathered_none, gathered_more, gathered_end}
 use Rattle.octets.proofs.zero.all_zero.Goals as goal
 
 pub loop-i-init : goal.loop-i-init

@@ -1,7 +1,6 @@
 -- `octets::clear` meets its contract.
 use mathlib.Core.Path.{◌∙◌}
 use Rattle.octets.proofs.Zeros.{put_zero_all}
-use borrow.Author.Rules.{rules}
 use Rattle.octets.proofs.zero.clear.Goals as goal
 
 pub returns : goal.returns

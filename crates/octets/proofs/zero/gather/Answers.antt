@@ -1,11 +1,8 @@
 -- `octets::gather` meets its contract: what is kept, and the rest of the list, are zero exactly if they were at the start.
 use mathlib.Core.Path.{◌≡◌, refl, ◌∙◌}
-use mathlib.Core.Bool.{◌&&◌}
-use Prim.Native.Nat.{◌+◌, ◌-◌, ◌≤◌}
 use native.Mathlib.Nat.{add-zero}
 use native.Mathlib.Omega.{arith}
-use lib.ListN.{length, drop, length-set}
-use Rattle.octets.specs.Octets.{all_zero}
+use lib.ListN.{length, length-set}
 use Rattle.octets.proofs.Zeros.{kept_more}
 use Rattle.octets.proofs.zero.gather.Goals as goal
 

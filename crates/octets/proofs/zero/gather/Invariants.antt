@@ -1,12 +1,9 @@
 -- `octets::gather` meets its contract: what is kept, and the rest of the list, are zero exactly if they were at the start.
-use mathlib.Core.Path.{◌≡◌, refl, ◌∙◌}
+use mathlib.Core.Path.{◌≡◌}
 use mathlib.Core.Bool.{◌&&◌}
 use Prim.Native.Nat.{◌+◌, ◌-◌, ◌≤◌}
-use native.Mathlib.Nat.{add-zero}
-use native.Mathlib.Omega.{arith}
-use lib.ListN.{length, drop, length-set}
+use lib.ListN.{length, drop}
 use Rattle.octets.specs.Octets.{all_zero}
-use Rattle.octets.proofs.Zeros.{kept_more}
 use Rattle.octets.proofs.zero.gather.Given as goal
 
 abbrev pub invariant-loop-k : goal.invariant-loop-k

@@ -1,11 +1,8 @@
 -- `octets::put_zeros` meets its contract: at each turn, putting the zeros that are left gives the whole put.
-use mathlib.Core.Path.{◌≡◌, refl, sym, ap, ◌∙◌}
-use Prim.Native.Nat.{ℕ, ◌+◌, ◌-◌, ◌≤◌, zero-le}
-use native.Mathlib.Nat.{add-zero, sub-zero}
-use native.Mathlib.Omega.{arith}
-use lib.ListN.{length, length-set, replicate}
+use mathlib.Core.Path.{◌≡◌}
+use Prim.Native.Nat.{◌+◌, ◌-◌, ◌≤◌}
+use lib.ListN.{length, replicate}
 use Rattle.octets.specs.Octets.{put}
-use Rattle.octets.proofs.Zeros.{put_zero_more}
 use Rattle.octets.proofs.zero.put_zeros.Given as goal
 
 abbrev pub invariant-loop-k : goal.invariant-loop-k

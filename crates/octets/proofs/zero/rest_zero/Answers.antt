@@ -1,10 +1,6 @@
 -- `octets::rest_zero` meets its contract: what is kept, and the rest, are zero exactly if all from place p on are.
-use mathlib.Core.Path.{◌≡◌, refl, sym, ◌∙◌}
-use mathlib.Core.Bool.{◌&&◌}
-use Prim.Native.Nat.{◌+◌, ◌*◌, ◌-◌, ◌≤◌}
+use mathlib.Core.Path.{refl, sym, ◌∙◌}
 use native.Mathlib.Omega.{arith}
-use lib.ListN.{length, drop}
-use Rattle.octets.specs.Octets.{all_zero}
 use Rattle.octets.proofs.Zeros.{zero_out, kept_none, kept_two, kept_end}
 use borrow.Author.Rules.{rules}
 use Rattle.octets.proofs.zero.rest_zero.Goals as goal

@@ -1,12 +1,9 @@
 -- `octets::rest_zero` meets its contract: what is kept, and the rest, are zero exactly if all from place p on are.
-use mathlib.Core.Path.{◌≡◌, refl, sym, ◌∙◌}
+use mathlib.Core.Path.{◌≡◌}
 use mathlib.Core.Bool.{◌&&◌}
 use Prim.Native.Nat.{◌+◌, ◌*◌, ◌-◌, ◌≤◌}
-use native.Mathlib.Omega.{arith}
 use lib.ListN.{length, drop}
 use Rattle.octets.specs.Octets.{all_zero}
-use Rattle.octets.proofs.Zeros.{zero_out, kept_none, kept_two, kept_end}
-use borrow.Author.Rules.{rules}
 use Rattle.octets.proofs.zero.rest_zero.Given as goal
 
 abbrev pub invariant-loop-j : goal.invariant-loop-j

@@ -1,5 +1,5 @@
 -- The field at the cursor, read from the rest of the message.
-use Rattle.std.proofs.Common.{◌∙◌, rules, le-ltb, lt-ltb}
+use Rattle.std.proofs.Common.{◌∙◌, le-ltb, lt-ltb}
 use Rattle.decimal.proofs.Scans.{rest_is}
 use Rattle.fix.specs.Fields.{step_of}
 use Rattle.fix.proofs.fields.Cursor.step.Goals as goal

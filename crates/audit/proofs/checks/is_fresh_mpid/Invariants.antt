@@ -1,0 +1,12 @@
+-- `audit::is_fresh_mpid` meets its contract: no entry passed has the MPID.
+use Rattle.std.proofs.Common.{◌-◌, not, eqb, sym, arith}
+use Rattle.audit.proofs.Checked.{differ_not, differ_yes}
+use Rattle.octets.proofs.Ranges.{Passed, passed_none, passed_more, passed_stop, passed_end}
+use Rattle.table.specs.Heading.{mpid_at}
+use Rattle.audit.proofs.checks.is_fresh_mpid.Given as goal
+
+abbrev pub invariant-loop-j : goal.invariant-loop-j
+invariant-loop-j l = Passed (λ i. not (eqb (mpid_at l.t i) (mpid_at l.t l.k))) l.k l.j
+
+abbrev pub decreases-loop-j : goal.decreases-loop-j
+decreases-loop-j l = l.k - l.j

@@ -1,0 +1,8 @@
+-- `audit::is_cash` meets its contract.
+use Rattle.std.proofs.Common.{refl, rules}
+use Rattle.table.specs.Market.{is_cash}
+use Rattle.audit.proofs.sound.is_cash.Goals as goal
+
+pub returns : goal.returns
+unfolding is_cash
+returns c = refl

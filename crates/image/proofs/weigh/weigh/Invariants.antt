@@ -1,0 +1,14 @@
+-- `image::weigh` meets its contract: c columns are added up.
+use mathlib.Core.Path.{◌≡◌, refl}
+use Prim.Native.Nat.{◌≤◌, ◌-◌}
+use lib.ListN.{length, length-set}
+use native.Mathlib.Omega.{arith}
+use borrow.Author.Rules.{rules}
+use Rattle.image.proofs.Columned.{Downs, downs_none, downs_more, weigh_end}
+use Rattle.image.proofs.weigh.weigh.Given as goal
+
+abbrev pub invariant-loop-c : goal.invariant-loop-c
+invariant-loop-c l = (l.c ≤ 32) × (length l.sums ≡ 32) × (length l.turns ≡ 32) × Downs l.t l.p l.sums l.turns l.c
+
+abbrev pub decreases-loop-c : goal.decreases-loop-c
+decreases-loop-c l = 32 - l.c

@@ -1,0 +1,31 @@
+-- `image::copy_table` meets its contract: k pieces are copied.
+use Prim.Native.Nat.{◌*◌, ◌-◌, ◌≤◌}
+use native.Mathlib.Omega.{arith}
+use Rattle.image.proofs.Copies.{Copied, copied_none, copied_more, copied_end}
+use Rattle.image.proofs.whole.copy_table.Goals as goal
+
+pub loop-k-init : goal.loop-k-init
+loop-k-init c = (omega arith, copied_none _ _ (omega arith))
+
+pub overflow_mul-k : goal.overflow_mul-k
+overflow_mul-k c = omega arith
+
+pub copy_piece-requires : goal.copy_piece-requires
+copy_piece-requires c =
+    let done = c.loop-k.invariant.1 in
+    (done.long, omega arith, omega arith, done.front)
+
+pub overflow_add-k : goal.overflow_add-k
+overflow_add-k c = omega arith
+
+pub loop-k-smaller : goal.loop-k-smaller
+loop-k-smaller c = omega arith
+
+pub loop-k-preserved : goal.loop-k-preserved
+loop-k-preserved c = (omega arith, copied_more _ _ _ (omega arith) (omega arith) c.copy_piece.ensures)
+
+pub shape_of-to : goal.shape_of-to
+shape_of-to c = omega (arith, c.loop-k.invariant.1.long)
+
+pub returns : goal.returns
+returns c = copied_end _ c.loop-k.invariant.1 (omega arith) (omega arith)

@@ -1,0 +1,8 @@
+-- `standing::count` is the entry of specs/Slots, by what is traded.
+use Rattle.kinds.proofs.standing.count.Goals as goal
+
+pub returns-in-Bonds : goal.returns-in-Bonds
+returns-in-Bonds c = rw c.in-Bonds.is c.listed.ensures
+
+pub returns-in-Equities : goal.returns-in-Equities
+returns-in-Equities c = rw c.in-Equities.is c.unused.ensures

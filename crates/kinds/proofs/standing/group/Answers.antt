@@ -1,0 +1,8 @@
+-- `standing::group` is the entry of specs/Slots, by what is traded.
+use Rattle.kinds.proofs.standing.group.Goals as goal
+
+pub returns-in-Bonds : goal.returns-in-Bonds
+returns-in-Bonds c = rw c.in-Bonds.is c.word.ensures
+
+pub returns-in-Equities : goal.returns-in-Equities
+returns-in-Equities c = rw c.in-Equities.is c.word-in-Equities.ensures

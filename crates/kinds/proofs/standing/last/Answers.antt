@@ -1,0 +1,8 @@
+-- `standing::last` is the entry of specs/Slots, by what is traded.
+use Rattle.kinds.proofs.standing.last.Goals as goal
+
+pub returns-in-Bonds : goal.returns-in-Bonds
+returns-in-Bonds c = rw c.in-Bonds.is c.unused.ensures
+
+pub returns-in-Equities : goal.returns-in-Equities
+returns-in-Equities c = rw c.in-Equities.is c.one.ensures

@@ -1,0 +1,8 @@
+-- `standing::other` is the entry of specs/Slots, by what is traded.
+use Rattle.kinds.proofs.standing.other.Goals as goal
+
+pub returns-in-Bonds : goal.returns-in-Bonds
+returns-in-Bonds c = rw c.in-Bonds.is c.number.ensures
+
+pub returns-in-Equities : goal.returns-in-Equities
+returns-in-Equities c = rw c.in-Equities.is c.unused.ensures

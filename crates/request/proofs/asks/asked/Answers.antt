@@ -1,0 +1,17 @@
+-- Garbled, or what the head leads to.
+use Rattle.request.proofs.Answers.{asked_garbled, asked_head, asked_good}
+use mathlib.Core.Path.{refl}
+use borrow.Author.Rules.{rules}
+use Rattle.request.proofs.asks.asked.Goals as goal
+
+pub framed_in-requires : goal.framed_in-requires
+framed_in-requires c = refl
+
+pub admits-requires : goal.admits-requires
+admits-requires c = search (rules, asked_head)
+
+pub returns-in-Garbled : goal.returns-in-Garbled
+returns-in-Garbled c = search (rules, asked_garbled)
+
+pub returns-in-Good : goal.returns-in-Good
+returns-in-Good c = search (rules, asked_good)

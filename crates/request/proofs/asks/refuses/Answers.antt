@@ -1,0 +1,8 @@
+-- A session Reject.
+use mathlib.Core.Path.{refl}
+use Rattle.request.specs.Asks.{refusal_of}
+use Rattle.request.proofs.asks.refuses.Goals as goal
+
+pub returns : goal.returns
+unfolding refusal_of
+returns c = refl

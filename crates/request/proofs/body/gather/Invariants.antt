@@ -1,0 +1,11 @@
+-- The fields from the left. Invariant: the verdict on all is that on those left in the row, and the rows hold what the fields
+-- before them say.
+use Prim.Native.Nat.{◌-◌}
+use Rattle.request.proofs.Gathering.{Seated}
+use Rattle.request.proofs.body.gather.Given as goal
+
+abbrev pub invariant-loop-tag : goal.invariant-loop-tag
+invariant-loop-tag l = Seated l.q l.kind l.b l.row l.from l.c.number l.says l.lens
+
+abbrev pub decreases-loop-tag : goal.decreases-loop-tag
+decreases-loop-tag l = 341 - l.c.number

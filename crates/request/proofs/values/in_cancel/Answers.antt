@@ -1,0 +1,32 @@
+-- The table of a cancel, which is the same in each market.
+use mathlib.Core.Path.{◌≡◌, refl}
+use mathlib.Core.List.{List, [], ◌∷◌}
+use mathlib.Core.Bool.{true}
+use Prim.Native.Nat.{ℕ}
+use Rattle.request.specs.declared.Kind.TheVariants.{Cancel}
+use Rattle.request.specs.Session.{needed, optional, belongs, one_of}
+use Rattle.request.proofs.Keys.{by_key, covered, none_of}
+use Rattle.request.proofs.Gathering.{none_belongs}
+use Rattle.request.proofs.values.in_cancel.Goals as goal
+
+abbrev keys : List ℕ
+keys = 11 ∷ 38 ∷ 41 ∷ 54 ∷ 60 ∷ []
+
+abbrev more : List ℕ
+more = 55 ∷ []
+
+pub returns-in-11 : goal.returns-in-11
+unfolding belongs one_of
+returns-in-11 c = record { told = λ q. by_key (λ t. true ≡ belongs q Cancel t) keys c.args.tag (refl, (refl, (refl, (refl, (refl, tt))))) c.in-11.is }
+
+pub returns-in-55 : goal.returns-in-55
+unfolding belongs one_of
+returns-in-55 c = record { told = λ q. by_key (λ t. true ≡ belongs q Cancel t) more c.args.tag (refl, tt) c.in-55.is }
+
+pub returns-in_default : goal.returns-in_default
+unfolding covered one_of
+returns-in_default c =
+    let t = c.args.tag in
+    let f = c.in_default.in_default-own.rest.0.1 in
+    let g = c.in_default.in_default-own.rest.1 in
+    record { told = λ q. none_belongs q Cancel t (none_of keys more [] t f g (λ z. z) (needed q Cancel) refl) (none_of keys more [] t f g (λ z. z) (optional q Cancel) refl) }
