@@ -64,6 +64,7 @@ class Function:
         self.parent = {p[0]: p[1] for p in table["places"]}
         self.step = {p[0]: p[2] for p in table["places"]}
         self.typed = {p[0]: dict((s, v) for v, s in t) for p, t in zip(table["places"], table["typed"])}
+        self.clauses = {p[0]: c for p, c in zip(table["places"], table["clauses"]) if c and not (c["text"] or c["told"] or c["utf8"])}
         self.arms = {p[0]: a for p, a in zip(table["places"], table["arms"]) if a}
         self.args = {}
         for old, new in table["args"]:
@@ -94,6 +95,8 @@ class Function:
         rest = fields[k:]
         if not rest:
             return head
+        if rest[0] == "requires":
+            return ".".join([head, "requires", *self.clause(self.of.get("pre"), rest[1:])])
         if rest[0] == "args" and len(rest) > 1:
             return ".".join([head, "args", self.args.get(rest[1], rest[1]), *rest[2:]])
         want = alike(rest[0])
@@ -116,6 +119,12 @@ class Function:
                     var = self.given(place, old)
                     if var:
                         return ".".join([head, "type_inv", var, *rest[2:]])
+                if len(rest) > 1 and rest[1] == "ensures" and at in self.clauses:
+                    names = self.clauses[at]["fields"]
+                    if len(names) > 1:
+                        rest = [*rest[:2], *self.clause(self.clauses[at], rest[2:])]
+                    elif rest[2:3] != names:
+                        rest = [*rest[:2], *names, *rest[2:]]
                 return ".".join([head, new, *rest[1:]])
             at = self.parent.get(at)
         return ".".join([head, *rest])
@@ -133,6 +142,17 @@ class Function:
                 return [self.arms[place][0], best[0], *fields[len(best[1]) :]]
             place = self.parent.get(place)
         return None
+
+    def clause(self, clauses, at):
+        """The place of a clause in the pairs of before, as its name."""
+        names = (clauses or {}).get("fields") or []
+        if len(names) < 2 or clauses.get("before"):
+            return at
+        for i, name in enumerate(names):
+            was = ["1"] * i + (["0"] if i + 1 < len(names) else [])
+            if at[: len(was)] == was:
+                return [name, *at[len(was) :]]
+        return at
 
     def has(self, place, want):
         while place is not None:
@@ -183,6 +203,41 @@ def body_turned(fn, place, text, heads, labels, said):
     for old, new in labels.items():
         text = re.sub(r"(?<![^\s(){};,])" + re.escape(old) + r"(?= c\b)", "\1" + new, text)
     return text.replace("\1", "")
+
+
+def parts_of(text):
+    """The parts of a tuple, or the text alone."""
+    if not (text.startswith("(") and text.endswith(")")):
+        return [text]
+    parts, depth, start = [], 0, 1
+    for i, c in enumerate(text):
+        depth += (c in "([{") - (c in ")]}")
+        if depth == 0 and i + 1 < len(text):
+            return [text]
+        if c == "," and depth == 1:
+            parts.append(text[start:i].strip())
+            start = i + 1
+    return [*parts, text[start:-1].strip()] if parts else [text]
+
+
+def by_clause(names, text):
+    """An answer that ends in a tuple, one part for each clause, as a record of the clauses."""
+    if "," not in text or not text.endswith(")"):
+        return text
+    depth, at = 0, len(text)
+    while at > 0:
+        at -= 1
+        depth += (text[at] in ")]}") - (text[at] in "([{")
+        if depth == 0:
+            break
+    if not re.search(r"(?:\s=|\bin)\s+$", text[:at]):
+        return text
+    parts = parts_of(text[at:])
+    while len(parts) < len(names) and len(parts_of(parts[-1])) > 1:
+        parts = [*parts[:-1], *parts_of(parts[-1])]
+    if len(parts) != len(names):
+        return text
+    return text[:at] + "record {\n" + "".join(f"      {n} = {v};\n" for n, v in zip(names, parts)) + "    }"
 
 
 def loop_functions(fn, group, said):
@@ -286,6 +341,9 @@ def turn(names, crate, path, landed_root):
             else:
                 heads = {variable[1]: place}
             rest = body_turned(fn, place, rest, heads, labels, said).replace("\0", new)
+            for old, clauses in fn.of["asked"].items():
+                if alike(old) == alike(re.match(r"\S+ : tie\.Need-(\S+)", sig)[1]) and isinstance(clauses, list):
+                    rest = by_clause(clauses, rest.rstrip())
             if re.search(r"(?<![\w.])κs?[₀-₉]*(?![\w])", rest):
                 said.append(f"{rel}: κs in {new}")
             comment = g["comment"] + "\n" if g["comment"] else ""

@@ -1,13 +1,11 @@
 -- No report is longer than 512 bytes (document 01, "The reports"), whatever its kind, if what its row is made from is in range; so
 -- 1,024 free bytes hold two. Each row is at most 489 bytes, which is what the writer of a whole report asks for.
-use Prim.Native.Nat.{ℕ, ◌^◌, ◌≤◌, ◌<◌}
+use Prim.Native.Nat.{ℕ, ◌≤◌}
 use native.Mathlib.Nat.{le_trans}
-use native.Mathlib.Omega.{arith}
-use mathlib.Core.Path.{◌≡◌, sym, ap}
 use mathlib.Core.List.{List, [], ◌∷◌}
 use lib.Dec.{lit≤, lit<}
 use lib.ListN.{length}
-use Rattle.decimal.specs.Writing.{decimal, mean_of}
+use Rattle.decimal.specs.Writing.{decimal}
 use Rattle.report.specs.declared.Field.{Field}
 use Rattle.report.specs.Fields.{row_bytes}
 use Rattle.report.specs.Frame.{report_bytes}

@@ -1,5 +1,5 @@
 -- The row of an execution report, written part by part: what is left of a part, and that the bytes are those of the row of each kind.
-use Prim.Native.Nat.{ℕ, ◌+◌}
+use Prim.Native.Nat.{ℕ}
 use native.Mathlib.Omega.{arith}
 use mathlib.Core.Path.{◌≡◌, refl, ◌∙◌}
 use mathlib.Core.List.{List, ◌++◌}

@@ -2,11 +2,10 @@
 -- kind of value can be.
 use Prim.Native.Nat.{ℕ, zero, suc, ◌+◌, ◌-◌, ◌^◌, ◌≤◌, ◌<◌, zero-le}
 use native.Mathlib.Omega.{arith}
-use mathlib.Core.Path.{◌≡◌, refl, sym, ap, ◌∙◌}
-use mathlib.Core.Bool.{Bool, true, false, cond}
+use mathlib.Core.Path.{◌≡◌, refl, ap, ◌∙◌}
 use mathlib.Core.List.{List, [], ◌∷◌, ◌++◌, append-nil}
 use lib.Dec.{lit≤, lit<, eqb}
-use lib.ListN.{length, replicate, length-append, length-take, take, drop}
+use lib.ListN.{length, replicate, length-append, length-take, drop}
 use Rattle.octets.specs.Octets.{part_at}
 use Rattle.octets.proofs.Bools.{split}
 use Rattle.decimal.specs.declared.Instrument.{Instrument}
@@ -22,10 +21,9 @@ use Rattle.matching.specs.Held.{Sound}
 use Rattle.matching.specs.Quoted.{Quoted}
 use Rattle.matching.proofs.Sounds.{minimum_most}
 use Rattle.report.specs.declared.Place.{Place}
-use Rattle.report.specs.declared.Value.{Value}
-use Rattle.report.specs.declared.Value.TheVariants.{Absent, Number, Char, Word, Sent, Stored, Level, Mean}
+use Rattle.report.specs.declared.Value.TheVariants.{Absent, Number, Char, Word, Level, Mean}
 use Rattle.report.specs.declared.Field.{Field}
-use Rattle.report.specs.Fields.{is_absent, value_bytes, written, field_bytes, row_bytes}
+use Rattle.report.specs.Fields.{is_absent, value_bytes, field_bytes, row_bytes}
 use Rattle.report.proofs.Bytes.{length_written, row_append}
 use Rattle.rows.specs.declared.Shown.{Shown}
 use Rattle.rows.specs.declared.Fill.{Fill}

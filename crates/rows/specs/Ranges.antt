@@ -4,7 +4,6 @@
 use Rattle.std.specs.Prelude.{List, ℕ, ◌^◌, ◌≤◌, ◌<◌, length}
 use Rattle.decimal.specs.declared.Instrument.{Instrument}
 use Rattle.decimal.specs.Instruments.{highest}
-use Rattle.matching.specs.declared.Order.{Order}
 use Rattle.matching.specs.Held.{Sound}
 use Rattle.matching.specs.Quoted.{Quoted}
 use Rattle.report.specs.declared.Value.{Value}

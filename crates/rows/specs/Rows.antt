@@ -3,7 +3,7 @@
 -- 10 are the frame's. 34 and 17 are the report's number, 52 and 60 the causing message's 52; all of an order is taken after the
 -- event, its 38 is the quantity accepted, also after a decrement, and its 54, 59, 110, 544 and 8214 are as they were sent. A bond
 -- market and an equities market have one row for each kind; the few fields that only one of them has are named once. Assumes nothing.
-use Rattle.std.specs.Prelude.{Bool, true, false, cond, List, [], ◌∷◌, ◌++◌, ℕ, ◌+◌, ◌-◌, ◌%◌, eqb, ltb, length, replicate}
+use Rattle.std.specs.Prelude.{cond, List, [], ◌∷◌, ◌++◌, ℕ, ◌+◌, ◌-◌, ◌%◌, eqb, ltb, length, replicate}
 use Prim.Native.Char.{Char as Letter}
 use Rattle.octets.specs.Characters.{byte}
 use Rattle.decimal.specs.declared.Instrument.{Instrument}
@@ -13,7 +13,7 @@ use Rattle.matching.specs.declared.Order.{Order}
 use Rattle.matching.specs.Matching.{open_of}
 use Rattle.report.specs.declared.Place.{Place}
 use Rattle.report.specs.declared.Value.{Value}
-use Rattle.report.specs.declared.Value.TheVariants.{Absent, Number, Char, Word, Sent, Stored, Level, Mean}
+use Rattle.report.specs.declared.Value.TheVariants.{Absent, Number, Char, Sent, Stored, Level, Mean}
 use Rattle.report.specs.declared.Field.{Field}
 use Rattle.report.specs.Fields.{word, group_of}
 use Rattle.rows.specs.declared.Stamp.{Stamp}

@@ -1,5 +1,4 @@
 -- `rows::accepted_row` meets its contract: the row is the table.
-use borrow.Author.Rules.{rules}
 use mathlib.Core.Path.{ap}
 use Rattle.rows.specs.declared.Figures.{Figures}
 use Rattle.rows.specs.Rows.{padded, header, accepted_fields}

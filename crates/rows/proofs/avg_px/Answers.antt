@@ -1,6 +1,5 @@
 -- `rows::avg_px` meets its contract.
 use Rattle.rows.specs.Rows.{avg_px}
-use borrow.Author.Rules.{rules}
 use Rattle.rows.proofs.avg_px.Goals as goal
 
 pub returns : goal.returns

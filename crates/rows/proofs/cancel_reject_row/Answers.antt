@@ -1,6 +1,5 @@
 -- `rows::cancel_reject_row` meets its contract: the row is the table.
 use Rattle.rows.specs.Rows.{cancel_reject_row, header}
-use borrow.Author.Rules.{rules}
 use Rattle.rows.proofs.cancel_reject_row.Goals as goal
 
 pub returns : goal.returns

@@ -1,6 +1,5 @@
 -- `rows::count_field` meets its contract: one field a market.
 use Rattle.rows.specs.Rows.{count_field}
-use borrow.Author.Rules.{rules}
 use Rattle.rows.proofs.count_field.Goals as goal
 
 pub returns-in-Bonds : goal.returns-in-Bonds

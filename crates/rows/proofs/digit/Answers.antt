@@ -1,7 +1,6 @@
 -- `rows::digit` meets its contract.
 use mathlib.Core.Path.{refl}
 use Rattle.rows.specs.Rows.{digit}
-use borrow.Author.Rules.{rules}
 use Rattle.rows.proofs.digit.Goals as goal
 
 pub returns : goal.returns

@@ -1,7 +1,6 @@
 -- `rows::figures_of` meets its contract, figure by figure.
 use mathlib.Core.Path.{ap, ◌∙◌}
 use Rattle.rows.specs.Rows.{figures_of, digit}
-use borrow.Author.Rules.{rules}
 use Rattle.rows.proofs.figures_of.Goals as goal
 
 pub returns : goal.returns

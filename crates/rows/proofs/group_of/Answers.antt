@@ -1,6 +1,5 @@
 -- `rows::group_of` meets its contract: one group a market.
 use Rattle.rows.specs.Rows.{group}
-use borrow.Author.Rules.{rules}
 use Rattle.rows.proofs.group_of.Goals as goal
 
 pub returns-in-Bonds : goal.returns-in-Bonds

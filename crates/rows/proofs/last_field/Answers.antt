@@ -1,6 +1,5 @@
 -- `rows::last_field` meets its contract: one field a market.
 use Rattle.rows.specs.Rows.{last_field}
-use borrow.Author.Rules.{rules}
 use Rattle.rows.proofs.last_field.Goals as goal
 
 pub returns-in-Bonds : goal.returns-in-Bonds

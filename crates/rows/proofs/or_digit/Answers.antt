@@ -4,7 +4,6 @@ use Prim.Native.Nat.{ℕ}
 use Rattle.report.specs.declared.Value.{Value}
 use Rattle.rows.specs.Rows.{digit, or_digit}
 use borrow.Author.Tests.{eq-eqb, ne_eqb}
-use borrow.Author.Rules.{rules}
 use Rattle.rows.proofs.or_digit.Goals as goal
 
 -- a digit that is not 0

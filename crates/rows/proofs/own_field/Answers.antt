@@ -1,6 +1,5 @@
 -- `rows::own_field` meets its contract: one field a market.
 use Rattle.rows.specs.Rows.{own_field}
-use borrow.Author.Rules.{rules}
 use Rattle.rows.proofs.own_field.Goals as goal
 
 pub returns-in-Bonds : goal.returns-in-Bonds

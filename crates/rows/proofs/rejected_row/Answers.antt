@@ -1,7 +1,6 @@
 -- `rows::rejected_row` meets its contract: the row is the table.
 use Rattle.decimal.specs.Writing.{mean_of}
 use Rattle.rows.specs.Rows.{rejected_row, header}
-use borrow.Author.Rules.{rules}
 use Rattle.rows.proofs.rejected_row.Goals as goal
 
 pub returns : goal.returns

@@ -1,6 +1,5 @@
 -- `rows::session_reject_row` meets its contract: the row is the table.
 use Rattle.rows.specs.Rows.{session_reject_row, header}
-use borrow.Author.Rules.{rules}
 use Rattle.rows.proofs.session_reject_row.Goals as goal
 
 pub returns : goal.returns

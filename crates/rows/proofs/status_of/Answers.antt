@@ -2,7 +2,6 @@
 use mathlib.Core.Path.{sym}
 use Rattle.rows.specs.Rows.{status_of}
 use borrow.Author.Tests.{lt-ltb, le-ltb, eq-eqb, ne_eqb}
-use borrow.Author.Rules.{rules}
 use Rattle.rows.proofs.status_of.Goals as goal
 
 pub returns-then-o-gt0 : goal.returns-then-o-gt0

@@ -2,7 +2,6 @@
 use mathlib.Core.Path.{sym}
 use Rattle.rows.specs.Rows.{trade_status}
 use borrow.Author.Tests.{eq-eqb, ne_eqb}
-use borrow.Author.Rules.{rules}
 use Rattle.rows.proofs.trade_status.Goals as goal
 
 pub returns-then-open_of-eq0 : goal.returns-then-open_of-eq0

@@ -1,5 +1,4 @@
 -- `telling::accepted` meets its contract: field by field.
-use borrow.Author.Rules.{rules}
 use Rattle.rows.proofs.telling.accepted.Goals as goal
 
 pub returns : goal.returns

@@ -1,5 +1,4 @@
 -- `telling::canceled` meets its contract: field by field.
-use borrow.Author.Rules.{rules}
 use Rattle.rows.proofs.telling.canceled.Goals as goal
 
 pub returns : goal.returns

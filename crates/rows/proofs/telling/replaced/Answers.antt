@@ -1,6 +1,5 @@
 -- `telling::replaced` meets its contract: field by field.
 use native.Mathlib.Omega.{arith}
-use borrow.Author.Rules.{rules}
 use Rattle.rows.proofs.telling.replaced.Goals as goal
 
 pub overflow_cast-result : goal.overflow_cast-result

@@ -1,6 +1,5 @@
 -- `telling::traded` meets its contract: field by field.
 use native.Mathlib.Omega.{arith}
-use borrow.Author.Rules.{rules}
 use Rattle.rows.proofs.telling.traded.Goals as goal
 
 pub overflow_cast-status : goal.overflow_cast-status

@@ -1,7 +1,6 @@
 -- `write::put_fill` meets its contract: one field after another, of a trade alone.
 use Rattle.report.proofs.Writing.{ahead_all, ahead_room, ahead_more, ahead_none}
 use Rattle.octets.proofs.Runs.{wrote_none, wrote_length}
-use borrow.Author.Tests.{not-true, not-false}
 use Rattle.report.specs.Fields.{field_bytes}
 use Rattle.rows.specs.Parts.{fill_part}
 use Rattle.rows.proofs.write.put_fill.Goals as goal

@@ -3,7 +3,6 @@ use Rattle.report.proofs.Writing.{ahead_all, ahead_room, ahead_more, ahead_none}
 use Rattle.octets.proofs.Runs.{wrote_length}
 use Rattle.report.specs.Fields.{field_bytes}
 use Rattle.rows.specs.Parts.{first_part}
-use borrow.Author.Rules.{rules}
 use Rattle.rows.proofs.write.put_first.Goals as goal
 
 pub put_as-a-requires : goal.put_as-a-requires

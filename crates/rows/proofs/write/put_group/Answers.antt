@@ -1,7 +1,6 @@
 -- `write::put_group` meets its contract: the tag, the word, SOH.
 use Rattle.octets.proofs.Runs.{room_first, room_then, then, wrote_length}
 use Rattle.report.specs.Fields.{written}
-use borrow.Author.Rules.{rules}
 use Rattle.rows.proofs.write.put_group.Goals as goal
 
 pub put_label-a-requires : goal.put_label-a-requires

@@ -4,7 +4,6 @@ use borrow.Author.Tests.{eq-eqb, ne_eqb}
 use Rattle.report.specs.Fields.{field_bytes}
 use Rattle.rows.specs.Rows.{digit, or_digit, last_field}
 use native.Mathlib.Omega.{arith}
-use borrow.Author.Rules.{rules}
 use Rattle.rows.proofs.write.put_margin.Goals as goal
 
 pub returns-then-o-eq0 : goal.returns-then-o-eq0

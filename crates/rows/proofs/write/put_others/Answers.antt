@@ -1,11 +1,9 @@
 -- `write::put_others` meets its contract: one field after another, of a trade of bonds alone.
 use Rattle.report.proofs.Writing.{ahead_all, ahead_room, ahead_more, ahead_none}
 use Rattle.octets.proofs.Runs.{wrote_none, wrote_length}
-use borrow.Author.Tests.{not-true, not-false}
 use Rattle.report.specs.Fields.{field_bytes}
 use Rattle.rows.specs.Rows.{other_field, count_field}
 use Rattle.rows.specs.Parts.{others_part}
-use borrow.Author.Rules.{rules}
 use Rattle.rows.proofs.write.put_others.Goals as goal
 
 pub returns-then-not-trade : goal.returns-then-not-trade

@@ -3,7 +3,6 @@ use Rattle.octets.proofs.Runs.{wrote_length}
 use Rattle.report.specs.Fields.{field_bytes}
 use Rattle.rows.specs.Rows.{digit, own_field}
 use native.Mathlib.Omega.{arith}
-use borrow.Author.Rules.{rules}
 use Rattle.rows.proofs.write.put_own.Goals as goal
 
 pub put_number-requires : goal.put_number-requires
