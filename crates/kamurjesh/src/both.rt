@@ -16,7 +16,7 @@ ghost use Rattle.feed.specs.Copies.{fed, copy_number, copy_length, copy_next, re
 ghost use Rattle.kamurjesh.specs.Numbers.{level_in, quote_of};
 
 use crate::numbers::{
-    copy_length, copy_next, copy_number, depth_number, has_level, kind_number, level_in_lem,
+    copy_length, copy_next, copy_number, depth_number, has_level, kind_number, level_in,
     open_number, orders_of, quote_of, read_number, run_bytes, run_number, run_reports, run_steps,
     submit_length, submit_number, total_of,
 };
@@ -102,7 +102,7 @@ pub fn depth_of(
         × (orders.new ≡ orders_of (level_in (depth_answer q table.now side k))) }
 {
     let answer = depth(q, table, side, k);
-    let level = level_in_lem(answer);
+    let level = level_in(answer);
     *found = has_level(level);
     *quote = quote_of(q, level);
     *total = total_of(level);
@@ -127,7 +127,7 @@ pub fn top_of(
         × (orders.new ≡ orders_of (level_in (top_answer q table.now side))) }
 {
     let answer = top(q, table, side);
-    let level = level_in_lem(answer);
+    let level = level_in(answer);
     *found = has_level(level);
     *quote = quote_of(q, level);
     *total = total_of(level);

@@ -121,7 +121,7 @@ pub fn run_steps(answer: RunAnswer) -> u64
 }
 
 // The level that Depth's answer has, or none.
-pub fn level_in_lem(answer: DepthAnswer) -> Depth
+pub fn level_in(answer: DepthAnswer) -> Depth
     ensures { result ≡ level_in answer }
 {
     match answer {

@@ -7,7 +7,7 @@ use decimal::read::{byte_at, digit_run, read_number};
 use octets::part::{part_at, same};
 
 // The length of the message that s starts with, 0 where it cannot be read.
-fn length_found_lem(s: &[u8]) -> usize
+fn length_found(s: &[u8]) -> usize
     ensures { result ≡ length_found s.now }
 {
     if !same(part_at(s, 0, 12), b"8=FIX.4.2\x019=") {
@@ -32,5 +32,5 @@ pub fn length_at(buffer: &[u8], place: usize) -> usize
     requires { place ≤ length buffer.now }
     ensures { result ≡ length_found (drop place buffer.now) }
 {
-    length_found_lem(&buffer[place..])
+    length_found(&buffer[place..])
 }

@@ -10,7 +10,7 @@ use crate::text::{at_most, before, behind, bytes_of, marks, next, number, part};
 use decimal::Instrument;
 use kamurjesh::both::{copy_of, copy_read_of, open_of, read_of, run_of, submit_of};
 use kamurjesh::kamurjesh_field;
-use kamurjesh::numbers::{depth_number, level_in_lem};
+use kamurjesh::numbers::{depth_number, level_in};
 use market::{DepthAnswer, depth, top};
 use matching::Depth;
 use octets::part_at;
@@ -160,7 +160,7 @@ fn level(q: Instrument, d: Depth) {
 // An answer with a level, or without one.
 fn answered(q: Instrument, answer: DepthAnswer) {
     say::number(depth_number(answer));
-    level(q, level_in_lem(answer));
+    level(q, level_in(answer));
     say::word(b"\n");
 }
 
