@@ -63,8 +63,7 @@ pub fn restore_of(q: Instrument, table: &mut [u8], image: &[u8], block: &mut u64
 }
 
 // Writes the image of a market of bonds: 0, or a refusal with nothing changed.
-#[unsafe(no_mangle)]
-pub extern "C" fn kamurjesh_save(table: &[u8], image: &mut [u8]) -> u64
+pub fn kamurjesh_save(table: &[u8], image: &mut [u8]) -> u64
     ensures { (result ≡ save_number (saved_answer Bonds table.now image.old))
         × (image.new ≡ image_after Bonds table.now image.old) }
 {
@@ -72,8 +71,7 @@ pub extern "C" fn kamurjesh_save(table: &[u8], image: &mut [u8]) -> u64
 }
 
 // Writes the image of a market of equities: 0, or a refusal with nothing changed.
-#[unsafe(no_mangle)]
-pub extern "C" fn kamurjesh_equities_save(table: &[u8], image: &mut [u8]) -> u64
+pub fn kamurjesh_equities_save(table: &[u8], image: &mut [u8]) -> u64
     ensures { (result ≡ save_number (saved_answer Equities table.now image.old))
         × (image.new ≡ image_after Equities table.now image.old) }
 {
@@ -81,8 +79,7 @@ pub extern "C" fn kamurjesh_equities_save(table: &[u8], image: &mut [u8]) -> u64
 }
 
 // Reads a market of bonds back from its image: 0, or a refusal, 13 with the number of the first bad block.
-#[unsafe(no_mangle)]
-pub extern "C" fn kamurjesh_restore(table: &mut [u8], image: &[u8], block: &mut u64) -> u64
+pub fn kamurjesh_restore(table: &mut [u8], image: &[u8], block: &mut u64) -> u64
     ensures { (result ≡ restore_number (restored_answer Bonds table.old image.now))
         × (block.new ≡ bad_block (restored_answer Bonds table.old image.now))
         × (table.new ≡ table_after Bonds table.old image.now) }
@@ -91,8 +88,7 @@ pub extern "C" fn kamurjesh_restore(table: &mut [u8], image: &[u8], block: &mut 
 }
 
 // Reads a market of equities back from its image: 0, or a refusal, 13 with the number of the first bad block.
-#[unsafe(no_mangle)]
-pub extern "C" fn kamurjesh_equities_restore(table: &mut [u8], image: &[u8], block: &mut u64) -> u64
+pub fn kamurjesh_equities_restore(table: &mut [u8], image: &[u8], block: &mut u64) -> u64
     ensures { (result ≡ restore_number (restored_answer Equities table.old image.now))
         × (block.new ≡ bad_block (restored_answer Equities table.old image.now))
         × (table.new ≡ table_after Equities table.old image.now) }

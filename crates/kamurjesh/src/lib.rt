@@ -32,8 +32,7 @@ use decimal::Instrument;
 use report::read::field;
 
 // Opens a market of bonds in the table: 0, or refusal 9 with nothing changed.
-#[unsafe(no_mangle)]
-pub extern "C" fn kamurjesh_open(
+pub fn kamurjesh_open(
     table: &mut [u8],
     venue: &[u8],
     port: &[u8],
@@ -58,8 +57,7 @@ pub extern "C" fn kamurjesh_open(
 }
 
 // Opens a market of equities in the table: 0, or refusal 9 with nothing changed.
-#[unsafe(no_mangle)]
-pub extern "C" fn kamurjesh_equities_open(
+pub fn kamurjesh_equities_open(
     table: &mut [u8],
     venue: &[u8],
     port: &[u8],
@@ -84,13 +82,7 @@ pub extern "C" fn kamurjesh_equities_open(
 }
 
 // Takes one message to a market of bonds: 0, or a refusal; with the length of the report that it writes, 0 where it writes none.
-#[unsafe(no_mangle)]
-pub extern "C" fn kamurjesh_submit(
-    table: &mut [u8],
-    message: &[u8],
-    area: &mut [u8],
-    len: &mut u64,
-) -> u64
+pub fn kamurjesh_submit(table: &mut [u8], message: &[u8], area: &mut [u8], len: &mut u64) -> u64
     ensures { (result ≡ submit_number (submitted Bonds table.old message.now (length area.old)).answer)
         × (len.new ≡ submit_length (submitted Bonds table.old message.now (length area.old)).answer)
         × (table.new ≡ (submitted Bonds table.old message.now (length area.old)).table)
@@ -100,8 +92,7 @@ pub extern "C" fn kamurjesh_submit(
 }
 
 // Takes one message to a market of equities: 0, or a refusal; with the length of the report that it writes, 0 where it writes none.
-#[unsafe(no_mangle)]
-pub extern "C" fn kamurjesh_equities_submit(
+pub fn kamurjesh_equities_submit(
     table: &mut [u8],
     message: &[u8],
     area: &mut [u8],
@@ -116,8 +107,7 @@ pub extern "C" fn kamurjesh_equities_submit(
 }
 
 // Takes steps of the order in work on a market of bonds: 0 with the bytes and reports written and the steps taken, or a refusal.
-#[unsafe(no_mangle)]
-pub extern "C" fn kamurjesh_run(
+pub fn kamurjesh_run(
     table: &mut [u8],
     area: &mut [u8],
     budget: u64,
@@ -144,8 +134,7 @@ pub extern "C" fn kamurjesh_run(
 }
 
 // Takes steps of the order in work on a market of equities: 0 with the bytes and reports written and the steps taken, or a refusal.
-#[unsafe(no_mangle)]
-pub extern "C" fn kamurjesh_equities_run(
+pub fn kamurjesh_equities_run(
     table: &mut [u8],
     area: &mut [u8],
     budget: u64,
@@ -173,8 +162,7 @@ pub extern "C" fn kamurjesh_equities_run(
 
 // Takes the messages of a buffer to a market of bonds, each submitted and run to its end: 0, or why it stopped, with the place of the
 // first message not submitted, the messages finished, and the bytes and reports written; or a refusal.
-#[unsafe(no_mangle)]
-pub extern "C" fn kamurjesh_load(
+pub fn kamurjesh_load(
     table: &mut [u8],
     buffer: &[u8],
     area: &mut [u8],
@@ -205,8 +193,7 @@ pub extern "C" fn kamurjesh_load(
 
 // Takes the messages of a buffer to a market of equities, each submitted and run to its end: 0, or why it stopped, with the place of the
 // first message not submitted, the messages finished, and the bytes and reports written; or a refusal.
-#[unsafe(no_mangle)]
-pub extern "C" fn kamurjesh_equities_load(
+pub fn kamurjesh_equities_load(
     table: &mut [u8],
     buffer: &[u8],
     area: &mut [u8],
@@ -237,8 +224,7 @@ pub extern "C" fn kamurjesh_equities_load(
 
 // The k-th level of a side from the best, of a market of bonds: 0 with whether there is one, its yield, total and number of orders; or a
 // refusal.
-#[unsafe(no_mangle)]
-pub extern "C" fn kamurjesh_depth(
+pub fn kamurjesh_depth(
     table: &[u8],
     side: u64,
     k: u64,
@@ -267,8 +253,7 @@ pub extern "C" fn kamurjesh_depth(
 
 // The k-th level of a side from the best, of a market of equities: 0 with whether there is one, its price, total and number of orders;
 // or a refusal.
-#[unsafe(no_mangle)]
-pub extern "C" fn kamurjesh_equities_depth(
+pub fn kamurjesh_equities_depth(
     table: &[u8],
     side: u64,
     k: u64,
@@ -297,8 +282,7 @@ pub extern "C" fn kamurjesh_equities_depth(
 
 // The best level of a side, from the heading of a market of bonds: 0 with whether there is one, its yield, total and number of orders;
 // or a refusal.
-#[unsafe(no_mangle)]
-pub extern "C" fn kamurjesh_top(
+pub fn kamurjesh_top(
     table: &[u8],
     side: u64,
     found: &mut u64,
@@ -325,8 +309,7 @@ pub extern "C" fn kamurjesh_top(
 
 // The best level of a side, from the heading of a market of equities: 0 with whether there is one, its price, total and number of
 // orders; or a refusal.
-#[unsafe(no_mangle)]
-pub extern "C" fn kamurjesh_equities_top(
+pub fn kamurjesh_equities_top(
     table: &[u8],
     side: u64,
     found: &mut u64,
@@ -352,24 +335,21 @@ pub extern "C" fn kamurjesh_equities_top(
 }
 
 // The kind of a report of bonds: 0 and the kind, or refusal 11.
-#[unsafe(no_mangle)]
-pub extern "C" fn kamurjesh_read(report: &[u8], kind: &mut u64) -> u64
+pub fn kamurjesh_read(report: &[u8], kind: &mut u64) -> u64
     ensures { (result ≡ read_number (read_of Bonds report.now).kind) × (kind.new ≡ kind_number (read_of Bonds report.now).kind) }
 {
     read_of(Instrument::Bonds, report, kind)
 }
 
 // The kind of a report of equities: 0 and the kind, or refusal 11.
-#[unsafe(no_mangle)]
-pub extern "C" fn kamurjesh_equities_read(report: &[u8], kind: &mut u64) -> u64
+pub fn kamurjesh_equities_read(report: &[u8], kind: &mut u64) -> u64
     ensures { (result ≡ read_number (read_of Equities report.now).kind) × (kind.new ≡ kind_number (read_of Equities report.now).kind) }
 {
     read_of(Instrument::Equities, report, kind)
 }
 
 // Where the value of a tag stands in a report or a copy of either: 1 with its first byte and its length, or 0 where no field has the tag.
-#[unsafe(no_mangle)]
-pub extern "C" fn kamurjesh_field(report: &[u8], tag: u64, start: &mut u64, len: &mut u64) -> u64
+pub fn kamurjesh_field(report: &[u8], tag: u64, start: &mut u64, len: &mut u64) -> u64
     ensures { (result ≡ is_there (part_of report.now tag))
         × (start.new ≡ start_of (part_of report.now tag))
         × (len.new ≡ len_of (part_of report.now tag)) }
@@ -381,8 +361,7 @@ pub extern "C" fn kamurjesh_field(report: &[u8], tag: u64, start: &mut u64, len:
 }
 
 // Hands a feed one report of bonds: 0 with the length of its copy, 0 where it is not copied, and the feed's next number; or a refusal.
-#[unsafe(no_mangle)]
-pub extern "C" fn kamurjesh_copy(
+pub fn kamurjesh_copy(
     report: &[u8],
     subscription: u64,
     shows: u64,
@@ -413,8 +392,7 @@ pub extern "C" fn kamurjesh_copy(
 }
 
 // Hands a feed one report of equities: 0 with the length of its copy, 0 where it is not copied, and the feed's next number; or a refusal.
-#[unsafe(no_mangle)]
-pub extern "C" fn kamurjesh_equities_copy(
+pub fn kamurjesh_equities_copy(
     report: &[u8],
     subscription: u64,
     shows: u64,
@@ -445,16 +423,14 @@ pub extern "C" fn kamurjesh_equities_copy(
 }
 
 // The kind of a copy of a report of bonds: 0 and the kind, or refusal 11.
-#[unsafe(no_mangle)]
-pub extern "C" fn kamurjesh_copy_read(copy: &[u8], kind: &mut u64) -> u64
+pub fn kamurjesh_copy_read(copy: &[u8], kind: &mut u64) -> u64
     ensures { (result ≡ read_number (read_copy_of Bonds copy.now).kind) × (kind.new ≡ kind_number (read_copy_of Bonds copy.now).kind) }
 {
     copy_read_of(Instrument::Bonds, copy, kind)
 }
 
 // The kind of a copy of a report of equities: 0 and the kind, or refusal 11.
-#[unsafe(no_mangle)]
-pub extern "C" fn kamurjesh_equities_copy_read(copy: &[u8], kind: &mut u64) -> u64
+pub fn kamurjesh_equities_copy_read(copy: &[u8], kind: &mut u64) -> u64
     ensures { (result ≡ read_number (read_copy_of Equities copy.now).kind) × (kind.new ≡ kind_number (read_copy_of Equities copy.now).kind) }
 {
     copy_read_of(Instrument::Equities, copy, kind)
