@@ -1,6 +1,6 @@
-// The market for programs in C (include/kamurjesh.h). Each call of bonds, and the call of equities beside it, is the one that both has for
-// either; both writes each value of an answer through a pointer, 0 where it has none. Load is in loads, and the calls that keep a market
-// overnight are in images. A slice passes as a pointer and a length.
+// The calls of the market as programs in C make them (include/kamurjesh.h), which kamurjesh_c exports. Each call of bonds, and the call of
+// equities beside it, is the one that both has for either; both writes each value of an answer through a pointer, 0 where it has none. Load
+// is in loads, and the calls that keep a market overnight are in images.
 #![tactic(auto)]
 
 ghost use Rattle.std.specs.Prelude.{◌≡◌, length};
