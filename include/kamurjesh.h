@@ -1,7 +1,7 @@
 /* The rehearsal market for C and C++: one bond or one share, one FIX port, up to 255 open orders. The calls for bonds come first, those
  * for equities, kamurjesh_equities_.., at the end.
  *
- *     rt staticlib kamurjesh
+ *     scripts/library
  *     cc -Iinclude -o host examples/host.c target/staticlib/libkamurjesh.a        (on x86-64 Linux)
  *
  * or, with a release and without the kit,

@@ -1,19 +1,10 @@
-# For ./book, ./rehearse, the tests and bench/run: proves and builds what they need. Says on standard error what it is doing meanwhile, and does
-# nothing where nothing has changed since it was last done. Sourced by bash, in the tree's folder.
+# For ./book, ./rehearse, the gate, the tests and bench/run: proves and builds what they need. Says on standard error what it is doing meanwhile,
+# and does nothing where nothing has changed since it was last done. Sourced by bash, in the tree's folder.
 
 command -v rt >/dev/null || { echo "the Rattle kit is needed: there is no command rt" >&2; exit 1; }
 
-# The kit's folder, and what in it is for this kind of machine.
-kit=${RATTLE_HOME:-$(dirname "$(dirname "$(readlink -f "$(command -v rt)")")")}
-kit_tools=$kit/on/$(uname -m)/toolchain
-
-# run_program PROGRAM WORDS..: in place of this script, a program that the kit has linked, under the kit's C library; on another processor than
-# x86-64 under the kit's emulator.
-run_program() {
-  local emulator=$kit_tools/bin/qemu-x86_64
-  [ -x "$emulator" ] || emulator=
-  exec ${emulator:+"$emulator"} "$kit_tools/lib/ld-linux-x86-64.so.2" --library-path "$kit_tools/lib" "$@"
-}
+# The kit's folder.
+kit=$(dirname "$(dirname "$(readlink -f "$(command -v rt)")")")
 
 # crates_below NAME: this crate and all it stands on, as crates.txt says, a line each, the lowest first.
 crates_below() {
@@ -25,7 +16,7 @@ crates_below() {
       print crate
     }
     { sub(/#.*/, "") }
-    /:/ { crate = $0; sub(/:.*/, "", crate); gsub(/[ \t]/, "", crate); sub(/^[^:]*:/, ""); stands_on[crate] = $0 }
+    /:/ { crate = $1; sub(/:.*/, "", crate); sub(/^[^:]*:/, ""); stands_on[crate] = $0 }
     END { visit(name) }' crates.txt
 }
 
@@ -39,7 +30,7 @@ content_of() {
     uname -m
     cat crates.txt
     # shellcheck disable=SC2046
-    find $(crates_below "$name" | sed 's,^,crates/,') "$@" -name must-fail -prune -o -type f -print0 | LC_ALL=C sort -z | xargs -0 sha256sum
+    find $(crates_below "$name" | sed 's,^,crates/,') "$@" \( -name must-fail -o -name out \) -prune -o -type f -print0 | LC_ALL=C sort -z | xargs -0 sha256sum
   } | sha256sum
 }
 
@@ -48,15 +39,13 @@ is_built() { [ -f "$1" ] && [ "$(cat "$1.content" 2>/dev/null)" = "$(made_from "
 mark_built() { made_from "$@" >"$1.content"; }
 made_from() { echo "$(sha256sum <"$1") from $2"; }
 
-# say_progress CRATE..: how far rt is: its log of a crate is there from the start of the crate's check, and ends with the verdict.
+# say_progress LOG: how far rt is, by what it has said: each crate that is proved has a last line, and each function that is proved a line with its
+# crate's name.
+said='' said_at=0
 say_progress() {
-  local crate log proved=0 now=() words
-  for crate in "$@"; do
-    log=target/log/$crate.out
-    [ -f "$log" ] || continue
-    if grep -q "^rt: $crate proved" "$log"; then proved=$((proved + 1)); else now+=("$crate"); fi
-  done
-  words="$proved of $# crates proved${now[*]:+, proving ${now[*]}}"
+  local now words
+  now=$(sed -nE 's/^[a-z]+ ([a-z_0-9]+)::[^ ]*: (not )?proved.*/\1/p' "$1" | tail -n 1)
+  words="crates proved: $(grep -c '^logic=proved' "$1" || true)${now:+, the last function is of $now}"
   if [ -t 2 ]; then
     printf '\r\033[K%s, %s s so far' "$words" "$SECONDS" >&2
   elif [ "$words" != "$said" ] || [ $((SECONDS - said_at)) -ge 30 ]; then
@@ -65,13 +54,10 @@ say_progress() {
   fi
 }
 
-# watched NAME COMMAND..: runs a command that proves crate NAME and those below it, and says meanwhile how far it is. Where it
-# fails, what it said is printed, and the script ends with status 1. Interrupted, it stops the provers as well.
+# watched COMMAND..: runs a command that proves crates, and says meanwhile how far it is. Where it fails, what it said is printed, and the
+# script ends with status 1. Interrupted, it stops the provers as well.
 watched() {
-  local name=$1 crates crate log job said='' said_at=0
-  shift
-  mapfile -t crates < <(crates_below "$name")
-  for crate in "${crates[@]}"; do rm -f "target/log/$crate.out"; done
+  local log job
   log=$(mktemp)
   SECONDS=0
   set -m
@@ -81,7 +67,7 @@ watched() {
   trap 'kill -- -$job 2>/dev/null; rm -f "$log"; exit 130' INT TERM
   while kill -0 "$job" 2>/dev/null; do
     sleep 0.5
-    [ "$SECONDS" -lt 2 ] || say_progress "${crates[@]}"
+    [ "$SECONDS" -lt 2 ] || say_progress "$log"
   done
   trap - INT TERM
   [ ! -t 2 ] || [ "$SECONDS" -lt 2 ] || printf '\r\033[K' >&2
@@ -89,66 +75,46 @@ watched() {
   rm -f "$log"
 }
 
-# prove NAME..: these crates and what they stand on. rt waits for a batch of crates before it starts the next, so one more at a time
-# than there are processors leaves none of them idle.
-prove() { RT_JOBS=${RT_JOBS:-$(($(nproc) + 1))} rt check "$@"; }
-
-# need_program NAME: target/bin/NAME is proved and built.
+# need_program NAME: target/bin/NAME is proved and built, and target/obj/NAME.o is the same program as one object.
 need_program() {
   local content
   content=$(content_of "$1")
-  is_built "target/bin/$1" "$content" && return
-  watched "$1" prove "$1"
+  is_built "target/bin/$1" "$content" && [ -f "target/obj/$1.o" ] && return
+  watched prove_program "$1"
   mark_built "target/bin/$1" "$content"
 }
+# (rt runs what it has proved, once, on the crate's own input; with nothing changed it compiles nothing)
+prove_program() {
+  local out=crates/$1/out
+  [ -f "$out/$1.o" ] || rm -f "$out/$1.stamp"
+  (cd "crates/$1" && rt run <stdin) && put_program "$1" "$out/$1" "$out/$1.o"
+}
+# put_program NAME PROGRAM OBJECT
+put_program() { mkdir -p target/bin target/obj && cp "$2" "target/bin/$1" && cp "$3" "target/obj/$1.o"; }
 
-# need_library NAME: target/staticlib/libNAME.a is proved and built. The crates below are proved side by side first, which
-# `rt staticlib` does one by one.
+# need_library NAME: target/staticlib/libNAME.a, the archive of crate NAME_c, is proved and built.
 need_library() {
   local content file=target/staticlib/lib$1.a
-  content=$(content_of "$1")
+  content=$(content_of "$1_c")
   is_built "$file" "$content" && return
-  watched "$1" prove_library "$1"
+  watched prove_library "$1"
   mark_built "$file" "$content"
 }
-prove_library() {
-  local below
-  mapfile -t below < <(crates_below "$1" | head -n -1)
-  prove "${below[@]}" || return 1
-  rt staticlib "$1" >"target/log/$1.out" 2>&1 || { cat "target/log/$1.out"; return 1; }
-}
+prove_library() { (cd "crates/$1_c" && rt lib) && mkdir -p target/staticlib && cp "crates/$1_c/out/lib$1_c.a" "target/staticlib/lib$1.a"; }
 
-# need_unproved NAME: target/unproved/NAME is the program NAME compiled with no proof. It is the first that `rt try` makes, at -O0, where the
-# compiler relies on nothing that only a proof could show. `rt try` removes what it makes, so its kit here is one of links to the real
-# one, but for a linker that keeps the program and then stops it: whatever else it would try takes longer.
-need_unproved() {
-  local name=$1 content here=$PWD/target/unproved shadow own log
-  content=$(content_of "$name")
-  is_built "$here/$name" "$content" && return
-  mkdir -p "$here"
-  shadow=$(mktemp -d "$here/kit.XXXXXX")
-  own=$shadow/on/$(uname -m)
-  mkdir -p "$own/toolchain/bin"
-  links_to "$kit" "$shadow"
-  links_to "$kit/on/$(uname -m)" "$own"
-  links_to "$kit_tools" "$own/toolchain"
-  links_to "$kit_tools/bin" "$own/toolchain/bin"
-  rm "$own/toolchain/bin/ld.lld"
-  printf '#!/bin/sh\n%q "$@" && cp program %q\nexit 1\n' "$kit_tools/bin/ld.lld" "$shadow/program" >"$own/toolchain/bin/ld.lld"
-  chmod +x "$own/toolchain/bin/ld.lld"
-  log=$(RATTLE_HOME=$shadow rt try "$name" 2>&1 </dev/null) || true
-  if ! mv "$shadow/program" "$here/$name" 2>/dev/null; then
-    rm -rf "$shadow"
-    echo "$log" >&2
-    exit 1
+# take_from_gate PROGRAM LIBRARY: the same two out of what `rt ci` has proved, for .ci/run right after it has passed: what is left to do is one
+# more check of the two crates themselves. Where crates/*/out has work of other commands too, it does nothing: they go on with that.
+take_from_gate() {
+  local content program=crates/$1/out/$1 object=$PWD/crates/$1/out/$1.o file=$PWD/target/staticlib/lib$2.a
+  content=$(content_of "$2_c")
+  if ! is_built "$file" "$content"; then
+    scripts/over-ci "$2_c" "$file" || return "$(($? == 3 ? 0 : 1))"
+    mark_built "$file" "$content"
   fi
-  rm -rf "$shadow"
-  mark_built "$here/$name" "$content"
-}
-# links_to FROM TO: a link in folder TO to each entry of FROM that it has not.
-links_to() {
-  local entry
-  for entry in "$1"/*; do
-    [ -e "$2/${entry##*/}" ] || ln -s "$entry" "$2/${entry##*/}"
-  done
+  content=$(content_of "$1")
+  if ! is_built "target/bin/$1" "$content" || [ ! -f "target/obj/$1.o" ]; then
+    [ -f "$object" ] || scripts/over-ci "$1" "$object" || return "$(($? == 3 ? 0 : 1))"
+    put_program "$1" "$program" "$object"
+    mark_built "target/bin/$1" "$content"
+  fi
 }
