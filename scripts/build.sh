@@ -26,7 +26,7 @@ content_of() {
   local name=$1
   shift
   {
-    rt version
+    cat "$kit/KIT-ID"
     uname -m
     cat crates.txt
     # shellcheck disable=SC2046
