@@ -6,6 +6,8 @@ mod print;
 mod program;
 mod take;
 
-fn main() {
-    program::print_book();
+use std::io::Result;
+
+fn main(rt: HostRuntime) -> Result<()> {
+    program::print_book(&rt, &mut rt.stdin())
 }

@@ -1,6 +1,6 @@
 // The program `book`: reads standard input to its end, and prints the sheet of the market that its lines leave. The market trades bonds;
 // with the argument --equities it trades equities.
-ghost use Rattle.std.specs.Prelude.{◌≡◌, ◌≤◌, length};
+ghost use Rattle.std.specs.Prelude.{◌≡◌, ℕ, ◌≤◌, length, IfOk, OnErr};
 ghost use Rattle.book.specs.Book.{area_bytes, traded, rehearsal};
 ghost use Rattle.book.specs.Reading.{line_bytes, Held, Came, Printed};
 
@@ -9,6 +9,8 @@ use crate::take::{take_bytes, take_end};
 use decimal::Instrument;
 use market::open;
 use octets::{part_at, same};
+use std::io::{Read, Result};
+use std::rt::Env;
 
 // How many bytes of a line are held after a read, and whether there may be more to read.
 #[derive(Clone, Copy)]
@@ -38,68 +40,91 @@ fn open_rehearsal(q: Instrument, t: &mut [u8])
     }
 }
 
-// Reads a part of the input and takes its bytes.
-fn read_some(q: Instrument, t: &mut [u8], line: &mut [u8], held: usize, area: &mut [u8]) -> Chunk
+// Reads a part of the input and takes its bytes. A read that fails takes nothing.
+fn read_some(
+    input: &mut impl Read,
+    q: Instrument,
+    t: &mut [u8],
+    line: &mut [u8],
+    held: usize,
+    area: &mut [u8],
+) -> Result<Chunk>
     requires { Held line.old held × (length area.old ≡ area_bytes) }
-    ensures { Came q t.old line.old held t.new line.new result.held × (length area.new ≡ area_bytes) }
+    ensures came { IfOk result (λ c. Came q t.old line.old held t.new line.new c.held) }
+    ensures lent { length area.new ≡ area_bytes }
+    ensures failed { OnErr result ((t.new ≡ t.old) × (line.new ≡ line.old)) }
 {
-    let mut b = io::large_buffer();
-    let n = io::read_full(0, &mut b);
+    let mut b = [0u8; 65536];
+    let n = input.read(&mut b)?;
     if n == 0 {
-        return Chunk { held, more: false };
+        return Ok(Chunk { held, more: false });
     }
     let h = take_bytes(q, t, line, held, area, &b[..n]);
-    Chunk {
+    Ok(Chunk {
         held: h,
         more: true,
-    }
+    })
 }
 
-// Reads the input to its end and takes its bytes. The turns are counted down from a number that no run uses up.
-fn read_all(q: Instrument, t: &mut [u8], line: &mut [u8], area: &mut [u8]) -> usize
+// Reads the input to its end and takes its bytes, in more turns than any run uses up. Where a read fails, what came before it is taken.
+fn read_all(
+    input: &mut impl Read,
+    q: Instrument,
+    t: &mut [u8],
+    line: &mut [u8],
+    area: &mut [u8],
+) -> Result<usize>
     requires { (length line.old ≡ line_bytes) × (length area.old ≡ area_bytes) }
-    ensures { Came q t.old line.old 0 t.new line.new result × (length area.new ≡ area_bytes) }
+    ensures came { IfOk result (λ held. Came q t.old line.old 0 t.new line.new held) }
+    ensures lent { length area.new ≡ area_bytes }
+    ensures failed { OnErr result ((held : ℕ) × Came q t.old line.old 0 t.new line.new held) }
 {
     let mut held = 0;
-    let mut turns = u64::MAX;
-    while 0 < turns {
-        let c = read_some(q, t, line, held, area);
+    for _ in 0..u64::MAX {
+        let c = read_some(input, q, t, line, held, area)?;
         held = c.held;
         if !c.more {
-            return held;
+            break;
         }
-        turns -= 1;
     }
-    held
+    Ok(held)
 }
 
-// Reads the input and writes the sheet at the start of out. Its length is given back.
-fn book(q: Instrument, out: &mut [u8]) -> usize
+// Reads the input and writes the sheet at the start of out. Its length is given back. Where a read fails, out stays.
+fn book(input: &mut impl Read, q: Instrument, out: &mut [u8]) -> Result<usize>
     requires { 16384 ≤ length out.old }
-    ensures { Printed q out.old result out.new }
+    ensures printed { IfOk result (λ n. Printed q out.old n out.new) }
+    ensures failed { OnErr result (out.new ≡ out.old) }
 {
     let mut t = [0u8; 32768];
     let mut line = [0u8; 1025];
     let mut area = [0u8; 262144];
     open_rehearsal(q, &mut t);
-    let held = read_all(q, &mut t, &mut line, &mut area);
+    let held = read_all(input, q, &mut t, &mut line, &mut area)?;
     take_end(q, &mut t, &mut line, held, &mut area);
-    write_sheet(q, &t, out)
+    Ok(write_sheet(q, &t, out))
 }
 
 // What the market trades, by the first argument.
-fn asked() -> Instrument {
+fn asked(rt: &impl Env) -> Instrument {
     let mut first = [0u8; 16];
-    let n = os::arg(1, &mut first);
-    if same(part_at(&first, 0, n), b"--equities") {
+    match rt.arg(1, &mut first) {
+        Ok(n) => traded_at(part_at(&first, 0, n)),
+        Err(_) => Instrument::Bonds,
+    }
+}
+
+// What the market trades that is asked for by this word: bonds, unless it is --equities.
+fn traded_at(word: &[u8]) -> Instrument {
+    if same(word, b"--equities") {
         return Instrument::Equities;
     }
     Instrument::Bonds
 }
 
 // All that the program does.
-pub fn print_book() {
+pub fn print_book(rt: &(impl Env + Print), input: &mut impl Read) -> Result<()> {
     let mut out = [0u8; 16384];
-    let n = book(asked(), &mut out);
-    io::write_all(1, &out[..n]);
+    let n = book(input, asked(rt), &mut out)?;
+    rt.write_all(&out[..n])
 }

@@ -9,6 +9,7 @@ use fix::frame::checksum;
 use octets::part::copy_into;
 use report::Kind;
 use report::write::put_trailer;
+use std::io::Result;
 
 // Whether a kind is none.
 fn none(k: Kind) -> bool
@@ -111,41 +112,43 @@ fn refused_in(q: Instrument, s: &[u8], again: bool, n: usize) -> u64
 }
 
 // Writes how many of the changes were refused, and how many were read.
-fn counts(word: &[u8], refused: u64, tried: u64) {
-    io::write_all(1, word);
-    io::print_decimal(1, refused);
-    io::write_all(1, b" refused, ");
+fn counts(out: &impl Print, word: &[u8], refused: u64, tried: u64) -> Result<()> {
+    out.write_all(word)?;
+    print!(out; "{refused} refused, ")?;
     if refused <= tried {
-        io::print_decimal(1, tried - refused);
+        out.print(tried - refused)?;
     }
-    io::write_all(1, b" read");
+    out.write_all(b" read")
 }
 
 // Writes the counts of a report, which has 7 to 512 bytes.
-fn report(q: Instrument, s: &[u8])
+fn report(out: &impl Print, q: Instrument, s: &[u8]) -> Result<()>
     requires { Sized s.now }
 {
     let n = s.len();
     let m = n - 7;
-    io::print_decimal(1, n as u64);
+    out.print(n)?;
     counts(
+        out,
         b" bytes: changes ",
         refused_in(q, s, false, n),
         255 * (n as u64),
-    );
+    )?;
     counts(
+        out,
         b"; with 10 made true, ",
         refused_in(q, s, true, m),
         255 * (m as u64),
-    );
-    io::write_all(1, b"\n");
+    )?;
+    out.write_all(b"\n")
 }
 
 // Writes the counts of a line that can be a report.
-pub fn line(q: Instrument, s: &[u8]) {
+pub fn line(out: &impl Print, q: Instrument, s: &[u8]) -> Result<()> {
     if 7 <= s.len() {
         if s.len() <= 512 {
-            report(q, s);
+            return report(out, q, s);
         }
     }
+    Ok(())
 }

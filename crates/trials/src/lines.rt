@@ -5,6 +5,7 @@ ghost use Rattle.std.specs.Prelude.{◌≤◌, length};
 use crate::{changed, messages, openings, samples, tables};
 use decimal::Instrument;
 use octets::part_at;
+use std::io::Result;
 
 // The place of the next line end from `at` on, or the end.
 fn line_end(s: &[u8], at: usize) -> usize
@@ -87,47 +88,47 @@ fn named(s: &[u8]) -> Trial {
 }
 
 // Begins a section; samples and opened markets are written at once.
-fn begin(s: &[u8]) -> Trial {
-    io::write_all(1, s);
-    io::write_all(1, b"\n");
+fn begin(out: &impl Print, s: &[u8]) -> Result<Trial> {
+    out.write_all(s)?;
+    out.write_all(b"\n")?;
     let trial = named(s);
     let section = trial.section;
     let of = trial.of;
     if section == 3 {
-        samples::all(of);
+        samples::all(out, of)?;
     }
     if section == 5 {
-        openings::all(of);
+        openings::all(out, of)?;
     }
-    trial
+    Ok(trial)
 }
 
 // Tries a line of a section.
-fn try_line(s: &[u8], trial: Trial) {
+fn try_line(out: &impl Print, s: &[u8], trial: Trial) -> Result<()> {
     let section = trial.section;
     let of = trial.of;
     match section {
-        1 => messages::line(of, s),
-        2 => tables::line(of, s, section),
-        4 => changed::line(of, s),
-        6 => tables::line(of, s, section),
-        7 => tables::line(of, s, section),
-        8 => tables::line(of, s, section),
-        _ => {}
+        1 => messages::line(out, of, s),
+        2 => tables::line(out, of, s, section),
+        4 => changed::line(out, of, s),
+        6 => tables::line(out, of, s, section),
+        7 => tables::line(out, of, s, section),
+        8 => tables::line(out, of, s, section),
+        _ => Ok(()),
     }
 }
 
 // Takes a line, and gives what is tried of the next one.
-fn line(s: &[u8], trial: Trial) -> Trial {
+fn line(out: &impl Print, s: &[u8], trial: Trial) -> Result<Trial> {
     if octets::same(part_at(s, 0, 2), b"==") {
-        return begin(s);
+        return begin(out, s);
     }
-    try_line(s, trial);
-    trial
+    try_line(out, s, trial)?;
+    Ok(trial)
 }
 
 // The lines, one after another.
-pub fn lines(s: &[u8]) {
+pub fn lines(out: &impl Print, s: &[u8]) -> Result<()> {
     let mut at = 0;
     let mut trial = Trial {
         section: 0,
@@ -135,7 +136,8 @@ pub fn lines(s: &[u8]) {
     };
     while at < s.len() {
         let e = line_end(s, at);
-        trial = line(&s[at..e], trial);
+        trial = line(out, &s[at..e], trial)?;
         at = e + 1;
     }
+    Ok(())
 }

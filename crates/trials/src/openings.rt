@@ -6,6 +6,7 @@ ghost use Rattle.members.specs.Members.{mpids_of, modes_of};
 
 use decimal::Instrument;
 use members::Member;
+use std::io::Result;
 use table::entries::entries;
 
 // Lends the first n of nine members to Open.
@@ -42,25 +43,21 @@ fn nine() -> [Member; 9] {
 }
 
 // One line: n members lent.
-fn line(q: Instrument, n: usize)
+fn line(out: &impl Print, q: Instrument, n: usize) -> Result<()>
     requires { n ≤ 9 }
 {
     let mut table: [u8; 32768] = [0; 32768];
     let members = nine();
     let answer = open_first(q, &mut table, b"V", b"P", b"350", 1, members, n);
-    io::print_decimal(1, n as u64);
-    io::write_all(1, b" ");
-    io::print_decimal(1, answer);
-    io::write_all(1, b" ");
-    io::print_decimal(1, entries(&table) as u64);
-    io::write_all(1, b"\n");
+    let listed = entries(&table);
+    println!(out; "{n} {answer} {listed}")
 }
 
 // All of them.
-pub fn all(q: Instrument) {
-    line(q, 0);
-    line(q, 1);
-    line(q, 5);
-    line(q, 8);
-    line(q, 9);
+pub fn all(out: &impl Print, q: Instrument) -> Result<()> {
+    line(out, q, 0)?;
+    line(out, q, 1)?;
+    line(out, q, 5)?;
+    line(out, q, 8)?;
+    line(out, q, 9)
 }

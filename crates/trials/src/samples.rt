@@ -11,6 +11,7 @@ use decimal::Instrument;
 use matching::Order;
 use report::{Field, Place, Value};
 use rows::{Faulty, Fill, Ground, Refused, Shown, Stamp, Unchanged};
+use std::io::Result;
 
 // A bar for SOH, and every other byte as it is.
 fn bar(b: u8) -> u8 {
@@ -27,7 +28,7 @@ fn bars(s: &mut [u8]) {
 }
 
 // Writes a report into an area and prints it.
-fn print(row: [Field; 36])
+fn print(out: &impl Print, row: [Field; 36]) -> Result<()>
     requires { RowFine row }
 {
     let mut area = [0u8; 512];
@@ -39,9 +40,10 @@ fn print(row: [Field; 36])
     );
     bars(&mut area);
     if n <= 512 {
-        io::write_all(1, &area[..n]);
-        io::write_all(1, b"\n");
+        out.write_all(&area[..n])?;
+        out.write_all(b"\n")?;
     }
+    Ok(())
 }
 
 // The start of a report: venue V, port P, and the 52 that the table keeps.
@@ -204,46 +206,46 @@ fn sell(level: u64, executed: u64, canceled: u64, sum: u64) -> Order
     }
 }
 
-pub fn accepted(q: Instrument, s: Stamp, o: Shown)
+pub fn accepted(out: &impl Print, q: Instrument, s: Stamp, o: Shown) -> Result<()>
     requires { StampFine q s × ShownFine q o }
 {
-    print(rows::accepted_row(s, o));
+    print(out, rows::accepted_row(s, o))
 }
 
-pub fn replaced(q: Instrument, s: Stamp, o: Shown, w: Ground)
+pub fn replaced(out: &impl Print, q: Instrument, s: Stamp, o: Shown, w: Ground) -> Result<()>
     requires { StampFine q s × ShownFine q o × GroundFine w }
 {
-    print(rows::replaced_row(s, o, w));
+    print(out, rows::replaced_row(s, o, w))
 }
 
-pub fn canceled(q: Instrument, s: Stamp, o: Shown, w: Ground)
+pub fn canceled(out: &impl Print, q: Instrument, s: Stamp, o: Shown, w: Ground) -> Result<()>
     requires { StampFine q s × ShownFine q o × GroundFine w }
 {
-    print(rows::canceled_row(s, o, w));
+    print(out, rows::canceled_row(s, o, w))
 }
 
-pub fn trade(q: Instrument, s: Stamp, o: Shown, f: Fill)
+pub fn trade(out: &impl Print, q: Instrument, s: Stamp, o: Shown, f: Fill) -> Result<()>
     requires { StampFine q s × ShownFine q o × FillIn q f }
 {
-    print(rows::trade_row(s, o, f));
+    print(out, rows::trade_row(s, o, f))
 }
 
-pub fn rejected(q: Instrument, s: Stamp, r: Refused)
+pub fn rejected(out: &impl Print, q: Instrument, s: Stamp, r: Refused) -> Result<()>
     requires { StampFine q s × RefusedIn r }
 {
-    print(rows::rejected_row(s, r));
+    print(out, rows::rejected_row(s, r))
 }
 
-pub fn unchanged(q: Instrument, s: Stamp, u: Unchanged)
+pub fn unchanged(out: &impl Print, q: Instrument, s: Stamp, u: Unchanged) -> Result<()>
     requires { StampFine q s × UnchangedIn u }
 {
-    print(rows::cancel_reject_row(s, u));
+    print(out, rows::cancel_reject_row(s, u))
 }
 
-pub fn faulty(q: Instrument, s: Stamp, f: Faulty)
+pub fn faulty(out: &impl Print, q: Instrument, s: Stamp, f: Faulty) -> Result<()>
     requires { StampFine q s × FaultyIn f }
 {
-    print(rows::session_reject_row(s, f));
+    print(out, rows::session_reject_row(s, f))
 }
 
 // A request's 41.
@@ -284,52 +286,64 @@ pub fn expired() -> Ground
 }
 
 // Orders that enter the book and are replaced.
-fn book_samples() {
+fn book_samples(out: &impl Print) -> Result<()> {
     let q = Instrument::Bonds;
-    accepted(q, stamp_sent(q, 1), known(1, buy(0, 0, 0, 0)));
-    accepted(q, stamp_sent(q, 2), bare(sell(999_999_995, 0, 0, 0)));
-    replaced(q, stamp_sent(q, 3), renamed(buy(0, 0, 0, 0)), requested());
+    accepted(out, q, stamp_sent(q, 1), known(1, buy(0, 0, 0, 0)))?;
+    accepted(out, q, stamp_sent(q, 2), bare(sell(999_999_995, 0, 0, 0)))?;
     replaced(
+        out,
+        q,
+        stamp_sent(q, 3),
+        renamed(buy(0, 0, 0, 0)),
+        requested(),
+    )?;
+    replaced(
+        out,
         q,
         stamp_sent(q, 4),
         renamed(buy(300, 0, 0, 300_000_030_200)),
         requested(),
-    );
+    )?;
     replaced(
+        out,
         q,
         stamp(q, 5),
         known(1, buy(300, 200, 0, 300_000_030_200)),
         decremented(),
-    );
+    )
 }
 
 // Orders that leave it: as requested, by prevention, and an IOC's rest.
-fn cancel_samples() {
+fn cancel_samples(out: &impl Print) -> Result<()> {
     let q = Instrument::Bonds;
     canceled(
+        out,
         q,
         stamp_sent(q, 6),
         renamed(buy(300, 0, 900, 300_000_030_200)),
         requested(),
-    );
+    )?;
     canceled(
+        out,
         q,
         stamp(q, 7),
         known(1, buy(300, 0, 900, 300_000_030_200)),
         prevented(),
-    );
+    )?;
     canceled(
+        out,
         q,
         stamp(q, 8),
         bare(sell(999_999_995, 300, 200, 299_999_998_500)),
         expired(),
-    );
+    )
 }
 
 // A trade of the resting order and of the one in work, and the one in work's at a yield below zero.
-fn trade_samples() {
+fn trade_samples(out: &impl Print) -> Result<()> {
     let q = Instrument::Bonds;
     trade(
+        out,
         q,
         stamp(q, 9),
         known(1, buy(300, 0, 0, 300_000_030_200)),
@@ -340,8 +354,9 @@ fn trade_samples() {
             first: 9,
             liquidity: 1,
         },
-    );
+    )?;
     trade(
+        out,
         q,
         stamp(q, 10),
         bare(sell(1_000_000_105, 200, 0, 200_000_020_000)),
@@ -352,8 +367,9 @@ fn trade_samples() {
             first: 9,
             liquidity: 2,
         },
-    );
+    )?;
     trade(
+        out,
         q,
         stamp(q, 12),
         bare(sell(999_999_995, 500, 0, 499_999_997_500)),
@@ -364,11 +380,11 @@ fn trade_samples() {
             first: 11,
             liquidity: 2,
         },
-    );
+    )
 }
 
 // What is refused: a new order whose 38 was 00042, a cancel of an unknown order, a replacement of a known one, a message.
-fn refusal_samples() {
+fn refusal_samples(out: &impl Print) -> Result<()> {
     let q = Instrument::Bonds;
     let id = Place {
         sent: true,
@@ -391,6 +407,7 @@ fn refusal_samples() {
         length: 1,
     };
     rejected(
+        out,
         q,
         stamp_sent(q, 13),
         Refused {
@@ -400,8 +417,9 @@ fn refusal_samples() {
             code,
             reason: 99,
         },
-    );
+    )?;
     unchanged(
+        out,
         q,
         stamp_sent(q, 14),
         Unchanged {
@@ -412,8 +430,9 @@ fn refusal_samples() {
             reason: 1,
             response: 1,
         },
-    );
+    )?;
     unchanged(
+        out,
         q,
         stamp_sent(q, 15),
         Unchanged {
@@ -424,8 +443,9 @@ fn refusal_samples() {
             reason: 2,
             response: 2,
         },
-    );
+    )?;
     faulty(
+        out,
         q,
         stamp_sent(q, 16),
         Faulty {
@@ -434,29 +454,29 @@ fn refusal_samples() {
             kind,
             reason: 5,
         },
-    );
+    )
 }
 
 // Orders that trade at once at least so much or nothing: one with a minimum enters, and one is killed, with the largest number.
-fn minimum_samples() {
+fn minimum_samples(out: &impl Print) -> Result<()> {
     let q = Instrument::Bonds;
-    accepted(q, stamp_sent(q, 17), known(17, least()));
-    canceled(q, stamp(q, 999_999_999), known(18, kill()), expired());
+    accepted(out, q, stamp_sent(q, 17), known(17, least()))?;
+    canceled(out, q, stamp(q, 999_999_999), known(18, kill()), expired())
 }
 
 // All samples of bonds.
-fn all_bonds() {
-    book_samples();
-    cancel_samples();
-    trade_samples();
-    refusal_samples();
-    minimum_samples();
+fn all_bonds(out: &impl Print) -> Result<()> {
+    book_samples(out)?;
+    cancel_samples(out)?;
+    trade_samples(out)?;
+    refusal_samples(out)?;
+    minimum_samples(out)
 }
 
 // All samples of a market.
-pub fn all(q: Instrument) {
+pub fn all(out: &impl Print, q: Instrument) -> Result<()> {
     match q {
-        Instrument::Bonds => all_bonds(),
-        Instrument::Equities => shares::all(),
+        Instrument::Bonds => all_bonds(out),
+        Instrument::Equities => shares::all(out),
     }
 }

@@ -13,6 +13,7 @@ use decimal::Instrument;
 use matching::Order;
 use report::{Place, Value};
 use rows::{Faulty, Fill, Refused, Shown, Unchanged};
+use std::io::Result;
 
 // A short sell of 500 at 100.0 for MPID 10, of which so much has executed.
 fn short(executed: u64, sum: u64) -> Order
@@ -91,23 +92,30 @@ fn for_cash(order: Order) -> Shown
 }
 
 // Orders that enter the book, the buys at the lowest and the highest price, and one that is replaced.
-fn book_samples() {
+fn book_samples(out: &impl Print) -> Result<()> {
     let q = Instrument::Equities;
-    accepted(q, stamp_sent(q, 1), on_margin(short(0, 0)));
-    accepted(q, stamp_sent(q, 2), for_cash(buy(1_000_000_000, 0, 0, 0)));
-    accepted(q, stamp_sent(q, 3), for_cash(buy(1, 0, 0, 0)));
+    accepted(out, q, stamp_sent(q, 1), on_margin(short(0, 0)))?;
+    accepted(
+        out,
+        q,
+        stamp_sent(q, 2),
+        for_cash(buy(1_000_000_000, 0, 0, 0)),
+    )?;
+    accepted(out, q, stamp_sent(q, 3), for_cash(buy(1, 0, 0, 0)))?;
     replaced(
+        out,
         q,
         stamp_sent(q, 4),
         on_margin(short(15, 14_999_985_000)),
         requested(),
-    );
+    )
 }
 
 // A trade of the resting order, 15 at 100.0, and of the one in work, 1 at 100.1 behind it; and what is left of that one canceled.
-fn trade_samples() {
+fn trade_samples(out: &impl Print) -> Result<()> {
     let q = Instrument::Equities;
     trade(
+        out,
         q,
         stamp(q, 5),
         on_margin(short(15, 14_999_985_000)),
@@ -118,8 +126,9 @@ fn trade_samples() {
             first: 5,
             liquidity: 1,
         },
-    );
+    )?;
     trade(
+        out,
         q,
         stamp(q, 8),
         for_cash(buy(999_998_999, 16, 0, 15_999_983_999)),
@@ -130,13 +139,14 @@ fn trade_samples() {
             first: 7,
             liquidity: 2,
         },
-    );
+    )?;
     canceled(
+        out,
         q,
         stamp(q, 9),
         for_cash(buy(999_998_999, 16, 4, 15_999_983_999)),
         expired(),
-    );
+    )
 }
 
 // A place of the message.
@@ -151,9 +161,10 @@ fn sent(start: usize, length: usize) -> Place
 }
 
 // What is refused: a short sell exempt, a cancel of an unknown order, a message whose 8214 stands beside 544=1.
-fn refusal_samples() {
+fn refusal_samples(out: &impl Print) -> Result<()> {
     let q = Instrument::Equities;
     rejected(
+        out,
         q,
         stamp_sent(q, 10),
         Refused {
@@ -163,8 +174,9 @@ fn refusal_samples() {
             code: sent(27, 3),
             reason: 1,
         },
-    );
+    )?;
     unchanged(
+        out,
         q,
         stamp_sent(q, 11),
         Unchanged {
@@ -175,8 +187,9 @@ fn refusal_samples() {
             reason: 1,
             response: 1,
         },
-    );
+    )?;
     faulty(
+        out,
         q,
         stamp_sent(q, 12),
         Faulty {
@@ -185,12 +198,12 @@ fn refusal_samples() {
             kind: sent(30, 1),
             reason: 5,
         },
-    );
+    )
 }
 
 // All samples of equities.
-pub fn all() {
-    book_samples();
-    trade_samples();
-    refusal_samples();
+pub fn all(out: &impl Print) -> Result<()> {
+    book_samples(out)?;
+    trade_samples(out)?;
+    refusal_samples(out)
 }

@@ -9,6 +9,7 @@ use decimal::read::read_number;
 use decimal::{Instrument, Said};
 use matching::Order;
 use octets::part_at;
+use std::io::Result;
 use table::best::{clear_best, put_best};
 use table::heading::{put_next, put_work};
 use table::opening::open_table;
@@ -185,28 +186,27 @@ fn with_byte(t: &mut [u8], p: usize, v: u8) -> bool {
 }
 
 // Writes a line with its answer.
-fn answer(q: Instrument, s: &[u8], section: u64) {
+fn answer(out: &impl Print, q: Instrument, s: &[u8], section: u64) -> Result<()> {
     let p = said(s, 0, 5) as usize;
     let v = (said(s, 6, 3) % 256) as u8;
     let mut t = [0u8; 32768];
     build(q, &mut t, section);
-    io::write_all(1, s);
+    out.write_all(s)?;
     if with_byte(&mut t, p, v) {
-        io::write_all(1, b": market\n");
+        out.write_all(b": market\n")
     } else {
-        io::write_all(1, b": no market\n");
+        out.write_all(b": no market\n")
     }
 }
 
 // Writes a heading, or a line with its answer.
-pub fn line(q: Instrument, s: &[u8], section: u64) {
+pub fn line(out: &impl Print, q: Instrument, s: &[u8], section: u64) -> Result<()> {
     if part_at(s, 0, 1).len() == 0 {
-        return;
+        return Ok(());
     }
     if octets::same(part_at(s, 0, 1), b"#") {
-        io::write_all(1, s);
-        io::write_all(1, b"\n");
-        return;
+        out.write_all(s)?;
+        return out.write_all(b"\n");
     }
-    answer(q, s, section);
+    answer(out, q, s, section)
 }

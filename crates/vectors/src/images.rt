@@ -4,37 +4,51 @@ use crate::text::{at_most, number, part};
 use decimal::Instrument;
 use kamurjesh::images::{restore_of, save_of};
 use octets::part_at;
+use std::io::Result;
 use table::record::four_at;
 
 // The checks of an image's blocks, as they stand in it.
-fn checks(image: &[u8]) {
+fn checks(out: &impl Print, image: &[u8]) -> Result<()> {
     let mut k = 0;
     while k < 65 {
         let end = 512 * k + 512;
         if image.len() < end {
-            return;
+            return Ok(());
         }
-        say::number(four_at(image, end - 4));
+        say::number(out, four_at(image, end - 4))?;
         k += 1;
     }
+    Ok(())
 }
 
 // Save, with as much of the table and of the image as the command lends.
-pub fn save(q: Instrument, table: &[u8], image: &mut [u8], s: &[u8]) {
+pub fn save(
+    out: &impl Print,
+    q: Instrument,
+    table: &[u8],
+    image: &mut [u8],
+    s: &[u8],
+) -> Result<()> {
     let from = 0;
     let lent = at_most(number(part(s, 0)), table.len());
     let room = at_most(number(part(s, 1)), image.len());
     let refusal = save_of(q, part_at(table, 0, lent), &mut image[from..room]);
-    say::word(b"w");
-    say::number(refusal);
+    say::word(out, b"w")?;
+    say::number(out, refusal)?;
     if refusal == 0 {
-        checks(image);
+        checks(out, image)?;
     }
-    say::word(b"\n");
+    say::word(out, b"\n")
 }
 
 // Restore, with as much of both as the command lends.
-pub fn restore(q: Instrument, table: &mut [u8], image: &[u8], s: &[u8]) {
+pub fn restore(
+    out: &impl Print,
+    q: Instrument,
+    table: &mut [u8],
+    image: &[u8],
+    s: &[u8],
+) -> Result<()> {
     let mut block = 0;
     let from = 0;
     let room = at_most(number(part(s, 0)), table.len());
@@ -45,8 +59,8 @@ pub fn restore(q: Instrument, table: &mut [u8], image: &[u8], s: &[u8]) {
         part_at(image, 0, lent),
         &mut block,
     );
-    say::word(b"u");
-    say::number(refusal);
-    say::number(block);
-    say::word(b"\n");
+    say::word(out, b"u")?;
+    say::number(out, refusal)?;
+    say::number(out, block)?;
+    say::word(out, b"\n")
 }

@@ -4,9 +4,17 @@ use crate::text::{at_most, bytes_of, number, part};
 use decimal::Instrument;
 use kamurjesh::loads::load_of;
 use octets::part_at;
+use std::io::Result;
 
 // Load, with as much of the area as the command lends.
-fn load_in(q: Instrument, table: &mut [u8], buffer: &[u8], area: &mut [u8], lent: u64) {
+fn load_in(
+    out: &impl Print,
+    q: Instrument,
+    table: &mut [u8],
+    buffer: &[u8],
+    area: &mut [u8],
+    lent: u64,
+) -> Result<()> {
     let mut place = 0;
     let mut finished = 0;
     let mut bytes = 0;
@@ -23,20 +31,20 @@ fn load_in(q: Instrument, table: &mut [u8], buffer: &[u8], area: &mut [u8], lent
         &mut bytes,
         &mut reports,
     );
-    say::word(b"l");
-    say::number(refusal);
-    say::number(place);
-    say::number(finished);
-    say::number(bytes);
-    say::number(reports);
-    say::rest(part_at(area, 0, bytes as usize));
+    say::word(out, b"l")?;
+    say::number(out, refusal)?;
+    say::number(out, place)?;
+    say::number(out, finished)?;
+    say::number(out, bytes)?;
+    say::number(out, reports)?;
+    say::rest(out, part_at(area, 0, bytes as usize))
 }
 
 // Load.
-pub fn load(q: Instrument, table: &mut [u8], s: &[u8]) {
+pub fn load(out: &impl Print, q: Instrument, table: &mut [u8], s: &[u8]) -> Result<()> {
     let mut buffer = [0u8; 8192];
-    let mut area = io::large_buffer();
+    let mut area = [0u8; 65536];
     let n = bytes_of(part(s, 1), &mut buffer);
     let lent = number(part(s, 0));
-    load_in(q, table, part_at(&buffer, 0, n), &mut area, lent);
+    load_in(out, q, table, part_at(&buffer, 0, n), &mut area, lent)
 }

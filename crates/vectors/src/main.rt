@@ -14,6 +14,7 @@ use kamurjesh::numbers::{depth_number, level_in};
 use market::{DepthAnswer, depth, top};
 use matching::Depth;
 use octets::part_at;
+use std::io::{Read, Result};
 
 // The first n numbers, or as many as there are.
 fn first(s: &[u64], n: usize) -> &[u64] {
@@ -72,7 +73,7 @@ fn open_named(
 }
 
 // Open.
-fn open(q: Instrument, table: &mut [u8], s: &[u8]) {
+fn open(out: &impl Print, q: Instrument, table: &mut [u8], s: &[u8]) -> Result<()> {
     let mut venue = [0u8; 64];
     let mut port = [0u8; 64];
     let mut code = [0u8; 64];
@@ -82,34 +83,48 @@ fn open(q: Instrument, table: &mut [u8], s: &[u8]) {
     let venue_id = part_at(&venue, 0, v);
     let port_id = part_at(&port, 0, p);
     let refusal = open_named(q, table, venue_id, port_id, part_at(&code, 0, c), s);
-    say::word(b"o");
-    say::number(refusal);
-    say::word(b"\n");
+    say::word(out, b"o")?;
+    say::number(out, refusal)?;
+    say::word(out, b"\n")
 }
 
 // Submit, with as much of the area as the command lends.
-fn submit_in(q: Instrument, table: &mut [u8], message: &[u8], area: &mut [u8], lent: u64) {
+fn submit_in(
+    out: &impl Print,
+    q: Instrument,
+    table: &mut [u8],
+    message: &[u8],
+    area: &mut [u8],
+    lent: u64,
+) -> Result<()> {
     let mut len = 0;
     let from = 0;
     let room = at_most(lent, area.len());
     let refusal = submit_of(q, table, message, &mut area[from..room], &mut len);
-    say::word(b"s");
-    say::number(refusal);
-    say::number(len);
-    say::rest(part_at(area, 0, len as usize));
+    say::word(out, b"s")?;
+    say::number(out, refusal)?;
+    say::number(out, len)?;
+    say::rest(out, part_at(area, 0, len as usize))
 }
 
 // Submit.
-fn submit(q: Instrument, table: &mut [u8], s: &[u8]) {
+fn submit(out: &impl Print, q: Instrument, table: &mut [u8], s: &[u8]) -> Result<()> {
     let mut message = [0u8; 8192];
-    let mut area = io::large_buffer();
+    let mut area = [0u8; 65536];
     let n = bytes_of(part(s, 1), &mut message);
     let lent = number(part(s, 0));
-    submit_in(q, table, part_at(&message, 0, n), &mut area, lent);
+    submit_in(out, q, table, part_at(&message, 0, n), &mut area, lent)
 }
 
 // Run, with as much of the area as the command lends.
-fn run_in(q: Instrument, table: &mut [u8], area: &mut [u8], lent: u64, budget: u64) {
+fn run_in(
+    out: &impl Print,
+    q: Instrument,
+    table: &mut [u8],
+    area: &mut [u8],
+    lent: u64,
+    budget: u64,
+) -> Result<()> {
     let mut bytes = 0;
     let mut reports = 0;
     let mut steps = 0;
@@ -124,127 +139,141 @@ fn run_in(q: Instrument, table: &mut [u8], area: &mut [u8], lent: u64, budget: u
         &mut reports,
         &mut steps,
     );
-    say::word(b"r");
-    say::number(refusal);
-    say::number(bytes);
-    say::number(reports);
-    say::number(steps);
-    say::rest(part_at(area, 0, bytes as usize));
+    say::word(out, b"r")?;
+    say::number(out, refusal)?;
+    say::number(out, bytes)?;
+    say::number(out, reports)?;
+    say::number(out, steps)?;
+    say::rest(out, part_at(area, 0, bytes as usize))
 }
 
 // Run.
-fn run(q: Instrument, table: &mut [u8], s: &[u8]) {
-    let mut area = io::large_buffer();
+fn run(out: &impl Print, q: Instrument, table: &mut [u8], s: &[u8]) -> Result<()> {
+    let mut area = [0u8; 65536];
     let lent = number(part(s, 0));
     let budget = number(part(s, 1));
-    run_in(q, table, &mut area, lent, budget);
+    run_in(out, q, table, &mut area, lent, budget)
 }
 
 // Depth's level.
-fn level(q: Instrument, d: Depth) {
+fn level(out: &impl Print, q: Instrument, d: Depth) -> Result<()> {
     match d {
         Depth::Level {
             level,
             total,
             orders,
         } => {
-            say::number(1);
-            say::quote(q, level);
-            say::number(total);
-            say::number(orders);
+            say::number(out, 1)?;
+            say::quote(out, q, level)?;
+            say::number(out, total)?;
+            say::number(out, orders)
         }
-        Depth::NoLevel => say::word(b" 0 0 0 0"),
+        Depth::NoLevel => say::word(out, b" 0 0 0 0"),
     }
 }
 
 // An answer with a level, or without one.
-fn answered(q: Instrument, answer: DepthAnswer) {
-    say::number(depth_number(answer));
-    level(q, level_in(answer));
-    say::word(b"\n");
+fn answered(out: &impl Print, q: Instrument, answer: DepthAnswer) -> Result<()> {
+    say::number(out, depth_number(answer))?;
+    level(out, q, level_in(answer))?;
+    say::word(out, b"\n")
 }
 
 // Depth.
-fn depths(q: Instrument, table: &[u8], s: &[u8]) {
-    say::word(b"d");
-    answered(q, depth(q, table, number(part(s, 0)), number(part(s, 1))));
+fn depths(out: &impl Print, q: Instrument, table: &[u8], s: &[u8]) -> Result<()> {
+    say::word(out, b"d")?;
+    answered(
+        out,
+        q,
+        depth(q, table, number(part(s, 0)), number(part(s, 1))),
+    )
 }
 
 // The best level of a side, from the heading.
-fn tops(q: Instrument, table: &[u8], s: &[u8]) {
-    say::word(b"t");
-    answered(q, top(q, table, number(part(s, 0))));
+fn tops(out: &impl Print, q: Instrument, table: &[u8], s: &[u8]) -> Result<()> {
+    say::word(out, b"t")?;
+    answered(out, q, top(q, table, number(part(s, 0))))
 }
 
 // A byte put into the table or the image: the one that was there is said behind the command's letter.
-fn put_byte(letter: &[u8], bytes: &mut [u8], s: &[u8]) {
+fn put_byte(out: &impl Print, letter: &[u8], bytes: &mut [u8], s: &[u8]) -> Result<()> {
     let i = at_most(number(part(s, 0)), bytes.len());
     let byte = (number(part(s, 1)) % 256) as u8;
     if i < bytes.len() {
-        say::word(letter);
-        say::number(octets::wide(bytes[i]));
-        say::word(b"\n");
+        say::word(out, letter)?;
+        say::number(out, octets::wide(bytes[i]))?;
+        say::word(out, b"\n")?;
         bytes[i] = byte;
     }
+    Ok(())
 }
 
 // One field of a report, as it is found by its tag.
-fn field(report: &[u8], tag: u64) {
+fn field(out: &impl Print, report: &[u8], tag: u64) -> Result<()> {
     let mut start = 0;
     let mut len = 0;
     if kamurjesh_field(report, tag, &mut start, &mut len) == 1 {
-        io::print_decimal(1, tag);
-        say::word(b"=");
-        say::bytes(part_at(report, start as usize, len as usize));
-        say::word(b";");
+        print!(out; "{tag}=")?;
+        say::bytes(out, part_at(report, start as usize, len as usize))?;
+        say::word(out, b";")?;
     }
+    Ok(())
 }
 
 // The fields of a report, in the order of its bytes.
-fn fields(report: &[u8]) {
+fn fields(out: &impl Print, report: &[u8]) -> Result<()> {
     let mut at = 0;
     while at < report.len() {
         let e = next(report, at, 1);
-        field(report, number(before(&report[at..e], b'=')));
+        field(out, report, number(before(&report[at..e], b'=')))?;
         at = e + 1;
     }
+    Ok(())
 }
 
 // What was read: the number, the kind, and the fields if it was taken.
-fn read_as(report: &[u8], refusal: u64, kind: u64) {
-    say::number(refusal);
-    say::number(kind);
+fn read_as(out: &impl Print, report: &[u8], refusal: u64, kind: u64) -> Result<()> {
+    say::number(out, refusal)?;
+    say::number(out, kind)?;
     if refusal == 0 {
-        say::word(b" ");
-        fields(report);
+        say::word(out, b" ")?;
+        fields(out, report)?;
     }
-    say::word(b"\n");
+    say::word(out, b"\n")
 }
 
 // Read.
-fn read(q: Instrument, s: &[u8]) {
+fn read(out: &impl Print, q: Instrument, s: &[u8]) -> Result<()> {
     let mut bytes = [0u8; 8192];
     let mut kind = 0;
     let n = bytes_of(part(s, 0), &mut bytes);
     let report = part_at(&bytes, 0, n);
     let refusal = read_of(q, report, &mut kind);
-    say::word(b"x");
-    read_as(report, refusal, kind);
+    say::word(out, b"x")?;
+    read_as(out, report, refusal, kind)
 }
 
 // Reading a copy.
-fn read_copy(q: Instrument, s: &[u8]) {
+fn read_copy(out: &impl Print, q: Instrument, s: &[u8]) -> Result<()> {
     let mut bytes = [0u8; 8192];
     let mut kind = 0;
     let n = bytes_of(part(s, 0), &mut bytes);
     let copy = part_at(&bytes, 0, n);
     let refusal = copy_read_of(q, copy, &mut kind);
-    say::word(b"y");
-    read_as(copy, refusal, kind);
+    say::word(out, b"y")?;
+    read_as(out, copy, refusal, kind)
 }
 
 // A report handed to a feed, with as much of the area as the command lends.
-fn copy_in(q: Instrument, report: &[u8], port: &[u8], group: &[u8], area: &mut [u8], s: &[u8]) {
+fn copy_in(
+    out: &impl Print,
+    q: Instrument,
+    report: &[u8],
+    port: &[u8],
+    group: &[u8],
+    area: &mut [u8],
+    s: &[u8],
+) -> Result<()> {
     let mut len = 0;
     let mut after = 0;
     let from = 0;
@@ -264,110 +293,126 @@ fn copy_in(q: Instrument, report: &[u8], port: &[u8], group: &[u8], area: &mut [
         &mut len,
         &mut after,
     );
-    say::word(b"c");
-    say::number(refusal);
-    say::number(len);
-    say::number(after);
-    say::rest(part_at(area, 0, len as usize));
+    say::word(out, b"c")?;
+    say::number(out, refusal)?;
+    say::number(out, len)?;
+    say::number(out, after)?;
+    say::rest(out, part_at(area, 0, len as usize))
 }
 
 // A copy. Of an identifier that is much too long, as much as is too long.
-fn copy(q: Instrument, s: &[u8]) {
+fn copy(out: &impl Print, q: Instrument, s: &[u8]) -> Result<()> {
     let mut port = [0u8; 64];
     let mut group = [0u8; 64];
     let mut report = [0u8; 8192];
-    let mut area = io::large_buffer();
+    let mut area = [0u8; 65536];
     let p = bytes_of(part(s, 2), &mut port);
     let g = bytes_of(part(s, 3), &mut group);
     let n = bytes_of(part(s, 6), &mut report);
     let bytes = part_at(&report, 0, n);
     copy_in(
+        out,
         q,
         bytes,
         part_at(&port, 0, p),
         part_at(&group, 0, g),
         &mut area,
         s,
-    );
+    )
 }
 
 // One command that keeps a market: the table written into the image, read back from it, or a byte of the image changed.
-fn keep(q: Instrument, table: &mut [u8], image: &mut [u8], letter: u8, s: &[u8]) {
+fn keep(
+    out: &impl Print,
+    q: Instrument,
+    table: &mut [u8],
+    image: &mut [u8],
+    letter: u8,
+    s: &[u8],
+) -> Result<()> {
     if letter == b'w' {
-        return images::save(q, table, image, s);
+        return images::save(out, q, table, image, s);
     }
     if letter == b'u' {
-        return images::restore(q, table, image, s);
+        return images::restore(out, q, table, image, s);
     }
     if letter == b'i' {
-        return put_byte(b"i", image, s);
+        return put_byte(out, b"i", image, s);
     }
+    Ok(())
 }
 
 // One command to a market of bonds or of equities.
-fn command(q: Instrument, table: &mut [u8], letter: u8, s: &[u8]) {
+fn command(out: &impl Print, q: Instrument, table: &mut [u8], letter: u8, s: &[u8]) -> Result<()> {
     if letter == b'o' {
-        return open(q, table, s);
+        return open(out, q, table, s);
     }
     if letter == b's' {
-        return submit(q, table, s);
+        return submit(out, q, table, s);
     }
     if letter == b'r' {
-        return run(q, table, s);
+        return run(out, q, table, s);
     }
     if letter == b'l' {
-        return loads::load(q, table, s);
+        return loads::load(out, q, table, s);
     }
     if letter == b'd' {
-        return depths(q, table, s);
+        return depths(out, q, table, s);
     }
     if letter == b't' {
-        return tops(q, table, s);
+        return tops(out, q, table, s);
     }
     if letter == b'b' {
-        return put_byte(b"b", table, s);
+        return put_byte(out, b"b", table, s);
     }
     if letter == b'x' {
-        return read(q, s);
+        return read(out, q, s);
     }
     if letter == b'c' {
-        return copy(q, s);
+        return copy(out, q, s);
     }
     if letter == b'y' {
-        return read_copy(q, s);
+        return read_copy(out, q, s);
     }
+    Ok(())
 }
 
 // What the calls from here on are of.
-fn chosen(q: Instrument, s: &[u8]) -> Instrument {
+fn chosen(out: &impl Print, q: Instrument, s: &[u8]) -> Result<Instrument> {
     if octets::same(s, b"0") {
-        say::word(b"q 0\n");
-        return Instrument::Bonds;
+        say::word(out, b"q 0\n")?;
+        return Ok(Instrument::Bonds);
     }
     if octets::same(s, b"1") {
-        say::word(b"q 1\n");
-        return Instrument::Equities;
+        say::word(out, b"q 1\n")?;
+        return Ok(Instrument::Equities);
     }
-    q
+    Ok(q)
 }
 
 // One line: a comment is said back. What the calls behind it are of is given back.
-fn line(q: Instrument, table: &mut [u8], image: &mut [u8], s: &[u8]) -> Instrument {
+fn line(
+    out: &impl Print,
+    q: Instrument,
+    table: &mut [u8],
+    image: &mut [u8],
+    s: &[u8],
+) -> Result<Instrument> {
     if s.len() == 0 {
-        return q;
+        return Ok(q);
     }
     let letter = s[0];
     if letter == b'#' {
-        say::word(s);
-        say::word(b"\n");
-        return q;
+        say::word(out, s)?;
+        say::word(out, b"\n")?;
+        return Ok(q);
     }
     if letter == b'q' {
-        return chosen(q, part_at(s, 2, s.len()));
+        return chosen(out, q, part_at(s, 2, s.len()));
     }
-    command(q, table, letter, part_at(s, 2, s.len()));
-    keep(q, table, image, letter, part_at(s, 2, s.len()));
-    q
+    command(out, q, table, letter, part_at(s, 2, s.len()))?;
+    keep(out, q, table, image, letter, part_at(s, 2, s.len()))?;
+    Ok(q)
 }
 
 // What was read: a line of so many bytes, and whether the input goes on.
@@ -378,32 +423,32 @@ struct Got {
 }
 
 // The next byte of the input, and 256 at its end.
-fn read_byte() -> u64 {
+fn read_byte(input: &mut impl Read) -> Result<u64> {
     let mut one = [0u8; 1];
-    if io::read_full(0, &mut one) == 0 {
-        return 256;
+    if input.read(&mut one)? == 0 {
+        return Ok(256);
     }
-    octets::wide(one[0])
+    Ok(octets::wide(one[0]))
 }
 
 // Reads a line, without its end; of one that is too long, as much as there is room for.
-fn read_line(buffer: &mut [u8]) -> Got {
+fn read_line(input: &mut impl Read, buffer: &mut [u8]) -> Result<Got> {
     let mut i = 0;
     while i < buffer.len() {
-        let b = read_byte();
+        let b = read_byte(input)?;
         if b > 255 {
-            return Got {
+            return Ok(Got {
                 len: i,
                 more: false,
-            };
+            });
         }
         if b == 10 {
-            return Got { len: i, more: true };
+            return Ok(Got { len: i, more: true });
         }
         buffer[i] = (b % 256) as u8;
         i += 1;
     }
-    Got { len: i, more: true }
+    Ok(Got { len: i, more: true })
 }
 
 // What the calls behind a line are of, and whether the input goes on.
@@ -414,29 +459,41 @@ struct Onward {
 }
 
 // Reads a line and answers it.
-fn turn(q: Instrument, table: &mut [u8], image: &mut [u8], buffer: &mut [u8]) -> Onward {
-    let got = read_line(buffer);
-    let of = line(q, table, image, part_at(buffer, 0, got.len));
-    Onward { of, more: got.more }
+fn turn(
+    input: &mut impl Read,
+    out: &impl Print,
+    q: Instrument,
+    table: &mut [u8],
+    image: &mut [u8],
+    buffer: &mut [u8],
+) -> Result<Onward> {
+    let got = read_line(input, buffer)?;
+    let of = line(out, q, table, image, part_at(buffer, 0, got.len))?;
+    Ok(Onward { of, more: got.more })
 }
 
 // The lines, one after another, at most a million. The calls are of bonds at the start.
-fn lines(table: &mut [u8], image: &mut [u8], buffer: &mut [u8]) {
+fn lines(
+    input: &mut impl Read,
+    out: &impl Print,
+    table: &mut [u8],
+    image: &mut [u8],
+    buffer: &mut [u8],
+) -> Result<()> {
     let mut of = Instrument::Bonds;
-    let mut k: u64 = 0;
-    while k < 1000000 {
-        let t = turn(of, table, image, buffer);
+    for _ in 0..1_000_000 {
+        let t = turn(input, out, of, table, image, buffer)?;
         of = t.of;
         if !t.more {
-            return;
+            break;
         }
-        k += 1;
     }
+    Ok(())
 }
 
-fn main() {
+fn main(rt: HostRuntime) -> Result<()> {
     let mut table = [0u8; 32768];
     let mut image = [0u8; 33281];
     let mut buffer = [0u8; 8192];
-    lines(&mut table, &mut image, &mut buffer);
+    lines(&mut rt.stdin(), &rt, &mut table, &mut image, &mut buffer)
 }

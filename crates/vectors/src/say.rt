@@ -2,33 +2,33 @@
 ghost use Rattle.std.specs.Prelude.{◌≤◌, length};
 
 use decimal::{EVEN, Instrument};
+use std::io::Result;
 
 // A word.
-pub fn word(s: &[u8]) {
-    io::write_all(1, s);
+pub fn word(out: &impl Print, s: &[u8]) -> Result<()> {
+    out.write_all(s)
 }
 
 // A space and a number.
-pub fn number(n: u64) {
-    io::write_all(1, b" ");
-    io::print_decimal(1, n);
+pub fn number(out: &impl Print, n: u64) -> Result<()> {
+    print!(out; " {n}")
 }
 
 // A space and a number that may be below zero: how far v lies above zero, where that is the other.
-fn signed(v: u64, zero: u64) {
+fn signed(out: &impl Print, v: u64, zero: u64) -> Result<()> {
     if v < zero {
-        io::write_all(1, b" -");
-        io::print_decimal(1, zero - v);
+        let below = zero - v;
+        print!(out; " -{below}")
     } else {
-        number(v - zero);
+        number(out, v - zero)
     }
 }
 
 // A space and a yield in thousandths or a price in tenths, from its level.
-pub fn quote(q: Instrument, level: u64) {
+pub fn quote(out: &impl Print, q: Instrument, level: u64) -> Result<()> {
     match q {
-        Instrument::Bonds => signed(level, EVEN),
-        Instrument::Equities => signed(EVEN, level),
+        Instrument::Bonds => signed(out, level, EVEN),
+        Instrument::Equities => signed(out, EVEN, level),
     }
 }
 
@@ -49,13 +49,12 @@ fn hex(x: u8) -> u8 {
 }
 
 // A byte that is written as a mark.
-fn mark(b: u8) {
+fn mark(out: &impl Print, b: u8) -> Result<()> {
     if b == 1 {
-        io::write_all(1, b"|");
-        return;
+        return out.write_all(b"|");
     }
     let text = [b'\\', b'x', hex(b / 16), hex(b % 16)];
-    io::write_all(1, &text);
+    out.write_all(&text)
 }
 
 // The place of the next byte from `at` on that is not written as it is, or the end.
@@ -74,23 +73,24 @@ fn plain_end(s: &[u8], at: usize) -> usize
 }
 
 // Bytes.
-pub fn bytes(s: &[u8]) {
+pub fn bytes(out: &impl Print, s: &[u8]) -> Result<()> {
     let mut at = 0;
     while at < s.len() {
         let e = plain_end(s, at);
-        word(&s[at..e]);
+        word(out, &s[at..e])?;
         if e < s.len() {
-            mark(s[e]);
+            mark(out, s[e])?;
         }
         at = e + 1;
     }
+    Ok(())
 }
 
 // A space and bytes, if there are any, and the end of the line.
-pub fn rest(s: &[u8]) {
+pub fn rest(out: &impl Print, s: &[u8]) -> Result<()> {
     if 0 < s.len() {
-        word(b" ");
-        bytes(s);
+        word(out, b" ")?;
+        bytes(out, s)?;
     }
-    word(b"\n");
+    word(out, b"\n")
 }

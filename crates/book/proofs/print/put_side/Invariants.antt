@@ -1,0 +1,12 @@
+-- `book::print::put_side` meets its contract: after k turns the lines of k levels are written, and x is the level behind them.
+use Prim.Native.Nat.{◌-◌}
+use native.Mathlib.Omega.{arith}
+use borrow.Author.Rules.{rules}
+use Rattle.book.proofs.Lines.{Going, going_none, going_room, going_one, going_early, going_end}
+use Rattle.book.proofs.print.put_side.Given as goal
+
+abbrev pub invariant-loop-k : goal.invariant-loop-k
+invariant-loop-k l = Going l.q l.t l.n l.initial.out l.at l.side l.out l.next l.x l.k
+
+abbrev pub decreases-loop-k : goal.decreases-loop-k
+decreases-loop-k l = l.n - l.k

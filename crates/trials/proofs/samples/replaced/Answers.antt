@@ -1,0 +1,10 @@
+-- `samples::replaced` meets its contract: its row is short enough to be written.
+use Rattle.rows.specs.Rows.{replaced_row}
+use Rattle.rows.proofs.Bounds.{replaced_short}
+use Rattle.trials.proofs.Texts.{fine_row}
+use Rattle.trials.proofs.samples.replaced.Goals as goal
+
+pub print-requires : goal.print-requires
+print-requires g c =
+    let a = c.args in
+    fine_row _ (replaced_row a.s a.o a.w) c.replaced_row.ensures (λ m t. replaced_short m t a.s a.o a.w (c.requires.0.stamp_in m t) (rw c.requires.0.of_is (c.requires.1.shown_in m t)) (c.requires.2.ground_in m t))
