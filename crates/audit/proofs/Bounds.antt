@@ -75,8 +75,8 @@ module _ (b : Book) (s : ℕ) (high : (k : ℕ) → stands s (at b k) ≡ true �
   standing_is n m x y e f g =
       subst
       (λ (k : ℕ). ◌≡◌ {A = BestLevel}
-          (record { level = k; total = sum_over (share s k) b (suc n); orders = count_of (on_level s k) b (suc n) })
-          (record { level = m; total = x; orders = y }))
+      (record { level = k; total = sum_over (share s k) b (suc n); orders = count_of (on_level s k) b (suc n) })
+      (record { level = m; total = x; orders = y }))
       (sym e) (three refl (sym f) (sym g))
 
   -- the best level stays, with what the order adds to it

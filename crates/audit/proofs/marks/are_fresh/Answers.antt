@@ -77,8 +77,8 @@ loop-j-preserved c =
     let e : c.four_at-x.result % 2048 ≡ key_at f l.j = ap number_key x in
     let h : is_fresh f l.j ≡ true =
     elim c.if-mark-key-ne0.branch [
-      then-mark-key-ne0+else-not-is_unseen w ↦ sym (unseen_fresh _ _ l.invariant.2 x w.is_unseen.ensures) ∙ w.if-not-is_unseen.false
-    | else-mark-key-ne0 w ↦ number_new f l.j (unmarked _ l.invariant.1 e w.if-mark-key-ne0.false)
+      | then-mark-key-ne0+else-not-is_unseen w ↦ sym (unseen_fresh _ _ l.invariant.2 x w.is_unseen.ensures) ∙ w.if-not-is_unseen.false
+      | else-mark-key-ne0 w ↦ number_new f l.j (unmarked _ l.invariant.1 e w.if-mark-key-ne0.false)
     ] in (
       passed_more l.invariant.0 c.loop-j-test.true (number_good f _ l.j _ x c.if-next-x.false h),
       marked_more _ l.invariant.1 e (omega arith),

@@ -73,8 +73,8 @@ loop-j-preserved c =
     let m = c.loop-j-test.true in
     let h : is_fresh_id t l.j ≡ true =
     elim c.if-low-a.branch [
-      then-low-a+in-Unclear+else-not-is_fresh_id w ↦ sym w.is_fresh_id.ensures ∙ w.if-not-is_fresh_id.false
-    | else-low-a w ↦ id_unmarked t p.0 _ p.1 p.2 p.3 l.j (low_part k) (high_part k) m l.invariant.1 l.invariant.2 x y w.if-low-a.false
+      | then-low-a+in-Unclear+else-not-is_fresh_id w ↦ sym w.is_fresh_id.ensures ∙ w.if-not-is_fresh_id.false
+      | else-low-a w ↦ id_unmarked t p.0 _ p.1 p.2 p.3 l.j (low_part k) (high_part k) m l.invariant.1 l.invariant.2 x y w.if-low-a.false
     ] in
     (passed_more l.invariant.0 m h, marked_more _ l.invariant.1 x (omega arith), marked_more _ l.invariant.2 y (omega arith))
 

@@ -15,8 +15,11 @@ tell-len-requires c =
     let wrote = c in
     let amount = wrote in
     let read = amount in
-    let p = read.requires in record { legible = withdraw_told _ _ _ p.0 _ p.2 p.1 _ amount.open_at.ensures _ read.next-n.ensures _ wrote.text_of.ensures _
-          c.cause_with.ensures _ wrote.withdraw.ensures; in_bounds = search rules }
+    let p = read.requires in record {
+      legible = withdraw_told _ _ _ p.0 _ p.2 p.1 _ amount.open_at.ensures _ read.next-n.ensures _ wrote.text_of.ensures _
+          c.cause_with.ensures _ wrote.withdraw.ensures;
+      in_bounds = search rules;
+    }
 
 pub raise_and_best-requires : goal.raise_and_best-requires
 raise_and_best-requires c =
