@@ -1,10 +1,10 @@
 -- The best levels in one pass against looking for them and comparing every buy with every sell: they are those of the book apart from
 -- the order in work, with what stands on each, and a book is uncrossed exactly if the best buy level is above the best sell level.
-use Rattle.std.proofs.Common.{◌≡◌, ℕ, zero, suc, ◌+◌, ◌*◌, ◌<◌, ◌≤◌, Bool, true, false, cond, not, ◌&&◌, ◌||◌, eqb, ltb, leb, length, sym, refl, subst, ap, ◌∙◌, arith, ltb-false, ltb-true, eq-eqb, ne_eqb, eqb-true, le-leb}
+use Rattle.std.proofs.Common.{◌≡◌, ℕ, zero, suc, ◌+◌, ◌*◌, ◌<◌, ◌≤◌, Bool, true, false, cond, ◌&&◌, ◌||◌, eqb, ltb, length, sym, refl, subst, ap, ◌∙◌, arith, ltb-false, ltb-true, eq-eqb, ne_eqb, eqb-true, le-leb}
 use mathlib.Core.Bool.{and-true}
 use borrow.Author.Tests.{eqb-false, lt-leb, not-true}
 use Rattle.octets.specs.Tests.{all_up_to}
-use Rattle.octets.proofs.Bools.{split, not_both, both_i, both_l, both_r, both_not_r, or_r, neither_l, neither_r}
+use Rattle.octets.proofs.Bools.{split, not_both, both_l, both_r, both_not_r, or_r, neither_l, neither_r}
 use Rattle.octets.proofs.Ranges.{all_from, all_not}
 use Rattle.matching.specs.declared.Order.{Order}
 use Rattle.matching.specs.Matching.{Book, none, at, put, open_of, is_open, is_buy, is_immediate, buys, ahead, sum_over, count_of}

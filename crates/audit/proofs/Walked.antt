@@ -9,7 +9,7 @@ use Rattle.octets.proofs.Parts.{part_in_lem}
 use Rattle.octets.proofs.Searches.{record_at_lem}
 use Rattle.decimal.specs.declared.Instrument.{Instrument}
 use Rattle.matching.specs.declared.Order.{Order}
-use Rattle.matching.specs.Matching.{none, at, open_of, is_open, is_buy, is_immediate, buys, ahead, minimum_of, opposite, opposed, opposed_to, sum_over, count_of}
+use Rattle.matching.specs.Matching.{none, at, open_of, is_open, is_immediate, minimum_of, opposite, opposed, opposed_to, sum_over, count_of}
 use Rattle.matching.proofs.Books.{open_in}
 use Rattle.table.specs.Heading.{next_of, work_of, kind_number, decided_of}
 use Rattle.table.specs.declared.best.BestLevel.{BestLevel}

@@ -1,6 +1,6 @@
 -- What Submit answers and leaves (document 01, "The table and its calls", Submit and refusals 1 to 8; document 02, T-08 and T-09): for any
 -- bytes of a table, of a message, and any length of the report area. Assumes nothing.
-use Rattle.std.specs.Prelude.{Bool, true, false, cond, not, List, [], ◌∷◌, ℕ, eqb, ltb, length}
+use Rattle.std.specs.Prelude.{true, false, cond, not, List, [], ◌∷◌, ℕ, eqb, ltb, length}
 use Rattle.decimal.specs.declared.Instrument.{Instrument}
 use Rattle.fix.specs.declared.frame.Part.{Part}
 use Rattle.request.specs.declared.Refusal.{Refusal}
@@ -11,7 +11,6 @@ use Rattle.request.specs.declared.Asked.{Asked}
 use Rattle.request.specs.declared.Asked.TheVariants.{Garbled, Refused, Enters, Replaces, Cancels}
 use Rattle.request.specs.Asks.{asked_of}
 use Rattle.matching.specs.declared.Order.{Order}
-use Rattle.matching.specs.declared.Event.{Event}
 use Rattle.matching.specs.declared.Event.TheVariants.{Accepted, Replaced, Withdrawn}
 use Rattle.matching.specs.Matching.{open_of}
 use Rattle.table.specs.declared.record.Marks.{Marks}
@@ -23,8 +22,6 @@ use Rattle.report.specs.declared.Place.{Place}
 use Rattle.report.specs.declared.Field.{Field}
 use Rattle.report.specs.Fields.{row_bytes}
 use Rattle.report.specs.Frame.{report_bytes}
-use Rattle.rows.specs.declared.Refused.{Refused as Rejection}
-use Rattle.rows.specs.declared.Faulty.{Faulty}
 use Rattle.ticket.specs.declared.Cause.{Cause}
 use Rattle.ticket.specs.Tickets.{ticket_of, refused_row, unchanged_on, unchanged_row, faulty_row}
 use Rattle.calls.specs.declared.Standing.{Standing}

@@ -17,7 +17,6 @@ use Rattle.table.specs.Orders.{marks_at, order_at, filled, orders_from, book_of,
 use Rattle.table.specs.Market.{every, is_code_character, is_padded, is_text, has_length, has_names, is_entry, has_list, has_settings, has_next, has_stamp, has_work, has_kind, rest_zero, is_capacity, is_class, is_cash, is_marked, is_record, is_ranged, is_known, is_within, is_shut, is_priced, is_order, has_orders, is_fresh_id, has_ids, is_fresh, are_fresh, has_order_ids, has_places, is_done, no_ioc, is_clear, no_cross, has_numbers, is_book, has_decision, has_best, is_market, is_of, is_market_of}
 use Rattle.table.specs.Best.{best_on, orders_bytes, levels_bytes, totals_bytes, best_row, book_row, best_due, put_best, clear_best}
 use Rattle.table.specs.Opened.{named_table, fresh_table}
-use Rattle.octets.specs.Characters.{message}
 use Rattle.clauses.proofs.Books.{fresh, book_r, mixed, book_least, book_kill, rested, largest, price, shares}
 
 -- opens all definitions

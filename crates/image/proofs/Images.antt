@@ -20,7 +20,6 @@ use Rattle.octets.proofs.Parts.{length_part, get_d_part, part_ext, part_below}
 use Rattle.octets.proofs.Zeros.{zero_is, zero_from}
 use Rattle.table.specs.Places.{table_bytes}
 use Rattle.image.specs.Image.{image_bytes, in_turn, weighed, check_of, block_data, block_of, image_of, block_in, data_in, check_in, kept_in, filling_in, is_checked, is_good, first_bad, table_in, exchanged}
-use Rattle.image.specs.declared.RestoreAnswer.{RestoreAnswer}
 use Rattle.image.proofs.Sums.{weighed_set, weighed_most}
 use Rattle.image.proofs.Turns.{turn_ext, turn_more, turn_parts, part_turn}
 use Rattle.image.proofs.Blocks.{part_most, part_put, length_data, length_block, length_data_in, part_both}

@@ -3,7 +3,7 @@
 use mathlib.Core.Path.{◌≡◌, refl, ap, ◌∙◌}
 use mathlib.Core.Bool.{true, not, ◌&&◌, ◌||◌}
 use mathlib.Core.List.{List, [], ◌∷◌}
-use Prim.Native.Nat.{ℕ, ◌+◌, ◌≤◌}
+use Prim.Native.Nat.{ℕ, ◌+◌}
 use native.Mathlib.Omega.{arith}
 use lib.Dec.{eqb, ltb, lit≤}
 use lib.ListN.{length}
@@ -22,7 +22,7 @@ use Rattle.request.proofs.Requests.{enters_right}
 use Rattle.request.proofs.Saying.{enters_spelt, replaces_spelt, cancels_spelt}
 use Rattle.request.proofs.Refusals.{refused_spelt}
 use Rattle.matching.specs.declared.Event.TheVariants.{Accepted, Replaced, Withdrawn}
-use Rattle.matching.specs.Matching.{at, open_of}
+use Rattle.matching.specs.Matching.{open_of}
 use Rattle.matching.specs.Held.{Ready}
 use Rattle.table.specs.Places.{table_bytes}
 use Rattle.table.specs.Heading.{next_of, instrument_of, is_listed}

@@ -2,7 +2,7 @@
 use mathlib.Core.Path.{◌≡◌, refl, ap}
 use mathlib.Core.Bool.{true, false}
 use mathlib.Core.List.{List}
-use Prim.Native.Nat.{ℕ, ◌-◌, ◌≤◌}
+use Prim.Native.Nat.{ℕ, ◌≤◌}
 use lib.ListN.{drop}
 use Rattle.octets.proofs.Bools.{not_both}
 use Rattle.decimal.specs.declared.Instrument.{Instrument}

@@ -37,7 +37,7 @@ use Rattle.turns.specs.Turns.{Walked}
 use Rattle.turns.proofs.Joins.{joined_append}
 use Rattle.turns.proofs.Taking.{stops_still}
 use Rattle.turns.proofs.Theorems.{run_keeps, run_numbers, reports_fit}
-use Rattle.load.specs.Load.{enough, Taken, taken}
+use Rattle.load.specs.Load.{enough, taken}
 use Rattle.load.specs.Turn.{Took}
 
 module _ (kind : Instrument) where

@@ -17,7 +17,7 @@ use Rattle.table.specs.Market.{is_market_of}
 use Rattle.calls.specs.Told.{joined, area_after}
 use Rattle.calls.specs.Run.{ran}
 use Rattle.load.specs.Buffer.{starts_message, lying_in}
-use Rattle.load.specs.Load.{enough, unmoved, done, loads, loaded, load_number, load_place, load_finished, load_bytes, load_reports, refuses}
+use Rattle.load.specs.Load.{enough, unmoved, loads, loaded, load_number, load_place, load_finished, load_bytes, load_reports, refuses}
 use Rattle.load.specs.Singles.{table_after, reports_after, messages_of, calls_of}
 use Rattle.load.specs.Resumes.{left_in, GoesOn}
 use Rattle.load.proofs.Loading.{loads_kept, loads_next, loads_fits}

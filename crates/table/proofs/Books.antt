@@ -10,7 +10,7 @@ use lib.Seq.{ext_get_or}
 use borrow.Author.Tests.{eqb-true, eqb-false}
 use Rattle.octets.proofs.Bools.{split}
 use Rattle.matching.specs.declared.Order.{Order}
-use Rattle.matching.specs.Matching.{Book, none, at, put}
+use Rattle.matching.specs.Matching.{none, at, put}
 use Rattle.matching.proofs.Books.{at_put_same, at_put_other, length_put}
 use Rattle.table.specs.Orders.{order_at, filled, orders_from, book_of}
 

@@ -4,7 +4,7 @@ use mathlib.Core.Path.{◌≡◌, sym, ap, ◌∙◌}
 use mathlib.Core.Bool.{true, false}
 use mathlib.Core.List.{List}
 use mathlib.Core.Logic.{⊎_elim}
-use Prim.Native.Nat.{ℕ, suc, ◌+◌, ◌*◌, ◌-◌, ◌^◌, ◌≤◌, ◌<◌}
+use Prim.Native.Nat.{ℕ, ◌+◌, ◌*◌, ◌-◌, ◌^◌, ◌≤◌, ◌<◌}
 use native.Mathlib.Omega.{arith}
 use lib.Dec.{eqb, lit≤}
 use lib.ListN.{length, get_or, drop}
@@ -17,7 +17,7 @@ use Rattle.octets.proofs.Parts.{text_put_first}
 use Rattle.octets.proofs.Zeros.{zero_at, zero_from}
 use Rattle.matching.specs.declared.Order.{Order}
 use Rattle.matching.specs.Matching.{put as put_order}
-use Rattle.matching.specs.Held.{In, Takes}
+use Rattle.matching.specs.Held.{Takes}
 use Rattle.matching.proofs.Conserved.{takes_low, takes_high}
 use Rattle.matching.proofs.Requests.{takes_more, takes_in, takes_back, takes_most}
 use Rattle.table.specs.declared.record.Marks.{Marks}

@@ -1,10 +1,10 @@
 -- What a market trades: how the heading tells it, that a market is one of bonds or one of equities, and what its marks are.
-use mathlib.Core.Path.{◌≡◌, refl, sym, ap, ◌∙◌}
-use mathlib.Core.Bool.{Bool, true, false, not, cond, ◌&&◌, ◌||◌}
-use mathlib.Core.List.{List, [], ◌∷◌}
+use mathlib.Core.Path.{◌≡◌, refl, sym, ◌∙◌}
+use mathlib.Core.Bool.{true, ◌&&◌}
+use mathlib.Core.List.{List}
 use Prim.Native.Nat.{ℕ, ◌+◌, ◌≤◌, ◌<◌}
 use native.Mathlib.Omega.{arith}
-use lib.Dec.{eqb, leb, lit≤}
+use lib.Dec.{eqb, leb}
 use lib.ListN.{length, get_or}
 use borrow.Author.Tests.{leb-true, eqb-true, eqb-false, eq-eqb, ne_eqb}
 use Rattle.octets.specs.Characters.{byte}
@@ -15,8 +15,8 @@ use Rattle.decimal.specs.declared.Instrument.TheVariants.{Bonds, Equities}
 use Rattle.table.specs.declared.record.Marks.{Marks}
 use Rattle.table.specs.Heading.{kind_number, instrument_of}
 use Rattle.table.specs.Market.{is_capacity, is_class, is_cash, is_marked, has_kind, is_market, is_of, is_market_of}
-use Rattle.table.specs.Facts.{InBytes, Market}
-use Rattle.table.proofs.Same.{Same, same_in, put_below, put_above, instrument_same}
+use Rattle.table.specs.Facts.{InBytes}
+use Rattle.table.proofs.Same.{put_below, put_above, instrument_same}
 
 -- ---- how it is told
 

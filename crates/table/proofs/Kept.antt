@@ -22,7 +22,7 @@ use Rattle.matching.specs.declared.Event.{Event}
 use Rattle.matching.specs.declared.Event.TheVariants.{Accepted, Replaced, Withdrawn}
 use Rattle.matching.specs.Matching.{Book, at, open_of, minimum_of, decided_after, who, change, after, partner, happens, book_after, work_after}
 use Rattle.matching.specs.Quoted.{Quoted, AllQuoted}
-use Rattle.matching.specs.Held.{In, Held, Ready, Takes, Enters, Renews}
+use Rattle.matching.specs.Held.{In, Held, Ready, Enters, Renews}
 use Rattle.matching.proofs.Conserved.{takes_low}
 use Rattle.matching.proofs.Placing.{place_either}
 use Rattle.matching.proofs.Events.{play_minimum}
@@ -36,7 +36,7 @@ use Rattle.table.specs.Places.{table_bytes}
 use Rattle.table.specs.Heading.{next_of, work_of, instrument_of, decided_of, mpid_at, entries, entry_of, mode_of, is_listed, put_next, put_work, put_decided}
 use Rattle.table.specs.Orders.{order_id_at, order_at, filled, book_of, term_bytes, amount_bytes, record_of, put_id, put_terms, put_amounts, applied, withdrawn, replaced, accepted}
 use Rattle.table.specs.Best.{best_due, book_row, put_best, clear_best}
-use Rattle.table.specs.Market.{every, is_printable, is_entry, has_list, has_settings, has_work, is_marked, has_decision, has_best}
+use Rattle.table.specs.Market.{every, is_printable, is_entry, has_list, has_settings, has_work, is_marked, has_decision}
 use Rattle.table.specs.Facts.{FreshNumbers, Market, Named}
 use Rattle.table.specs.Changes.{played, misses_now, step_events, step_work, numbered, stepped, entered, renewed, taken}
 use Rattle.octets.proofs.Searches.{first_holds}

@@ -6,13 +6,12 @@ use mathlib.Core.Logic.{⊎_elim}
 use Prim.Native.Nat.{ℕ, zero, suc, ◌+◌, ◌-◌, ◌*◌, ◌≤◌, ◌<◌}
 use native.Mathlib.Nat.{add-zero}
 use native.Mathlib.Omega.{arith}
-use lib.Dec.{ltb}
 use lib.ListN.{length, get_or, drop, replicate, get_or-replicate, get_or-append}
 use lib.Seq.{get_or-append-add, get_or-drop}
 use borrow.Author.Tests.{le-ltb}
 use Rattle.octets.specs.Octets.{le_at, put, part_at, text_at, text_bytes, same_bytes, all_zero}
 use Rattle.octets.specs.Tests.{first_from}
-use Rattle.octets.proofs.Bools.{split, both_l, both_r}
+use Rattle.octets.proofs.Bools.{split, both_r}
 use Rattle.octets.proofs.Places.{below_or, le_at_ext, le_at_in}
 use Rattle.octets.proofs.Parts.{get_d_part, length_text, get_d_text, length_text_bytes, same_is}
 use Rattle.octets.proofs.Searches.{first_is}

@@ -1,7 +1,6 @@
 -- The OrderIDs of a table afterwards: whatever a call does to a table keeps that of every record, but for a new order, whose record
 -- has the number of the report that accepts it.
-use mathlib.Core.Path.{◌≡◌, refl, ap, ◌∙◌}
-use mathlib.Core.Bool.{cond}
+use mathlib.Core.Path.{◌≡◌, refl, ◌∙◌}
 use mathlib.Core.List.{List, [], ◌∷◌}
 use mathlib.Core.Logic.{⊎_elim}
 use Prim.Native.Nat.{ℕ, ◌+◌, ◌*◌, ◌^◌, ◌≤◌, ◌<◌}
@@ -17,7 +16,7 @@ use Rattle.matching.specs.declared.Event.{Event}
 use Rattle.matching.specs.Matching.{who, change, decided_after}
 use Rattle.table.specs.declared.record.Marks.{Marks}
 use Rattle.table.specs.Places.{record_at}
-use Rattle.table.specs.Heading.{next_of, work_of, put_work, put_decided, end_work}
+use Rattle.table.specs.Heading.{next_of, work_of, put_work, put_decided}
 use Rattle.table.specs.Orders.{order_id_at, order_at, book_of, term_bytes, amount_bytes, record_of, put_id, put_terms, put_amounts, applied, withdrawn, replaced, accepted}
 use Rattle.table.specs.Best.{book_row, put_best, clear_best}
 use Rattle.table.specs.Changes.{played, step_events, step_work, numbered, stepped, entered, renewed, taken}

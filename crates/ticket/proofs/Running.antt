@@ -1,17 +1,16 @@
 -- While Run works, the report of every event of a step is legible: on the table after the event, between the two events of a step
 -- too, with the 52 that the heading keeps and the numbers from the next one on.
-use Prim.Native.Nat.{ℕ, suc, ◌+◌, ◌≤◌, ◌<◌, min}
+use Prim.Native.Nat.{ℕ, ◌+◌, ◌≤◌, ◌<◌}
 use native.Mathlib.Omega.{arith}
-use mathlib.Core.Bool.{Bool, true, false, ◌||◌}
-use mathlib.Core.Path.{◌≡◌, sym, ap, ◌∙◌}
+use mathlib.Core.Bool.{Bool, true}
+use mathlib.Core.Path.{◌≡◌, ap}
 use mathlib.Core.List.{List, [], ◌∷◌}
-use lib.Dec.{eqb, lit≤}
-use lib.ListN.{length, get_or}
+use lib.Dec.{lit≤}
+use lib.ListN.{length}
 use Rattle.octets.specs.Octets.{text_at}
 use Rattle.octets.proofs.Bools.{both_l}
 use Rattle.decimal.specs.Instruments.{highest}
 use Rattle.decimal.specs.Reading.{is_time}
-use Rattle.matching.specs.declared.Order.{Order}
 use Rattle.matching.specs.declared.Event.{Event}
 use Rattle.matching.specs.declared.Event.TheVariants.{Accepted, Replaced, Withdrawn, Canceled, Decremented, Traded, Killed, Expired}
 use Rattle.matching.specs.Matching.{Book, at, open_of, who, after, play, happens}

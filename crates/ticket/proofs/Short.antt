@@ -1,11 +1,11 @@
 -- A report that is written from what is in range is short: its row at most 489 bytes, which is what the writer of a whole report asks
 -- for, and the whole at most 512. First what the parts of a row come to.
-use Prim.Native.Nat.{ℕ, ◌+◌, ◌-◌, ◌≤◌, ◌<◌, zero-le}
+use Prim.Native.Nat.{ℕ, ◌≤◌, ◌<◌, zero-le}
 use native.Mathlib.Omega.{arith}
-use mathlib.Core.Bool.{Bool, true, false, cond, ◌||◌, false≢true}
+use mathlib.Core.Bool.{Bool, true, false≢true}
 use mathlib.Core.Path.{◌≡◌}
 use mathlib.Core.List.{List, [], ◌∷◌}
-use lib.Dec.{eqb, lit≤, lit<}
+use lib.Dec.{eqb, lit<}
 use lib.ListN.{length, get_or}
 use borrow.Author.Tests.{eqb-true}
 use Rattle.octets.specs.Octets.{text_at}
@@ -14,17 +14,14 @@ use Rattle.decimal.proofs.Times.{time_short}
 use Rattle.matching.specs.declared.Event.{Event}
 use Rattle.matching.specs.declared.Event.TheVariants.{Accepted, Replaced, Withdrawn, Canceled, Decremented, Traded, Killed, Expired}
 use Rattle.table.specs.Heading.{work_of, instrument_of}
-use Rattle.table.specs.Orders.{order_at}
 use Rattle.table.specs.Market.{is_printable}
 use Rattle.report.specs.declared.Place.{Place}
-use Rattle.report.specs.declared.Value.TheVariants.{Absent, Number}
 use Rattle.report.specs.Fields.{row_bytes}
-use Rattle.report.specs.Frame.{report_bytes}
 use Rattle.rows.specs.declared.Refused.{Refused}
 use Rattle.rows.specs.declared.Unchanged.{Unchanged}
 use Rattle.rows.specs.declared.Faulty.{Faulty}
 use Rattle.rows.specs.Rows.{text, requested, prevented, decremented, expired}
-use Rattle.rows.specs.Ranges.{Short, StampIn, ShownIn, GroundIn, FillIn, RefusedIn, UnchangedIn, FaultyIn}
+use Rattle.rows.specs.Ranges.{Short, StampIn, ShownIn, GroundIn, FillIn}
 use Rattle.rows.proofs.Widths.{◌&◌, text_short, number_short}
 use Rattle.rows.proofs.Bounds.{accepted_short, replaced_short, canceled_short, trade_short, rejected_short, cancel_reject_short, session_reject_short, report_short}
 use Rattle.ticket.specs.declared.Cause.{Cause}

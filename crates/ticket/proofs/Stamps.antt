@@ -1,6 +1,6 @@
 -- The time of a report (52 and 60) is the causing message's 52 as it came in: the one that stands in the message, or the one that the
 -- heading keeps while the order is in work. So milliseconds are not dropped, nor added.
-use Prim.Native.Nat.{ℕ, ◌≤◌}
+use Prim.Native.Nat.{ℕ}
 use native.Mathlib.Omega.{arith}
 use mathlib.Core.Bool.{true}
 use mathlib.Core.Path.{◌≡◌, refl, ap, sym, ◌∙◌}

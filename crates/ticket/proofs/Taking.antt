@@ -3,12 +3,12 @@
 -- message are asked for by the places where they stand.
 use Prim.Native.Nat.{ℕ, ◌+◌, ◌*◌, ◌≤◌, ◌<◌}
 use native.Mathlib.Omega.{arith}
-use mathlib.Core.Bool.{Bool, true, false, cond}
-use mathlib.Core.Path.{◌≡◌, refl, sym, ap, ◌∙◌}
+use mathlib.Core.Bool.{Bool, true}
+use mathlib.Core.Path.{◌≡◌, refl, ap, ◌∙◌}
 use mathlib.Core.List.{List, [], ◌∷◌}
 use lib.Dec.{eqb, ltb, lit≤, lit<}
 use lib.ListN.{length, replicate}
-use borrow.Author.Tests.{eqb-true, eqb-false}
+use borrow.Author.Tests.{eqb-false}
 use Rattle.octets.specs.Octets.{bytes_of, text_bytes, part_at}
 use Rattle.octets.proofs.Bools.{split}
 use Rattle.octets.proofs.Places.{length_bytes_of, length_put}
@@ -25,8 +25,8 @@ use Rattle.matching.specs.Quoted.{Quoted}
 use Rattle.matching.proofs.Conserved.{takes_low}
 use Rattle.table.specs.declared.record.Marks.{Marks}
 use Rattle.table.specs.Places.{table_bytes}
-use Rattle.table.specs.Heading.{next_of, work_of, instrument_of, is_listed, put_next, put_work}
-use Rattle.table.specs.Orders.{order_id_at, order_at, filled, book_of, term_bytes, amount_bytes, record_of, put_id, accepted, replaced, withdrawn}
+use Rattle.table.specs.Heading.{next_of, work_of, instrument_of, is_listed, put_work}
+use Rattle.table.specs.Orders.{order_at, filled, book_of, term_bytes, amount_bytes, record_of, put_id, accepted, replaced, withdrawn}
 use Rattle.table.specs.Best.{book_row, put_best, clear_best}
 use Rattle.table.specs.Market.{every, is_printable, is_marked}
 use Rattle.table.specs.Facts.{Market, Named}
@@ -43,7 +43,7 @@ use Rattle.report.specs.declared.Place.{Place}
 use Rattle.rows.specs.Rows.{text, status_of}
 use Rattle.ticket.specs.declared.Cause.{Cause}
 use Rattle.ticket.specs.Tickets.{unchanged_on}
-use Rattle.ticket.specs.Legible.{text_by, Placed, is_among, Headed, Recorded, Details, Legible, LegibleUnchanged, Holder}
+use Rattle.ticket.specs.Legible.{text_by, Placed, is_among, Headed, Details, Legible, LegibleUnchanged, Holder}
 use Rattle.ticket.proofs.Formed.{formed_headed, Orderly, market_orderly, orderly_recorded}
 
 -- ---- texts of the message

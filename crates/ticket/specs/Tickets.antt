@@ -2,7 +2,7 @@
 -- and of the order or the change that is rejected. The table is the one after the event, before anything else changes; the number
 -- is the report's own. What the market trades is what the heading notes. 37 is the OrderID that the record keeps. Texts that the
 -- market keeps are named by where they stand in the table. Assumes nothing.
-use Rattle.std.specs.Prelude.{Bool, true, false, cond, List, ◌≡◌, ℕ, ◌+◌, ◌-◌, ◌<◌, eqb, length, get_or}
+use Rattle.std.specs.Prelude.{false, cond, List, ◌≡◌, ℕ, ◌+◌, ◌-◌, ◌<◌, eqb, length, get_or}
 use Rattle.matching.specs.declared.Event.{Event}
 use Rattle.matching.specs.declared.Event.TheVariants.{Accepted, Replaced, Withdrawn, Canceled, Decremented, Traded, Killed, Expired}
 use Rattle.matching.specs.Matching.{who}

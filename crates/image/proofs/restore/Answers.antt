@@ -1,6 +1,6 @@
 -- `image::restore` meets its contract: one return a refusal, in their order.
 use Rattle.image.proofs.Answered.{is_wrong, long_image, long_table, restore_length, restore_bad, restore_none, restore_done}
-use Rattle.std.proofs.Common.{rules, ap, not}
+use Rattle.std.proofs.Common.{ap, not}
 use Rattle.image.proofs.restore.Goals as goal
 
 pub returns-then-image-table : goal.returns-then-image-table

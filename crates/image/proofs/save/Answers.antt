@@ -1,6 +1,6 @@
 -- `image::save` meets its contract: one return a refusal, in their order.
 use Rattle.image.proofs.Answered.{is_wrong, long_image, long_table, save_length, save_none, save_done}
-use Rattle.std.proofs.Common.{rules, ap, not}
+use Rattle.std.proofs.Common.{ap, not}
 use Rattle.image.proofs.save.Goals as goal
 
 pub returns-then-image-table : goal.returns-then-image-table

@@ -8,7 +8,6 @@ use Rattle.table.specs.Orders.{order_at}
 use Rattle.rows.specs.declared.Fill.{Fill}
 use Rattle.ticket.specs.Tickets.{fill_on}
 use borrow.Author.Tests.{eq-eqb, ne_eqb}
-use borrow.Author.Rules.{rules}
 use Rattle.ticket.proofs.fill_on.Goals as goal
 
 -- the order in work, and any other

@@ -6,7 +6,6 @@ use lib.ListN.{get_or}
 use Rattle.report.specs.declared.Value.{Value}
 use Rattle.ticket.specs.Tickets.{stored_at, or_stored_at}
 use borrow.Author.Tests.{eq-eqb, ne_eqb}
-use borrow.Author.Rules.{rules}
 use Rattle.ticket.proofs.or_stored_at.Goals as goal
 
 -- a length byte that is not 0

@@ -1,5 +1,4 @@
 -- `ticket::order_of` meets its contract, event by event.
-use borrow.Author.Rules.{rules}
 use Rattle.ticket.proofs.order_of.Goals as goal
 
 pub returns-in-Accepted : goal.returns-in-Accepted

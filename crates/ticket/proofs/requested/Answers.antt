@@ -1,6 +1,5 @@
 -- `ticket::requested` meets its contract.
 use Rattle.report.specs.declared.Value.TheVariants.{Absent}
-use borrow.Author.Rules.{rules}
 use Rattle.ticket.proofs.requested.Goals as goal
 
 pub returns : goal.returns

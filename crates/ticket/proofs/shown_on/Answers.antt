@@ -5,7 +5,6 @@ use mathlib.Core.Path.{ap}
 use Rattle.table.specs.declared.record.Marks.{Marks}
 use Rattle.table.specs.Orders.{marks_at}
 use Rattle.ticket.specs.Tickets.{shown_on}
-use borrow.Author.Rules.{rules}
 use Rattle.ticket.proofs.shown_on.Goals as goal
 
 pub returns : goal.returns

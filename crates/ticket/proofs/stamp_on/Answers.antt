@@ -1,6 +1,5 @@
 -- `ticket::stamp_on` meets its contract, part by part.
 use Rattle.ticket.specs.Tickets.{stamp_on}
-use borrow.Author.Rules.{rules}
 use Rattle.ticket.proofs.stamp_on.Goals as goal
 
 pub returns : goal.returns

@@ -1,6 +1,5 @@
 -- `ticket::told_of` meets its contract, event by event.
 use Rattle.ticket.proofs.Events.{shown_sound, fill_ready, accepted_told_lem, replaced_told_lem, withdrawn_told, canceled_told_lem, decremented_told, traded_told_lem, killed_told, expired_told}
-use borrow.Author.Rules.{rules}
 use Rattle.ticket.proofs.told_of.Goals as goal
 
 pub fill_on-requires : goal.fill_on-requires

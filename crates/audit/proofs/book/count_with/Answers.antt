@@ -1,6 +1,5 @@
 -- `audit::count_with` meets its contract.
 use Rattle.audit.proofs.Walked.{count_yes, count_no}
-use Rattle.std.proofs.Common.{rules}
 use Rattle.audit.proofs.book.count_with.Goals as goal
 
 pub returns-then-has_open-opposite : goal.returns-then-has_open-opposite

@@ -1,8 +1,6 @@
 -- `audit::has_numbers` meets its contract.
-use borrow.Author.Tests.{not-true, not-false}
 use Rattle.audit.proofs.Amounts.{narrow_load}
 use Rattle.audit.proofs.Walked.{numbers_none, numbers_past, numbers_shut, numbers_is}
-use Rattle.std.proofs.Common.{rules}
 use Rattle.audit.proofs.book.has_numbers.Goals as goal
 
 pub returns-then-w-eq0 : goal.returns-then-w-eq0

@@ -1,6 +1,5 @@
 -- `audit::is_book` meets its contract.
 use Rattle.audit.proofs.Walked.{book_is}
-use Rattle.std.proofs.Common.{rules}
 use Rattle.audit.proofs.book.is_book.Goals as goal
 
 pub returns : goal.returns

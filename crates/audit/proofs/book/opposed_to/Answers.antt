@@ -1,7 +1,7 @@
 -- `audit::opposed_to` meets its contract: c is the number of the records passed that are open and opposite.
-use Rattle.std.proofs.Common.{◌-◌, arith}
+use Rattle.std.proofs.Common.{arith}
 use Rattle.audit.proofs.Amounts.{narrow_load}
-use Rattle.audit.proofs.Walked.{Counted, counted_none, counted_more, counted_end}
+use Rattle.audit.proofs.Walked.{counted_none, counted_more, counted_end}
 use Rattle.audit.proofs.book.opposed_to.Goals as goal
 
 pub loop-k-init : goal.loop-k-init

@@ -1,8 +1,6 @@
 -- `audit::are_entries` meets its contract: the entries passed are good.
-use Rattle.std.proofs.Common.{◌-◌, sym, ◌∙◌, arith}
-use borrow.Author.Tests.{not-true, not-false}
-use Rattle.octets.proofs.Ranges.{Passed, passed_none, passed_more, passed_stop, passed_end}
-use Rattle.table.specs.Market.{is_entry}
+use Rattle.std.proofs.Common.{sym, ◌∙◌, arith}
+use Rattle.octets.proofs.Ranges.{passed_none, passed_more, passed_stop, passed_end}
 use Rattle.audit.proofs.checks.are_entries.Goals as goal
 
 pub loop-k-init : goal.loop-k-init

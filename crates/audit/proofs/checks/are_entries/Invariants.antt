@@ -1,7 +1,6 @@
 -- `audit::are_entries` meets its contract: the entries passed are good.
-use Rattle.std.proofs.Common.{◌-◌, sym, ◌∙◌, arith}
-use borrow.Author.Tests.{not-true, not-false}
-use Rattle.octets.proofs.Ranges.{Passed, passed_none, passed_more, passed_stop, passed_end}
+use Rattle.std.proofs.Common.{◌-◌}
+use Rattle.octets.proofs.Ranges.{Passed}
 use Rattle.table.specs.Market.{is_entry}
 use Rattle.audit.proofs.checks.are_entries.Given as goal
 

@@ -1,6 +1,6 @@
 -- `audit::ends_list` meets its contract: from entry n up to entry k there is nothing.
-use Rattle.std.proofs.Common.{◌-◌, rules}
-use Rattle.audit.proofs.Checked.{Ending, ending_none, ending_more, ending_stop, ending_end}
+use Rattle.std.proofs.Common.{rules}
+use Rattle.audit.proofs.Checked.{ending_none, ending_more, ending_stop, ending_end}
 use Rattle.audit.proofs.checks.ends_list.Goals as goal
 
 pub loop-k-init : goal.loop-k-init

@@ -1,6 +1,5 @@
 -- `audit::has_kind` meets its contract.
 use Rattle.table.specs.Market.{has_kind}
-use Rattle.std.proofs.Common.{rules}
 use Rattle.audit.proofs.checks.has_kind.Goals as goal
 
 pub returns : goal.returns

@@ -1,6 +1,5 @@
 -- `audit::has_next` meets its contract.
 use Rattle.table.specs.Market.{has_next}
-use Rattle.std.proofs.Common.{rules}
 use Rattle.audit.proofs.checks.has_next.Goals as goal
 
 pub returns : goal.returns

@@ -1,6 +1,5 @@
 -- `audit::has_settings` meets its contract.
 use Rattle.table.specs.Market.{has_settings}
-use Rattle.std.proofs.Common.{rules}
 use Rattle.audit.proofs.checks.has_settings.Goals as goal
 
 pub returns : goal.returns

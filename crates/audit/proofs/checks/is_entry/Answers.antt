@@ -1,6 +1,5 @@
 -- `audit::is_entry` meets its contract.
 use Rattle.table.specs.Market.{is_entry}
-use Rattle.std.proofs.Common.{rules}
 use Rattle.audit.proofs.checks.is_entry.Goals as goal
 
 pub returns : goal.returns

@@ -1,6 +1,6 @@
 -- `audit::is_filled` meets its contract.
-use Rattle.std.proofs.Common.{◌-◌, rules}
-use Rattle.audit.proofs.Filled.{rows_bytes, Filling, filling_none, filling_more, filling_end}
+use Rattle.std.proofs.Common.{rules}
+use Rattle.audit.proofs.Filled.{rows_bytes, filling_none, filling_more, filling_end}
 use Rattle.audit.proofs.checks.is_filled.Goals as goal
 
 pub loop-i-init : goal.loop-i-init

@@ -1,6 +1,6 @@
 -- `audit::is_filled` meets its contract.
-use Rattle.std.proofs.Common.{◌-◌, rules}
-use Rattle.audit.proofs.Filled.{rows_bytes, Filling, filling_none, filling_more, filling_end}
+use Rattle.std.proofs.Common.{◌-◌}
+use Rattle.audit.proofs.Filled.{Filling}
 use Rattle.audit.proofs.checks.is_filled.Given as goal
 
 abbrev pub invariant-loop-i : goal.invariant-loop-i

@@ -1,8 +1,7 @@
 -- `audit::is_fresh_mpid` meets its contract: no entry passed has the MPID.
-use Rattle.std.proofs.Common.{◌-◌, not, eqb, sym, arith}
+use Rattle.std.proofs.Common.{sym, arith}
 use Rattle.audit.proofs.Checked.{differ_not, differ_yes}
-use Rattle.octets.proofs.Ranges.{Passed, passed_none, passed_more, passed_stop, passed_end}
-use Rattle.table.specs.Heading.{mpid_at}
+use Rattle.octets.proofs.Ranges.{passed_none, passed_more, passed_stop, passed_end}
 use Rattle.audit.proofs.checks.is_fresh_mpid.Goals as goal
 
 pub mpid_at-m-requires : goal.mpid_at-m-requires

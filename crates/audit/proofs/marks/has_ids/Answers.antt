@@ -1,10 +1,9 @@
 -- `audit::has_ids` meets its contract: the ClOrdIDs passed are distinct, and both parts of their keys have marks.
-use Rattle.std.proofs.Common.{◌≡◌, ℕ, ◌-◌, true, sym, refl, ap, ◌∙◌, ⊎_elim, arith, rules}
-use borrow.Author.Tests.{not-true, not-false}
-use Rattle.octets.proofs.Ranges.{Passed, passed_none, passed_more, passed_stop, passed_end}
+use Rattle.std.proofs.Common.{◌≡◌, ℕ, true, sym, refl, ap, ◌∙◌, arith}
+use Rattle.octets.proofs.Ranges.{passed_none, passed_more, passed_stop, passed_end}
 use Rattle.table.specs.Market.{is_fresh_id, has_ids}
 use Rattle.audit.specs.Checking.{key_of, low_part, high_part}
-use Rattle.audit.proofs.Marked.{Marked, marked_none, marked_more, id_key, low_key, high_key, id_unmarked, none_ids}
+use Rattle.audit.proofs.Marked.{marked_none, marked_more, id_key, low_key, high_key, id_unmarked, none_ids}
 use Rattle.audit.proofs.Ranked.{told_distinct, told_twice}
 use Rattle.audit.proofs.marks.has_ids.Goals as goal
 use Rattle.audit.proofs.marks.has_ids.Goals.{then-low-a+in-Unclear+else-not-is_fresh_id, else-low-a}

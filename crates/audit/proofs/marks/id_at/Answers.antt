@@ -1,6 +1,5 @@
 -- `audit::id_at` meets its contract.
 use Rattle.audit.proofs.Rooms.{id_read}
-use Rattle.std.proofs.Common.{rules}
 use Rattle.audit.proofs.marks.id_at.Goals as goal
 
 pub returns : goal.returns

@@ -1,8 +1,6 @@
 -- `audit::is_fresh_id` meets its contract: no record passed has the ClOrdID.
-use Rattle.std.proofs.Common.{◌+◌, ◌-◌, not, sym, arith, rules}
-use Rattle.octets.specs.Octets.{same_bytes}
-use Rattle.octets.proofs.Ranges.{Passed, passed_none, passed_more, passed_stop, passed_end}
-use Rattle.table.specs.Orders.{cl_ord_id_at}
+use Rattle.std.proofs.Common.{sym, arith}
+use Rattle.octets.proofs.Ranges.{passed_none, passed_more, passed_stop, passed_end}
 use Rattle.table.specs.Market.{is_fresh_id}
 use Rattle.audit.proofs.Marked.{id_old, id_other}
 use Rattle.audit.proofs.marks.is_fresh_id.Goals as goal

@@ -1,6 +1,6 @@
 -- `audit::is_unseen` meets its contract: unseen tells of the numbers passed.
-use Rattle.std.proofs.Common.{◌-◌, arith}
-use Rattle.audit.proofs.Marked.{Unseen, unseen_none, unseen_more, unseen_end}
+use Rattle.std.proofs.Common.{arith}
+use Rattle.audit.proofs.Marked.{unseen_none, unseen_more, unseen_end}
 use Rattle.audit.proofs.marks.is_unseen.Goals as goal
 
 pub loop-i-init : goal.loop-i-init

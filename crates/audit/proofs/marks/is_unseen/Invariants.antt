@@ -1,6 +1,6 @@
 -- `audit::is_unseen` meets its contract: unseen tells of the numbers passed.
-use Rattle.std.proofs.Common.{◌-◌, arith}
-use Rattle.audit.proofs.Marked.{Unseen, unseen_none, unseen_more, unseen_end}
+use Rattle.std.proofs.Common.{◌-◌}
+use Rattle.audit.proofs.Marked.{Unseen}
 use Rattle.audit.proofs.marks.is_unseen.Given as goal
 
 abbrev pub invariant-loop-i : goal.invariant-loop-i

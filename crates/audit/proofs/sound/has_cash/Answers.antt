@@ -1,6 +1,6 @@
 -- `audit::has_cash` meets its contract.
 use Rattle.audit.proofs.Checked.{cash_bonds, cash_equities}
-use Rattle.std.proofs.Common.{◌*◌, refl, arith, rules}
+use Rattle.std.proofs.Common.{◌*◌, refl, arith}
 use Rattle.audit.proofs.sound.has_cash.Goals as goal
 
 pub returns-in-Bonds : goal.returns-in-Bonds

@@ -1,6 +1,5 @@
 -- `audit::has_open` meets its contract.
 use Rattle.table.proofs.Loaded.{open_used}
-use Rattle.std.proofs.Common.{rules}
 use Rattle.audit.proofs.sound.has_open.Goals as goal
 
 pub returns : goal.returns

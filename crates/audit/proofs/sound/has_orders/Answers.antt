@@ -1,8 +1,7 @@
 -- `audit::has_orders` meets its contract: the records passed are orders.
-use Rattle.std.proofs.Common.{◌+◌, ◌-◌, sym, ◌∙◌, arith, rules}
-use borrow.Author.Tests.{not-true, not-false}
-use Rattle.octets.proofs.Ranges.{Passed, passed_none, passed_more, passed_stop, passed_end}
-use Rattle.table.specs.Market.{is_order, has_orders}
+use Rattle.std.proofs.Common.{sym, ◌∙◌, arith}
+use Rattle.octets.proofs.Ranges.{passed_none, passed_more, passed_stop, passed_end}
+use Rattle.table.specs.Market.{has_orders}
 use Rattle.audit.proofs.sound.has_orders.Goals as goal
 
 pub loop-k-init : goal.loop-k-init

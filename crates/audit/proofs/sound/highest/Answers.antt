@@ -1,5 +1,4 @@
 -- `audit::highest` meets its contract.
-use Rattle.std.proofs.Common.{rules}
 use Rattle.audit.proofs.sound.highest.Goals as goal
 
 pub returns-in-Bonds : goal.returns-in-Bonds

@@ -1,5 +1,5 @@
 -- `audit::is_cash` meets its contract.
-use Rattle.std.proofs.Common.{refl, rules}
+use Rattle.std.proofs.Common.{refl}
 use Rattle.table.specs.Market.{is_cash}
 use Rattle.audit.proofs.sound.is_cash.Goals as goal
 

@@ -1,6 +1,6 @@
 -- `audit::is_known` meets its contract: none of the places passed has the MPID, or it is found.
-use Rattle.std.proofs.Common.{◌-◌, rules}
-use Rattle.audit.proofs.Amounts.{Looked, looked_none, looked_more, looked_end}
+use Rattle.std.proofs.Common.{rules}
+use Rattle.audit.proofs.Amounts.{looked_none, looked_more, looked_end}
 use Rattle.audit.proofs.sound.is_known.Goals as goal
 
 pub loop-k-init : goal.loop-k-init

@@ -1,7 +1,6 @@
 -- `audit::is_shut` meets its contract.
 use Rattle.table.specs.Market.{is_shut}
 use Rattle.audit.proofs.Amounts.{shut_used}
-use Rattle.std.proofs.Common.{rules}
 use Rattle.audit.proofs.sound.is_shut.Goals as goal
 
 pub returns : goal.returns

@@ -1,6 +1,5 @@
 -- `audit::is_side` meets its contract.
 use Rattle.audit.proofs.Amounts.{side_both, side_bonds, side_equities}
-use Rattle.std.proofs.Common.{rules}
 use Rattle.audit.proofs.sound.is_side.Goals as goal
 
 pub returns-then-side : goal.returns-then-side

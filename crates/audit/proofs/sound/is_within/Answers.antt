@@ -1,6 +1,5 @@
 -- `audit::is_within` meets its contract.
 use Rattle.table.specs.Market.{is_within}
-use Rattle.std.proofs.Common.{rules}
 use Rattle.audit.proofs.sound.is_within.Goals as goal
 
 pub returns : goal.returns

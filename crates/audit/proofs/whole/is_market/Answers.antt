@@ -1,5 +1,4 @@
 -- `audit::is_market` meets its contract.
-use borrow.Author.Tests.{not-true, not-false}
 use Rattle.audit.proofs.Walked.{not_long, no_records, records_orders, records_work, market_is}
 use Rattle.std.proofs.Common.{rules}
 use Rattle.audit.proofs.whole.is_market.Goals as goal

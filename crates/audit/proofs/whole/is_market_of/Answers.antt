@@ -1,7 +1,5 @@
 -- `audit::is_market_of` meets its contract.
-use borrow.Author.Tests.{not-true, not-false}
 use Rattle.audit.proofs.Walked.{market_not, market_kind, market_inside}
-use Rattle.std.proofs.Common.{rules}
 use Rattle.audit.proofs.whole.is_market_of.Goals as goal
 
 pub returns-then-not-is_market : goal.returns-then-not-is_market

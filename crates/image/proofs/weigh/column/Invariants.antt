@@ -1,7 +1,5 @@
 -- `image::column` meets its contract: the rows from r on are added up.
-use native.Mathlib.Omega.{arith}
-use borrow.Author.Rules.{rules}
-use Rattle.image.proofs.Columned.{Rows, rows_none, rows_more, rows_sum, rows_turned}
+use Rattle.image.proofs.Columned.{Rows}
 use Rattle.image.proofs.weigh.column.Given as goal
 
 abbrev pub invariant-loop-r : goal.invariant-loop-r

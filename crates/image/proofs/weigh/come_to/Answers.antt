@@ -1,8 +1,8 @@
 -- `image::come_to` meets its contract: c columns are added up.
-use Prim.Native.Nat.{◌+◌, ◌-◌}
+use Prim.Native.Nat.{◌+◌}
 use native.Mathlib.Omega.{arith}
 use borrow.Author.Rules.{rules}
-use Rattle.image.proofs.Columned.{Came, came_none, came_more, came_end, part_small}
+use Rattle.image.proofs.Columned.{came_none, came_more, came_end, part_small}
 use Rattle.image.proofs.weigh.come_to.Goals as goal
 
 pub loop-c-init : goal.loop-c-init

@@ -1,8 +1,6 @@
 -- `image::come_to` meets its contract: c columns are added up.
-use Prim.Native.Nat.{◌+◌, ◌-◌}
-use native.Mathlib.Omega.{arith}
-use borrow.Author.Rules.{rules}
-use Rattle.image.proofs.Columned.{Came, came_none, came_more, came_end, part_small}
+use Prim.Native.Nat.{◌-◌}
+use Rattle.image.proofs.Columned.{Came}
 use Rattle.image.proofs.weigh.come_to.Given as goal
 
 abbrev pub invariant-loop-c : goal.invariant-loop-c

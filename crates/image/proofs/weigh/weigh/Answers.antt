@@ -1,10 +1,9 @@
 -- `image::weigh` meets its contract: c columns are added up.
-use mathlib.Core.Path.{◌≡◌, refl}
-use Prim.Native.Nat.{◌≤◌, ◌-◌}
-use lib.ListN.{length, length-set}
+use mathlib.Core.Path.{refl}
+use lib.ListN.{length-set}
 use native.Mathlib.Omega.{arith}
 use borrow.Author.Rules.{rules}
-use Rattle.image.proofs.Columned.{Downs, downs_none, downs_more, weigh_end}
+use Rattle.image.proofs.Columned.{downs_none, downs_more, weigh_end}
 use Rattle.image.proofs.weigh.weigh.Goals as goal
 
 pub loop-c-init : goal.loop-c-init

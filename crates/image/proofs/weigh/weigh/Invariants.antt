@@ -1,10 +1,8 @@
 -- `image::weigh` meets its contract: c columns are added up.
-use mathlib.Core.Path.{◌≡◌, refl}
+use mathlib.Core.Path.{◌≡◌}
 use Prim.Native.Nat.{◌≤◌, ◌-◌}
-use lib.ListN.{length, length-set}
-use native.Mathlib.Omega.{arith}
-use borrow.Author.Rules.{rules}
-use Rattle.image.proofs.Columned.{Downs, downs_none, downs_more, weigh_end}
+use lib.ListN.{length}
+use Rattle.image.proofs.Columned.{Downs}
 use Rattle.image.proofs.weigh.weigh.Given as goal
 
 abbrev pub invariant-loop-c : goal.invariant-loop-c

@@ -1,8 +1,7 @@
 -- `image::copy_piece` meets its contract: the table is copied up to byte j of the piece.
-use Prim.Native.Nat.{◌+◌, ◌-◌, ◌≤◌}
 use native.Mathlib.Omega.{arith}
 use borrow.Author.Rules.{rules}
-use Rattle.image.proofs.Copies.{Copied, piece_none, piece_more, piece_end}
+use Rattle.image.proofs.Copies.{piece_none, piece_more, piece_end}
 use Rattle.image.proofs.whole.copy_piece.Goals as goal
 
 pub loop-j-init : goal.loop-j-init

@@ -1,8 +1,6 @@
 -- `image::copy_piece` meets its contract: the table is copied up to byte j of the piece.
 use Prim.Native.Nat.{◌+◌, ◌-◌, ◌≤◌}
-use native.Mathlib.Omega.{arith}
-use borrow.Author.Rules.{rules}
-use Rattle.image.proofs.Copies.{Copied, piece_none, piece_more, piece_end}
+use Rattle.image.proofs.Copies.{Copied}
 use Rattle.image.proofs.whole.copy_piece.Given as goal
 
 abbrev pub invariant-loop-j : goal.invariant-loop-j

@@ -1,7 +1,6 @@
 -- `image::copy_table` meets its contract: k pieces are copied.
-use Prim.Native.Nat.{◌*◌, ◌-◌, ◌≤◌}
 use native.Mathlib.Omega.{arith}
-use Rattle.image.proofs.Copies.{Copied, copied_none, copied_more, copied_end}
+use Rattle.image.proofs.Copies.{copied_none, copied_more, copied_end}
 use Rattle.image.proofs.whole.copy_table.Goals as goal
 
 pub loop-k-init : goal.loop-k-init

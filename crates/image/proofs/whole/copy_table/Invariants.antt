@@ -1,7 +1,6 @@
 -- `image::copy_table` meets its contract: k pieces are copied.
 use Prim.Native.Nat.{◌*◌, ◌-◌, ◌≤◌}
-use native.Mathlib.Omega.{arith}
-use Rattle.image.proofs.Copies.{Copied, copied_none, copied_more, copied_end}
+use Rattle.image.proofs.Copies.{Copied}
 use Rattle.image.proofs.whole.copy_table.Given as goal
 
 abbrev pub invariant-loop-k : goal.invariant-loop-k

@@ -1,9 +1,8 @@
 -- `image::first_bad` meets its contract: the blocks before k are good.
-use Prim.Native.Nat.{◌-◌}
 use native.Mathlib.Omega.{arith}
 use borrow.Author.Rules.{rules}
-use Rattle.octets.proofs.Ranges.{Sought, sought_none}
-use Rattle.image.proofs.Wholes.{bad_in, bad_more, bad_here, bad_end}
+use Rattle.octets.proofs.Ranges.{sought_none}
+use Rattle.image.proofs.Wholes.{bad_more, bad_here, bad_end}
 use Rattle.image.proofs.whole.first_bad.Goals as goal
 
 pub loop-k-init : goal.loop-k-init

@@ -1,10 +1,7 @@
 -- `image::put_image` meets its contract: k blocks are written.
 use Prim.Native.Nat.{◌-◌}
-use native.Mathlib.Omega.{arith}
-use borrow.Author.Rules.{rules}
 use Rattle.image.specs.Image.{block_of}
-use Rattle.image.proofs.Turns.{Written, written_none, written_long}
-use Rattle.image.proofs.Wholes.{image_more, image_end}
+use Rattle.image.proofs.Turns.{Written}
 use Rattle.image.proofs.whole.put_image.Given as goal
 
 abbrev pub invariant-loop-k : goal.invariant-loop-k

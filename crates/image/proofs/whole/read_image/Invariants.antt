@@ -1,10 +1,7 @@
 -- `image::read_image` meets its contract: k blocks are read.
 use Prim.Native.Nat.{◌-◌}
-use native.Mathlib.Omega.{arith}
-use borrow.Author.Rules.{rules}
 use Rattle.image.specs.Image.{kept_in}
-use Rattle.image.proofs.Turns.{Written, written_none, written_long}
-use Rattle.image.proofs.Wholes.{table_more, table_end}
+use Rattle.image.proofs.Turns.{Written}
 use Rattle.image.proofs.whole.read_image.Given as goal
 
 abbrev pub invariant-loop-k : goal.invariant-loop-k

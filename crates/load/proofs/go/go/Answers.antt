@@ -1,10 +1,8 @@
 -- `load::go::go` meets its contract: after each message, what is still to be taken gives what all of them give.
-use Prim.Native.Nat.{◌-◌}
 use native.Mathlib.Omega.{arith}
-use lib.ListN.{length}
 use borrow.Author.Rules.{rules}
 use Rattle.load.proofs.Loading.{says_takes, says_stops}
-use Rattle.load.proofs.Going.{Along, along_first, stop_went, free_within, take_ready, take_room, at_fits, place_fits, after_market, broken_went, along_on, finished_fits, goes_less}
+use Rattle.load.proofs.Going.{along_first, stop_went, free_within, take_ready, take_room, at_fits, place_fits, after_market, broken_went, along_on, finished_fits, goes_less}
 use Rattle.load.proofs.go.go.Goals as goal
 
 pub loop-n-init : goal.loop-n-init

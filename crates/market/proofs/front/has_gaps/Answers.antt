@@ -1,6 +1,5 @@
 -- `market::front::has_gaps` meets its contract.
 use Rattle.market.specs.Top.{has_gaps}
-use borrow.Author.Rules.{rules}
 use Rattle.market.proofs.front.has_gaps.Goals as goal
 
 pub returns : goal.returns

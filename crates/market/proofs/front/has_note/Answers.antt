@@ -1,6 +1,5 @@
 -- `market::front::has_note` meets its contract.
 use Rattle.market.specs.Top.{has_note}
-use borrow.Author.Rules.{rules}
 use Rattle.market.proofs.front.has_note.Goals as goal
 
 pub returns : goal.returns

@@ -1,5 +1,4 @@
 -- `market::front::highest` meets its contract.
-use borrow.Author.Rules.{rules}
 use Rattle.market.proofs.front.highest.Goals as goal
 
 pub returns-in-Bonds : goal.returns-in-Bonds

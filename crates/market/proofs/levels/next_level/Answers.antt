@@ -1,10 +1,6 @@
 -- `market::levels::next_level` meets its contract: after i records the candidate is the next level of the first i.
-use mathlib.Core.Path.{◌≡◌}
-use Prim.Native.Nat.{◌-◌, ◌≤◌}
 use native.Mathlib.Omega.{arith}
 use borrow.Author.Rules.{rules}
-use Rattle.matching.specs.Depth.{next}
-use Rattle.table.specs.Orders.{book_of}
 use Rattle.table.proofs.Same.{filled_few}
 use Rattle.market.proofs.LevelLaws.{loaded_sound, next_none, next_one, next_end}
 use Rattle.market.proofs.levels.next_level.Goals as goal

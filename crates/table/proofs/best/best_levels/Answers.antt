@@ -1,10 +1,6 @@
 -- `table::best::best_levels` meets its contract: after i records each is the best level of the first i.
-use mathlib.Core.Path.{◌≡◌}
-use Prim.Native.Nat.{◌-◌, ◌≤◌}
 use native.Mathlib.Omega.{arith}
 use borrow.Author.Rules.{rules}
-use Rattle.matching.specs.Depth.{next}
-use Rattle.table.specs.Orders.{book_of}
 use Rattle.table.proofs.Fronts.{next_below, nearest_none, nearest_more, nearest_end}
 use Rattle.table.proofs.best.best_levels.Goals as goal
 

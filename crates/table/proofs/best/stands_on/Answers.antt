@@ -1,8 +1,7 @@
 -- `table::best::stands_on` meets its contract: after i records b has what the first i add.
-use Prim.Native.Nat.{◌-◌, ◌≤◌}
 use native.Mathlib.Omega.{arith}
 use borrow.Author.Rules.{rules}
-use Rattle.table.proofs.Fronts.{next_below, Counted, counted_none, total_fits, orders_fit, counted_more, counted_all}
+use Rattle.table.proofs.Fronts.{next_below, counted_none, total_fits, orders_fit, counted_more, counted_all}
 use Rattle.table.proofs.best.stands_on.Goals as goal
 
 pub loop-i-init : goal.loop-i-init

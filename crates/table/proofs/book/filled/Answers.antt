@@ -1,9 +1,8 @@
 -- `table::book::filled` meets its contract: at each turn the search from k on gives the whole search's answer.
-use Prim.Native.Nat.{◌+◌, ◌-◌}
 use native.Mathlib.Omega.{arith}
 use borrow.Author.Tests.{eq-eqb, ne_eqb}
-use Rattle.table.specs.Orders.{is_free, filled}
-use Rattle.octets.proofs.Ranges.{Sought, sought_none, sought_more, sought_here, sought_end}
+use Rattle.table.specs.Orders.{filled}
+use Rattle.octets.proofs.Ranges.{sought_none, sought_more, sought_here, sought_end}
 use Rattle.table.proofs.book.filled.Goals as goal
 
 pub loop-k-init : goal.loop-k-init

@@ -2,11 +2,8 @@
 -- the whole search's answer.
 use mathlib.Core.Path.{sym, ap, ◌∙◌}
 use mathlib.Core.Bool.{not}
-use Prim.Native.Nat.{◌+◌, ◌-◌}
 use native.Mathlib.Omega.{arith}
-use Rattle.octets.proofs.Ranges.{Sought, sought_none, sought_more}
-use Rattle.matching.specs.Matching.{is_open}
-use Rattle.table.specs.Orders.{order_at}
+use Rattle.octets.proofs.Ranges.{sought_none, sought_more}
 use Rattle.table.proofs.Lookups.{takes_next, takes_here, takes_none}
 use borrow.Author.Rules.{rules}
 use Rattle.table.proofs.book.record_for.Goals as goal

@@ -1,14 +1,10 @@
 -- `table::book::record_for` meets its contract: the next record while one is not filled; else at each turn the search from k on gives
 -- the whole search's answer.
-use mathlib.Core.Path.{sym, ap, ◌∙◌}
 use mathlib.Core.Bool.{not}
 use Prim.Native.Nat.{◌+◌, ◌-◌}
-use native.Mathlib.Omega.{arith}
-use Rattle.octets.proofs.Ranges.{Sought, sought_none, sought_more}
+use Rattle.octets.proofs.Ranges.{Sought}
 use Rattle.matching.specs.Matching.{is_open}
 use Rattle.table.specs.Orders.{order_at}
-use Rattle.table.proofs.Lookups.{takes_next, takes_here, takes_none}
-use borrow.Author.Rules.{rules}
 use Rattle.table.proofs.book.record_for.Given as goal
 
 abbrev pub invariant-loop-k : goal.invariant-loop-k

@@ -1,11 +1,9 @@
 -- `table::entries` meets its contract: among the entries passed none is the one that is sought.
 use mathlib.Core.Path.{sym, ◌∙◌}
 use native.Mathlib.Omega.{arith}
-use Prim.Native.Nat.{◌-◌}
 use borrow.Author.Tests.{eq-eqb, ne_eqb}
-use lib.Dec.{eqb}
-use Rattle.octets.proofs.Ranges.{Sought, sought_none, sought_more, sought_here, sought_end}
-use Rattle.table.specs.Heading.{mpid_at, entries}
+use Rattle.octets.proofs.Ranges.{sought_none, sought_more, sought_here, sought_end}
+use Rattle.table.specs.Heading.{entries}
 use Rattle.table.proofs.entries.entries.Goals as goal
 
 pub loop-k-init : goal.loop-k-init

@@ -1,7 +1,6 @@
 -- `table::facing::first` meets its contract: c is the first of the sixteens passed.
 use Prim.Native.Nat.{◌-◌, ◌≤◌}
-use Rattle.table.proofs.Faced.{Finding, finding_none, first_below, first_place, finding_more, finding_end}
-use borrow.Author.Rules.{rules}
+use Rattle.table.proofs.Faced.{Finding}
 use Rattle.table.proofs.facing.first.Given as goal
 
 abbrev pub invariant-loop-j : goal.invariant-loop-j

@@ -1,8 +1,6 @@
 -- `table::facing::first_in` meets its contract: c is the first of the records passed.
 use Prim.Native.Nat.{◌+◌, ◌-◌, ◌≤◌}
 use Rattle.table.specs.Faced.{Lowest}
-use Rattle.table.proofs.Faced.{lowest_one, lowest_more, lowest_below, lowest_end}
-use borrow.Author.Rules.{rules}
 use Rattle.table.proofs.facing.first_in.Given as goal
 
 abbrev pub invariant-loop-i : goal.invariant-loop-i

@@ -1,9 +1,6 @@
 -- `table::facing::meets_none` meets its contract: there is no best order among the records passed.
-use mathlib.Core.Path.{◌≡◌, refl}
-use Prim.Native.Nat.{◌-◌, ◌≤◌}
+use mathlib.Core.Path.{refl}
 use Rattle.octets.proofs.Bools.{not_both}
-use Rattle.matching.specs.Matching.{best}
-use Rattle.table.specs.Orders.{book_of}
 use Rattle.table.proofs.Faced.{best_zero, due_timely, best_skip, best_end}
 use borrow.Author.Rules.{rules}
 use Rattle.table.proofs.facing.meets_none.Goals as goal

@@ -1,7 +1,4 @@
 -- `table::facing::note` meets its contract: the turns of the records passed are noted.
-use Prim.Native.Nat.{◌-◌, ◌≤◌}
-use Rattle.table.specs.Orders.{book_of}
-use Rattle.table.specs.Faced.{Met}
 use Rattle.table.proofs.Faced.{met_none, due_timely, met_more, met_skip, met_end}
 use borrow.Author.Rules.{rules}
 use Rattle.table.proofs.facing.note.Goals as goal

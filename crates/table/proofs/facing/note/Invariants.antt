@@ -2,8 +2,6 @@
 use Prim.Native.Nat.{◌-◌, ◌≤◌}
 use Rattle.table.specs.Orders.{book_of}
 use Rattle.table.specs.Faced.{Met}
-use Rattle.table.proofs.Faced.{met_none, due_timely, met_more, met_skip, met_end}
-use borrow.Author.Rules.{rules}
 use Rattle.table.proofs.facing.note.Given as goal
 
 abbrev pub invariant-loop-i : goal.invariant-loop-i

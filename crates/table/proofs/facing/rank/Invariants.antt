@@ -1,8 +1,6 @@
 -- `table::facing::rank` meets its contract: the firsts of the sixteens passed are noted.
 use Prim.Native.Nat.{◌-◌, ◌≤◌}
 use Rattle.table.specs.Faced.{Firsts}
-use Rattle.table.proofs.Faced.{firsts_none, firsts_more, firsts_end}
-use borrow.Author.Rules.{rules}
 use Rattle.table.proofs.facing.rank.Given as goal
 
 abbrev pub invariant-loop-j : goal.invariant-loop-j

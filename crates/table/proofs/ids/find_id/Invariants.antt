@@ -1,13 +1,8 @@
 -- `table::ids::find_id` meets its contract: at each turn the search from k on gives the whole search's answer.
-use mathlib.Core.Path.{sym, ◌∙◌}
 use Prim.Native.Nat.{◌+◌, ◌-◌}
-use native.Mathlib.Omega.{arith}
 use Rattle.octets.specs.Octets.{same_bytes}
 use Rattle.table.specs.Orders.{cl_ord_id_at}
-use Rattle.octets.proofs.Ranges.{Sought, sought_none, sought_more}
-use Rattle.table.proofs.Lookups.{id_here, id_none}
-use Rattle.table.proofs.Keys.{record_few, none_filled, none_long}
-use borrow.Author.Rules.{rules}
+use Rattle.octets.proofs.Ranges.{Sought}
 use Rattle.table.proofs.ids.find_id.Given as goal
 
 abbrev pub invariant-loop-k : goal.invariant-loop-k

@@ -1,8 +1,6 @@
 -- `table::look::first_from` meets its contract: r is the first of the turns passed that is not before x.
 use Prim.Native.Nat.{◌-◌, ◌≤◌}
 use Rattle.table.specs.Looks.{Clear}
-use Rattle.table.proofs.Notes.{clear_none, first_more, clear_end}
-use borrow.Author.Rules.{rules}
 use Rattle.table.proofs.look.first_from.Given as goal
 
 abbrev pub invariant-loop-i : goal.invariant-loop-i

@@ -1,6 +1,4 @@
 -- `table::look::halved` meets its contract: what is left of the window is no larger.
-use Prim.Native.Nat.{◌-◌, ◌≤◌}
-use Rattle.table.specs.Looks.{Between}
 use Rattle.table.proofs.Notes.{shrunk_most}
 use borrow.Author.Rules.{rules}
 use Rattle.table.proofs.look.halved.Goals as goal

@@ -1,8 +1,6 @@
 -- `table::look::halved` meets its contract: what is left of the window is no larger.
 use Prim.Native.Nat.{◌-◌, ◌≤◌}
 use Rattle.table.specs.Looks.{Between}
-use Rattle.table.proofs.Notes.{shrunk_most}
-use borrow.Author.Rules.{rules}
 use Rattle.table.proofs.look.halved.Given as goal
 
 abbrev pub invariant-loop-i : goal.invariant-loop-i

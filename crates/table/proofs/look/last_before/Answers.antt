@@ -1,6 +1,4 @@
 -- `table::look::last_before` meets its contract: r is behind the last of the turns passed that is before x.
-use Prim.Native.Nat.{◌-◌, ◌≤◌}
-use Rattle.table.specs.Looks.{Clear}
 use Rattle.table.proofs.Notes.{clear_none, last_more, clear_end}
 use borrow.Author.Rules.{rules}
 use Rattle.table.proofs.look.last_before.Goals as goal

@@ -1,6 +1,5 @@
 -- `table::look::least_own` meets its contract: x is the nearest of the notes passed.
-use Prim.Native.Nat.{◌-◌}
-use Rattle.table.proofs.Notes.{Nearing, nearing_none, nearing_more, nearing_end}
+use Rattle.table.proofs.Notes.{nearing_none, nearing_more, nearing_end}
 use borrow.Author.Rules.{rules}
 use Rattle.table.proofs.look.least_own.Goals as goal
 

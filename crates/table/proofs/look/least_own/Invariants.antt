@@ -1,7 +1,6 @@
 -- `table::look::least_own` meets its contract: x is the nearest of the notes passed.
 use Prim.Native.Nat.{◌-◌}
-use Rattle.table.proofs.Notes.{Nearing, nearing_none, nearing_more, nearing_end}
-use borrow.Author.Rules.{rules}
+use Rattle.table.proofs.Notes.{Nearing}
 use Rattle.table.proofs.look.least_own.Given as goal
 
 abbrev pub invariant-loop-i : goal.invariant-loop-i

@@ -1,8 +1,5 @@
 -- `table::look::note` meets its contract: of the records passed those that o meets are noted.
-use Prim.Native.Nat.{◌-◌, ◌≤◌}
 use native.Mathlib.Omega.{arith}
-use Rattle.table.specs.Orders.{book_of}
-use Rattle.table.specs.Looks.{Noted}
 use Rattle.table.proofs.Lookups.{record_below}
 use Rattle.table.proofs.Looks.{noted_none, looked_covered, looked_timely, noted_skip, noted_more, noted_room, noted_end}
 use borrow.Author.Rules.{rules}

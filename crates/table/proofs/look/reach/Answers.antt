@@ -1,6 +1,4 @@
 -- `table::look::reach` meets its contract: what q reaches to lies in the window.
-use Prim.Native.Nat.{◌-◌}
-use Rattle.table.specs.Looks.{Between}
 use Rattle.table.proofs.Notes.{between_below, between_clear, clear_shrunk, one_turn}
 use borrow.Author.Rules.{rules}
 use Rattle.table.proofs.look.reach.Goals as goal

@@ -1,7 +1,6 @@
 -- `table::look::sum_of` meets its contract: r is the sum of the notes passed.
 use Prim.Native.Nat.{◌-◌}
-use Rattle.table.proofs.Notes.{Summing, summing_none, summing_fits, summing_more, summing_end, summing_most, notes_early, notes_small}
-use borrow.Author.Rules.{rules}
+use Rattle.table.proofs.Notes.{Summing}
 use Rattle.table.proofs.look.sum_of.Given as goal
 
 abbrev pub invariant-loop-i : goal.invariant-loop-i

@@ -1,10 +1,6 @@
 -- `table::opening::all_between` meets its contract: the bytes from i on pass exactly if all do.
-use borrow.Author.Tests.{not-true, not-false}
-use Rattle.table.proofs.Settings.{Tested, tested_none, tested_more, tested_stop, tested_end}
-use Prim.Native.Nat.{◌-◌}
+use Rattle.table.proofs.Settings.{tested_none, tested_more, tested_stop, tested_end}
 use native.Mathlib.Omega.{arith}
-use lib.ListN.{length}
-use Rattle.table.specs.Market.{is_between}
 use Rattle.table.proofs.opening.all_between.Goals as goal
 
 pub loop-i-init : goal.loop-i-init

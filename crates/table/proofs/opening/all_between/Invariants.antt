@@ -1,8 +1,6 @@
 -- `table::opening::all_between` meets its contract: the bytes from i on pass exactly if all do.
-use borrow.Author.Tests.{not-true, not-false}
-use Rattle.table.proofs.Settings.{Tested, tested_none, tested_more, tested_stop, tested_end}
+use Rattle.table.proofs.Settings.{Tested}
 use Prim.Native.Nat.{◌-◌}
-use native.Mathlib.Omega.{arith}
 use lib.ListN.{length}
 use Rattle.table.specs.Market.{is_between}
 use Rattle.table.proofs.opening.all_between.Given as goal

@@ -1,13 +1,8 @@
 -- `table::opening::are_given` meets its contract: the lists are of one length, and every entry looked at is good.
-use mathlib.Core.Path.{◌≡◌, refl, sym, ◌∙◌}
-use mathlib.Core.Bool.{true}
-use Prim.Native.Nat.{◌-◌}
+use mathlib.Core.Path.{refl, sym, ◌∙◌}
 use native.Mathlib.Omega.{arith}
-use lib.ListN.{length}
-use borrow.Author.Tests.{not-true, not-false}
-use Rattle.octets.proofs.Ranges.{Passed, passed_none, passed_more, passed_stop, passed_end}
-use Rattle.table.specs.Opened.{is_given}
-use Rattle.table.proofs.Settings.{counts, counts_same, given_not, given_stop, given_all}
+use Rattle.octets.proofs.Ranges.{passed_none, passed_more, passed_stop, passed_end}
+use Rattle.table.proofs.Settings.{counts_same, given_not, given_stop, given_all}
 use Rattle.table.proofs.opening.are_given.Goals as goal
 
 pub returns-then-not-n-modes : goal.returns-then-not-n-modes

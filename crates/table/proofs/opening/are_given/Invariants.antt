@@ -1,13 +1,11 @@
 -- `table::opening::are_given` meets its contract: the lists are of one length, and every entry looked at is good.
-use mathlib.Core.Path.{◌≡◌, refl, sym, ◌∙◌}
+use mathlib.Core.Path.{◌≡◌}
 use mathlib.Core.Bool.{true}
 use Prim.Native.Nat.{◌-◌}
-use native.Mathlib.Omega.{arith}
 use lib.ListN.{length}
-use borrow.Author.Tests.{not-true, not-false}
-use Rattle.octets.proofs.Ranges.{Passed, passed_none, passed_more, passed_stop, passed_end}
+use Rattle.octets.proofs.Ranges.{Passed}
 use Rattle.table.specs.Opened.{is_given}
-use Rattle.table.proofs.Settings.{counts, counts_same, given_not, given_stop, given_all}
+use Rattle.table.proofs.Settings.{counts}
 use Rattle.table.proofs.opening.are_given.Given as goal
 
 abbrev pub invariant-loop-k : goal.invariant-loop-k

@@ -1,6 +1,5 @@
 -- `table::opening::are_names` meets its contract: three names, the code by what the market trades.
 use Rattle.table.proofs.Settings.{names_are}
-use borrow.Author.Rules.{rules}
 use Rattle.table.proofs.opening.are_names.Goals as goal
 
 pub returns : goal.returns

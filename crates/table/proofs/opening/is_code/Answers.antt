@@ -1,6 +1,5 @@
 -- `table::opening::is_code` meets its contract: the code of a bond has digits, the symbol of a share any characters.
 use Rattle.table.proofs.Settings.{code_digits, code_graphic}
-use borrow.Author.Rules.{rules}
 use Rattle.table.proofs.opening.is_code.Goals as goal
 
 pub returns-in-Bonds : goal.returns-in-Bonds

@@ -1,6 +1,5 @@
 -- `table::opening::is_given` meets its contract: five tests.
 use Rattle.table.proofs.Settings.{given_is}
-use borrow.Author.Rules.{rules}
 use Rattle.table.proofs.opening.is_given.Goals as goal
 
 pub returns : goal.returns

@@ -1,6 +1,5 @@
 -- `table::opening::is_name` meets its contract: three tests.
 use Rattle.table.proofs.Settings.{name_is}
-use borrow.Author.Rules.{rules}
 use Rattle.table.proofs.opening.is_name.Goals as goal
 
 pub returns : goal.returns

@@ -1,6 +1,5 @@
 -- `table::opening::open_table` meets its contract: refused where the length or a setting is wrong, else the table is written.
 use mathlib.Core.Path.{sym, ◌∙◌}
-use borrow.Author.Tests.{not-true, not-false}
 use Rattle.table.proofs.Settings.{answer_short, table_short, answer_wrong, table_wrong, answer_right, table_right}
 use borrow.Author.Rules.{rules}
 use Rattle.table.proofs.opening.open_table.Goals as goal

@@ -1,8 +1,6 @@
 -- `table::opening::put_modes` meets its contract: after k entries, putting the rest of them gives the whole put.
-use Prim.Native.Nat.{◌-◌}
 use native.Mathlib.Omega.{arith}
-use lib.ListN.{length}
-use Rattle.table.proofs.Settings.{ModesPut, modes_none, modes_more, modes_all}
+use Rattle.table.proofs.Settings.{modes_none, modes_more, modes_all}
 use Rattle.table.proofs.opening.put_modes.Goals as goal
 
 pub loop-k-init : goal.loop-k-init

@@ -1,8 +1,7 @@
 -- `table::opening::put_modes` meets its contract: after k entries, putting the rest of them gives the whole put.
 use Prim.Native.Nat.{◌-◌}
-use native.Mathlib.Omega.{arith}
 use lib.ListN.{length}
-use Rattle.table.proofs.Settings.{ModesPut, modes_none, modes_more, modes_all}
+use Rattle.table.proofs.Settings.{ModesPut}
 use Rattle.table.proofs.opening.put_modes.Given as goal
 
 abbrev pub invariant-loop-k : goal.invariant-loop-k

@@ -1,8 +1,6 @@
 -- `table::opening::put_mpids` meets its contract: after k entries, putting the rest of them gives the whole put.
-use Prim.Native.Nat.{◌-◌}
 use native.Mathlib.Omega.{arith}
-use lib.ListN.{length}
-use Rattle.table.proofs.Settings.{MpidsPut, mpids_none, mpids_more, mpids_all}
+use Rattle.table.proofs.Settings.{mpids_none, mpids_more, mpids_all}
 use Rattle.table.proofs.opening.put_mpids.Goals as goal
 
 pub loop-k-init : goal.loop-k-init

@@ -1,6 +1,5 @@
 -- `table::record::marks_at` meets its contract: each mark is the byte at its place.
 use Rattle.table.specs.Orders.{marks_at}
-use borrow.Author.Rules.{rules}
 use Rattle.table.proofs.record.marks_at.Goals as goal
 
 pub returns : goal.returns

@@ -2,7 +2,6 @@
 use native.Mathlib.Omega.{arith}
 use lib.ListN.{length-set}
 use Rattle.table.proofs.Writes.{four_written}
-use borrow.Author.Rules.{rules}
 use Rattle.table.proofs.record.write_four.Goals as goal
 
 pub bounds-t-p-2 : goal.bounds-t-p-2

@@ -1,7 +1,7 @@
 -- `refusals::unchanged_on` meets its contract: where no record has the 41, and where one has.
-use Prim.Native.Nat.{ℕ, ◌≤◌}
+use Prim.Native.Nat.{ℕ}
 use native.Mathlib.Omega.{arith}
-use mathlib.Core.Path.{◌≡◌, ap, ◌∙◌}
+use mathlib.Core.Path.{◌≡◌}
 use mathlib.Core.List.{List}
 use Rattle.matching.specs.declared.Order.{Order}
 use Rattle.matching.specs.Held.{Covered}

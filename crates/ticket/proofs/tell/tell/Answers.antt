@@ -4,7 +4,6 @@ use Rattle.octets.proofs.Runs.{wrote_length}
 use Rattle.ticket.specs.Tickets.{shown_on}
 use Rattle.ticket.proofs.Short.{legible_ready}
 use Rattle.ticket.proofs.Told.{body_sound, body_room, body_low, body_high, body_long, told}
-use borrow.Author.Rules.{rules}
 use Rattle.ticket.proofs.tell.tell.Goals as goal
 
 pub stamp_on-s-requires : goal.stamp_on-s-requires

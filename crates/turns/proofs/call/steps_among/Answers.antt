@@ -1,12 +1,8 @@
 -- `turns::call::steps_among` meets its contract: after each turn, what is left to do gives what all the steps give.
-use Prim.Native.Nat.{◌-◌}
 use native.Mathlib.Omega.{arith}
 use borrow.Author.Rules.{rules}
-use Rattle.table.specs.Heading.{work_of}
-use Rattle.table.specs.Orders.{book_of}
-use Rattle.table.specs.Faced.{Facing}
 use Rattle.table.proofs.Faced.{unmet_blank}
-use Rattle.turns.proofs.Going.{Going, going_first, stop_walked, step_within, step_busy, step_room, bytes_fit, reports_fit, going_on, spent_walked}
+use Rattle.turns.proofs.Going.{going_first, stop_walked, step_within, step_busy, step_room, bytes_fit, reports_fit, going_on, spent_walked}
 use Rattle.turns.proofs.call.steps_among.Goals as goal
 
 pub face-m-requires : goal.face-m-requires

@@ -1,6 +1,5 @@
 -- `turns::step::noted` meets its contract.
 use borrow.Author.Tests.{lt-ltb, le-ltb}
-use borrow.Author.Rules.{rules}
 use Rattle.turns.proofs.step.noted.Goals as goal
 
 pub returns-then-minimum_of-gt0 : goal.returns-then-minimum_of-gt0
