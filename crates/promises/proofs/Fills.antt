@@ -1,5 +1,5 @@
 -- The trades that reports tell are those of the events that they are of, each resting order by its ClOrdID; and no step changes one.
-use mathlib.Core.Path.{◌≡◌, refl, sym, ap, ◌∙◌}
+use mathlib.Core.Path.{subst, ◌≡◌, refl, sym, ap, ◌∙◌}
 use mathlib.Core.Bool.{Bool, false, cond, ◌&&◌, ◌||◌}
 use mathlib.Core.List.{List, [], ◌∷◌, ◌++◌, map, append-nil, map-append}
 use mathlib.Core.Logic.{◌≢◌, ◌⊎◌, inl, inr, ⊎_elim}
@@ -230,7 +230,11 @@ module _ (q : Instrument) (c : Book) (name : ℕ → List ℕ) (w : ℕ) where
       first : instrument_of (applied t e) ≡ q → fills_in (instrument_of (applied t e)) (event_report (applied t e) n e ∷ event_reports (applied t e) (n + 1) es)
           ≡ map (fill_of (instrument_of (applied t e))) (fill name w e) ++ fills_in (instrument_of (applied t e)) (event_reports (applied t e) (n + 1) es)
           → fills_in q (event_report (applied t e) n e ∷ event_reports (applied t e) (n + 1) es) ≡ map (fill_of q) (fill name w e) ++ fills_in q (event_reports (applied t e) (n + 1) es)
-      first v x = rw v at x
+      first v x =
+          subst
+          (λ (m : Instrument). fills_in m (event_report (applied t e) n e ∷ event_reports (applied t e) (n + 1) es)
+          ≡ map (fill_of m) (fill name w e) ++ fills_in m (event_reports (applied t e) (n + 1) es))
+          v x
 
 -- the reports of a step
 pub step_fills : (q : Instrument) (t : List ℕ) → instrument_of t ≡ q → Market t → 1 ≤ work_of t
