@@ -2,7 +2,7 @@
 use mathlib.Core.Path.{◌≡◌, refl, sym, ap, ◌∙◌}
 use mathlib.Core.Bool.{Bool, true, false, cond, ◌&&◌, ◌||◌, false≢true}
 use mathlib.Core.List.{List, [], ◌∷◌}
-use Prim.Native.Nat.{ℕ, ◌+◌, ◌≤◌}
+use Prim.Native.Nat.{ℕ, ◌≤◌}
 use native.Mathlib.Omega.{arith}
 use lib.Dec.{eqb, ltb}
 use lib.ListN.{length}
@@ -22,7 +22,7 @@ use Rattle.promises.specs.Tallies.{Account, after_report, noted, is_trade, trade
 use Rattle.feed.specs.declared.CopyAnswer.TheVariants.{NotCopied}
 use Rattle.feed.specs.Rows.{is_fill_or_kill, copy_row}
 use Rattle.feed.specs.Settings.{client_of, is_setting, copied_by}
-use Rattle.feed.specs.Copies.{Fed, unfed, fed_with, is_none, copy_bytes, fed, read_copy_of}
+use Rattle.feed.specs.Copies.{unfed, fed_with, is_none, copy_bytes, fed, read_copy_of}
 use Rattle.feed.specs.Kept.{at_tag, is_kept}
 use Rattle.feed.proofs.Clients.{setting_short, setting_text}
 use Rattle.feed.proofs.Copied.{Given}

@@ -1,8 +1,8 @@
 -- Reports handed to a feed one by one: what is told from the copies, report by report.
 use mathlib.Core.Path.{◌≡◌, refl, sym, ap, ◌∙◌}
-use mathlib.Core.Bool.{Bool, true, false, cond, false≢true}
+use mathlib.Core.Bool.{Bool, true, false, cond}
 use mathlib.Core.List.{List, [], ◌∷◌, ◌++◌, map}
-use Prim.Native.Nat.{ℕ, zero, suc, ◌+◌, ◌≤◌}
+use Prim.Native.Nat.{ℕ, ◌+◌, ◌≤◌}
 use native.Mathlib.Omega.{arith}
 use lib.ListN.{length}
 use Rattle.octets.proofs.Bools.{split}
@@ -11,7 +11,7 @@ use Rattle.report.specs.Reports.{read_of}
 use Rattle.readback.specs.Says.{says}
 use Rattle.promises.specs.Tallies.{Account, noted, account_from, traded_for, traded, is_refused, unread}
 use Rattle.feed.specs.Settings.{client_of, is_setting, copied_by}
-use Rattle.feed.specs.Copies.{Fed, is_none, copy_bytes, fed, read_copy_of}
+use Rattle.feed.specs.Copies.{Fed, is_none, copy_bytes, read_copy_of}
 use Rattle.backoffice.specs.Feeds.{written_by, next_after, copies_from, NumberedFrom}
 use Rattle.backoffice.proofs.Copying.{none_refused, copied_by_full, Same, noted_same, traded_same, noted_other, traded_other, copy_same, copy_34, copy_17, given_so, fed_copied, fed_not}
 

@@ -1,9 +1,9 @@
 -- What back offices are promised, of every history of a market (any calls in turn, from an accepted Open with any settings): all its
 -- reports, handed one by one to a feed from number 1 on, are copied without a refusal, since a feed has numbers for as many reports as a
 -- market can write. All is said of the bytes of the copies as read_copy gives them, and of the reports' as Read gives them.
-use mathlib.Core.Path.{◌≡◌, refl, sym, ap, ◌∙◌}
+use mathlib.Core.Path.{◌≡◌, sym, ◌∙◌}
 use mathlib.Core.Bool.{true}
-use mathlib.Core.List.{List, [], ◌∷◌, ◌++◌, map}
+use mathlib.Core.List.{List, [], ◌∷◌, map}
 use Prim.Native.Nat.{ℕ, ◌+◌, ◌≤◌}
 use native.Mathlib.Omega.{arith}
 use lib.ListN.{length, length-append}

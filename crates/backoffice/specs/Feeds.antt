@@ -5,7 +5,7 @@ use Rattle.decimal.specs.declared.Instrument.{Instrument}
 use Rattle.readback.specs.Says.{says}
 use Rattle.feed.specs.declared.CopyAnswer.{CopyAnswer}
 use Rattle.feed.specs.declared.CopyAnswer.TheVariants.{NoRoom, NoReport, BadSetting, NumbersSpent, NotCopied, Copied}
-use Rattle.feed.specs.Copies.{Fed, fed, read_copy_of}
+use Rattle.feed.specs.Copies.{fed, read_copy_of}
 
 -- ---- the copies
 

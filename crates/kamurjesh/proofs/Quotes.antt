@@ -1,8 +1,8 @@
 -- A level in range as a signed yield or price of 64 bits; and every level that Depth finds, or that top of book gives, is in range.
-use mathlib.Core.Path.{◌≡◌, refl, sym, ◌∙◌}
+use mathlib.Core.Path.{◌≡◌, refl, ◌∙◌}
 use mathlib.Core.Bool.{Bool, true, false, cond, not, ◌&&◌, ◌||◌}
 use mathlib.Core.List.{List}
-use Prim.Native.Nat.{ℕ, zero, suc, ◌≤◌, ◌<◌, ◌-◌}
+use Prim.Native.Nat.{ℕ, zero, suc, ◌≤◌, ◌-◌}
 use native.Mathlib.Omega.{arith}
 use lib.Dec.{eqb, ltb}
 use borrow.Author.Tests.{eqb-true, leb-true, not-false}
@@ -15,7 +15,6 @@ use Rattle.octets.proofs.Bools.{split, both_l, both_r, or_r}
 use Rattle.decimal.specs.declared.Instrument.{Instrument}
 use Rattle.decimal.specs.declared.Instrument.TheVariants.{Bonds, Equities}
 use Rattle.decimal.specs.Instruments.{highest}
-use Rattle.matching.specs.declared.Order.{Order}
 use Rattle.matching.specs.declared.Depth.{Depth}
 use Rattle.matching.specs.declared.Depth.TheVariants.{Level, NoLevel}
 use Rattle.matching.specs.Matching.{Book, at, ahead, buys}

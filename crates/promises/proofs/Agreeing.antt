@@ -1,7 +1,7 @@
 -- Steps on a market are matching's steps on its book, where there is room: the book and the order in work at the end, as many steps, and a
 -- report of each event in turn.
 use mathlib.Core.Path.{◌≡◌, refl, ap, ◌∙◌}
-use mathlib.Core.Bool.{Bool, true, false}
+use mathlib.Core.Bool.{true, false}
 use mathlib.Core.List.{List, [], ◌∷◌, ◌++◌, map, append-nil, map-append}
 use Prim.Native.Nat.{ℕ, zero, suc, ◌+◌, ◌*◌, ◌-◌, ◌≤◌}
 use native.Mathlib.Nat.{add-zero}
@@ -12,7 +12,7 @@ use borrow.Author.Tests.{eqb-true, eqb-false, eq-eqb, le-ltb}
 use Rattle.octets.proofs.Bools.{split}
 use Rattle.decimal.specs.declared.Instrument.{Instrument}
 use Rattle.matching.specs.declared.Event.{Event}
-use Rattle.matching.specs.Matching.{Book, met_by, who, happens, book_after, work_after, Ran, run}
+use Rattle.matching.specs.Matching.{met_by, who, Ran, run}
 use Rattle.table.specs.Heading.{next_of, work_of, instrument_of, mode_of}
 use Rattle.table.specs.Orders.{order_id_at, book_of, applied}
 use Rattle.table.specs.Market.{is_market_of}

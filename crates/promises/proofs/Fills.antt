@@ -15,7 +15,7 @@ use Rattle.decimal.specs.declared.Instrument.{Instrument}
 use Rattle.decimal.specs.Writing.{level_text}
 use Rattle.matching.specs.declared.Event.{Event}
 use Rattle.matching.specs.declared.Event.TheVariants.{Accepted, Replaced, Withdrawn, Canceled, Decremented, Traded, Killed, Expired}
-use Rattle.matching.specs.Matching.{Book, at, who, change, after, decided_after, partner, happens, work_after, Ran, run}
+use Rattle.matching.specs.Matching.{Book, who, change, after, decided_after, partner, happens, work_after, Ran, run}
 use Rattle.matching.specs.Held.{In}
 use Rattle.matching.specs.Happens.{Fits}
 use Rattle.matching.specs.OutOfTheWay.{Lot, fill, fills}

@@ -1,7 +1,7 @@
 -- A history with loads is the history with the single calls that they stand for: the same tables, the same reports, as many steps. So what
 -- is proved of histories without loads holds of every history.
-use mathlib.Core.Path.{◌≡◌, refl, sym, ap, ◌∙◌}
-use mathlib.Core.Bool.{true, ◌&&◌}
+use mathlib.Core.Path.{◌≡◌, refl, sym, ◌∙◌}
+use mathlib.Core.Bool.{true}
 use mathlib.Core.List.{List, [], ◌∷◌, ◌++◌, map, append_assoc, append-nil}
 use Prim.Native.Nat.{ℕ, ◌+◌}
 use native.Mathlib.Omega.{arith}
@@ -9,7 +9,7 @@ use lib.ListN.{drop}
 use Rattle.octets.proofs.Bools.{both_i, both_l, both_r}
 use Rattle.decimal.specs.declared.Instrument.{Instrument}
 use Rattle.calls.specs.Submit.{submitted}
-use Rattle.calls.specs.Run.{ran, run_steps}
+use Rattle.calls.specs.Run.{ran}
 use Rattle.load.specs.Load.{enough, loaded, load_place}
 use Rattle.load.specs.Singles as load
 use Rattle.load.specs.Singles.{Single, Submits, Runs, calls_of}

@@ -11,7 +11,7 @@ use lib.ListN.{length}
 use borrow.Author.Tests.{ne_eqb}
 use Rattle.octets.proofs.Bools.{split, not_both}
 use Rattle.decimal.specs.declared.Instrument.{Instrument}
-use Rattle.matching.specs.Matching.{Book, at, open_of, book_after, work_after, happens, Ran, run, minimum_of, misses}
+use Rattle.matching.specs.Matching.{Book, at, open_of, happens, Ran, run, minimum_of, misses}
 use Rattle.matching.specs.Held.{In}
 use Rattle.matching.specs.Runs.{KilledWhole}
 use Rattle.matching.proofs.Events.{length_play}

@@ -24,7 +24,7 @@ use Rattle.image.specs.declared.RestoreAnswer.TheVariants.{Restored}
 use Rattle.image.specs.Answers.{saved_answer, image_after, restored_answer, table_after as table_read}
 use Rattle.image.proofs.Answered.{long_table}
 use Rattle.image.proofs.Images.{table_back}
-use Rattle.image.proofs.Theorems.{Kept, kept, Accepted, accepted, market_saved, saved_restored}
+use Rattle.image.proofs.Theorems.{Kept, kept, accepted, market_saved, saved_restored}
 use Rattle.report.specs.declared.Reading.{Reading}
 use Rattle.report.specs.Reports.{read_of}
 use Rattle.promises.specs.History.{Call, table_of, reports_of, table_after, reports_after}

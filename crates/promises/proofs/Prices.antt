@@ -2,7 +2,7 @@
 -- prices lie below its sell prices.
 use mathlib.Core.Path.{◌≡◌, sym}
 use mathlib.Core.Bool.{true, false}
-use Prim.Native.Nat.{ℕ, ◌≤◌, ◌<◌}
+use Prim.Native.Nat.{◌≤◌, ◌<◌}
 use native.Mathlib.Omega.{arith}
 use lib.Dec.{leb}
 use borrow.Author.Tests.{ne_eqb, lt-ltb, le-leb, leb-true, leb-false, lt-leb}

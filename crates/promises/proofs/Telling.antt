@@ -26,7 +26,7 @@ use Rattle.matching.specs.Matching.{open_of}
 use Rattle.matching.specs.Accounts.{trades}
 use Rattle.table.specs.Heading.{next_of, work_of, instrument_of, is_listed}
 use Rattle.table.specs.Orders.{order_at, record_for, applied}
-use Rattle.table.specs.Market.{every, is_printable}
+use Rattle.table.specs.Market.{is_printable}
 use Rattle.table.specs.Facts.{Market}
 use Rattle.table.specs.Changes.{step_events}
 use Rattle.table.proofs.Frames.{market_formed}

@@ -1,6 +1,6 @@
 -- The reports of a step: two Trades with the number of the first as their 880, which are not of one MPID, or no Trade.
 use mathlib.Core.Path.{◌≡◌, refl, sym, ap, ◌∙◌}
-use mathlib.Core.Bool.{true, false}
+use mathlib.Core.Bool.{false}
 use mathlib.Core.List.{List, [], ◌∷◌, map}
 use Prim.Native.Nat.{ℕ, ◌+◌, ◌≤◌, ◌<◌}
 use native.Mathlib.Omega.{arith}
@@ -9,7 +9,7 @@ use lib.ListN.{length}
 use borrow.Author.Tests.{eq-eqb, ne_eqb}
 use Rattle.matching.specs.declared.Event.{Event}
 use Rattle.matching.specs.declared.Event.TheVariants.{Traded}
-use Rattle.matching.specs.Matching.{Book, at, after}
+use Rattle.matching.specs.Matching.{Book, at}
 use Rattle.matching.specs.Held.{In, Ready, Readies}
 use Rattle.matching.specs.Accounts.{SelfTradeFree, quiet, apart}
 use Rattle.matching.proofs.Steps.{Pair, trade, newest, oldest, equal, less, more, Stepped, rests, kills, expires, matched}

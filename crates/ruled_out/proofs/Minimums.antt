@@ -2,7 +2,7 @@
 -- more, 200 of them A's; A is MPID 10 and buys 1,200 IOC with a MinQty, MPID 14 buys Fill or Kill. All MPIDs have one mode.
 use mathlib.Core.Path.{◌≡◌, refl}
 use mathlib.Core.Bool.{Bool, true, false}
-use mathlib.Core.List.{List, [], ◌∷◌, map}
+use mathlib.Core.List.{[], ◌∷◌, map}
 use Prim.Native.Nat.{ℕ}
 use Rattle.matching.specs.Matching.{Book, at, open_of, meets, better, faces, same_owner, choose, best, partner, prevention, meeting, ending, outcome, preventing, causes, change, after, play, happens, work_after, Ran, run, minimum_of, would_trade, misses, decided_after}
 use Rattle.matching.specs.Rehearsed.{yield, buy_at_least, book_r, book_kill, events_kill, events_fill, book_least, events_least3}

@@ -3,7 +3,6 @@
 use mathlib.Core.Path.{◌≡◌, refl}
 use mathlib.Core.List.{List, [], ◌∷◌}
 use Prim.Native.Nat.{ℕ, zero, suc}
-use Prim.Native.String.{String}
 use Rattle.octets.specs.Octets.{le_at, bytes_of, put, part_at, text_at, text_bytes, same_bytes, all_zero}
 use Rattle.octets.specs.Tests.{all_up_to, first_from}
 use Rattle.decimal.specs.Writing.{decimal, places, plain, fixed, level_text, mean_text, share_of, mean_of}

@@ -1,7 +1,6 @@
 -- `kamurjesh_field` meets its contract: the place that the field is found at, as numbers.
 use mathlib.Core.Path.{◌∙◌, ap}
 use Rattle.kamurjesh.specs.Numbers.{is_there, start_of, len_of}
-use borrow.Author.Rules.{rules}
 use Rattle.kamurjesh.proofs.kamurjesh_field.Goals as goal
 
 pub returns : goal.returns

@@ -1,7 +1,6 @@
 -- `both::copy_of` meets its contract: it is the feed's copy, its answer as the paper's number, the length and the next number.
 use mathlib.Core.Path.{◌∙◌, ap}
 use Rattle.feed.specs.Copies.{copy_number, copy_length, copy_next}
-use borrow.Author.Rules.{rules}
 use Rattle.kamurjesh.proofs.both.copy_of.Goals as goal
 
 pub returns : goal.returns

@@ -1,6 +1,5 @@
 -- `both::open_of` meets its contract: it is Open, its answer as the paper's number.
 use mathlib.Core.Path.{◌∙◌, ap}
-use borrow.Author.Rules.{rules}
 use Rattle.calls.specs.Open.{open_number_of}
 use Rattle.kamurjesh.proofs.both.open_of.Goals as goal
 

@@ -1,7 +1,6 @@
 -- `both::read_of` meets its contract: it is the kind that Read tells, as a number.
 use mathlib.Core.Path.{◌∙◌, ap}
 use Rattle.calls.specs.Read.{read_number, kind_number}
-use borrow.Author.Rules.{rules}
 use Rattle.kamurjesh.proofs.both.read_of.Goals as goal
 
 pub returns : goal.returns

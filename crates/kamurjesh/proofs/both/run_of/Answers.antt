@@ -1,7 +1,6 @@
 -- `both::run_of` meets its contract: it is Run, its answer as the paper's number, bytes, reports and steps.
 use mathlib.Core.Path.{◌∙◌, ap}
 use Rattle.calls.specs.Run.{run_number, run_bytes, run_reports, run_steps}
-use borrow.Author.Rules.{rules}
 use Rattle.kamurjesh.proofs.both.run_of.Goals as goal
 
 pub returns : goal.returns

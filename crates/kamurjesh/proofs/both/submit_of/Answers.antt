@@ -1,7 +1,6 @@
 -- `both::submit_of` meets its contract: it is Submit, its answer as the paper's number and the report's length.
 use mathlib.Core.Path.{◌∙◌, ap}
 use Rattle.calls.specs.Submit.{submit_number, submit_length}
-use borrow.Author.Rules.{rules}
 use Rattle.kamurjesh.proofs.both.submit_of.Goals as goal
 
 pub returns : goal.returns

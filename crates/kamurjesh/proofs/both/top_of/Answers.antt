@@ -4,7 +4,6 @@ use Rattle.matching.specs.Depth.{total_of, orders_of}
 use Rattle.market.specs.Depth.{depth_number, has_level}
 use Rattle.kamurjesh.specs.Numbers.{level_in, quote_of}
 use Rattle.kamurjesh.proofs.Quotes.{handed, top_low}
-use borrow.Author.Rules.{rules}
 use Rattle.kamurjesh.proofs.both.top_of.Goals as goal
 
 pub quote_of-requires : goal.quote_of-requires

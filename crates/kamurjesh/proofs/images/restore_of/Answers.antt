@@ -1,6 +1,5 @@
 -- `images::restore_of` meets its contract: it is the reading of an image, its answer as the paper's number and the bad block.
 use mathlib.Core.Path.{◌∙◌, ap}
-use borrow.Author.Rules.{rules}
 use Rattle.image.specs.Answers.{restore_number}
 use Rattle.kamurjesh.specs.Numbers.{bad_block}
 use Rattle.kamurjesh.proofs.images.restore_of.Goals as goal

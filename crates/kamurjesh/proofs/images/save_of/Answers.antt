@@ -1,6 +1,5 @@
 -- `images::save_of` meets its contract: it is the writing of an image, its answer as the paper's number.
 use mathlib.Core.Path.{◌∙◌, ap}
-use borrow.Author.Rules.{rules}
 use Rattle.image.specs.Answers.{save_number}
 use Rattle.kamurjesh.proofs.images.save_of.Goals as goal
 

@@ -1,6 +1,5 @@
 -- `loads::figures_of` meets its contract: what Load says, field by field.
 use mathlib.Core.Path.{refl}
-use borrow.Author.Rules.{rules}
 use Rattle.kamurjesh.proofs.loads.figures_of.Goals as goal
 
 pub returns-in-Loaded : goal.returns-in-Loaded

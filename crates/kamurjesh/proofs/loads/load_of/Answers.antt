@@ -1,7 +1,6 @@
 -- `loads::load_of` meets its contract: it is Load, and what it says in numbers.
 use mathlib.Core.Path.{◌∙◌, ap}
 use Rattle.load.specs.Load.{load_number, load_place, load_finished, load_bytes, load_reports}
-use borrow.Author.Rules.{rules}
 use Rattle.kamurjesh.proofs.loads.load_of.Goals as goal
 
 pub returns : goal.returns

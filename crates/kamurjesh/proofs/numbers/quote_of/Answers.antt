@@ -1,7 +1,6 @@
 -- `numbers::quote_of` meets its contract: a level in range has a yield or a price of 64 bits.
 use Rattle.kamurjesh.proofs.Quotes.{handed}
 use Rattle.kamurjesh.specs.Numbers.{quote_of}
-use borrow.Author.Rules.{rules}
 use Rattle.kamurjesh.proofs.numbers.quote_of.Goals as goal
 
 pub signed-requires : goal.signed-requires
