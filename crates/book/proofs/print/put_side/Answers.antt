@@ -1,8 +1,7 @@
 -- `book::print::put_side` meets its contract: after k turns the lines of k levels are written, and x is the level behind them.
-use Prim.Native.Nat.{◌-◌}
 use native.Mathlib.Omega.{arith}
 use borrow.Author.Rules.{rules}
-use Rattle.book.proofs.Lines.{Going, going_none, going_room, going_one, going_early, going_end}
+use Rattle.book.proofs.Lines.{going_none, going_room, going_one, going_early, going_end}
 use Rattle.book.proofs.print.put_side.Goals as goal
 
 pub loop-k-init : goal.loop-k-init

@@ -1,7 +1,6 @@
 -- `book::program::book` meets its contract: what came is taken to its end, and the sheet is that of its lines.
-use borrow.Author.Rules.{rules}
 use Rattle.book.proofs.Programs.{printed}
 use Rattle.book.proofs.program.book.Goals as goal
 
 pub returns-clause-printed : goal.returns-clause-printed
-returns-clause-printed g c = search (rules, printed)
+returns-clause-printed g c = printed c.open_rehearsal.ensures c.in_ok-held.ensures.came c.take_end.ensures c.requires c.write_sheet.ensures
