@@ -184,12 +184,12 @@ module _ (t : List ℕ) (i : ℕ) (low span : List ℕ) (lows : low ≡ bounds_o
   unfolding is_record
   record_not_account a e n = rw (← text_of 32 94 0 10 t (record_at i + 33) low span a lows spans e, not-true a n, and-false)
 
-  pub record_is : (q : Instrument) (orderId : ℕ) (a b c e : Bool) → q ≡ instrument_of t
+  pub record_is : (q : Instrument) (order_id : ℕ) (a b c e : Bool) → q ≡ instrument_of t
       → a ≡ is_text (between low span) 1 32 t (record_at i) → not a ≡ false → b ≡ is_text (between low span) 0 10 t (record_at i + 33) → not b ≡ false
-      → c ≡ is_marked q (marks_at t i) → not c ≡ false → orderId ≡ order_id_at t i → (orderId ≡ 0 → ⊥) → e ≡ all_zero (part_at t (record_at i + 94) 34)
+      → c ≡ is_marked q (marks_at t i) → not c ≡ false → order_id ≡ order_id_at t i → (order_id ≡ 0 → ⊥) → e ≡ all_zero (part_at t (record_at i + 94) 34)
       → e ≡ is_record t i
   unfolding is_record
-  record_is q orderId a b c e g h k j l m n o r u =
+  record_is q order_id a b c e g h k j l m n o r u =
       u ∙ rw (
         ← text_of 32 94 1 32 t (record_at i) low span a lows spans h,
         ← text_of 32 94 0 10 t (record_at i + 33) low span b lows spans j,
@@ -199,7 +199,7 @@ module _ (t : List ℕ) (i : ℕ) (low span : List ℕ) (lows : low ≡ bounds_o
         not-false a k,
         not-false b l,
         not-false c n,
-        le-leb 1 orderId (omega arith),
+        le-leb 1 order_id (omega arith),
       )
 
 module _ (t : List ℕ) (i : ℕ) where
@@ -207,9 +207,9 @@ module _ (t : List ℕ) (i : ℕ) where
   unfolding is_record
   record_not_marked q c g e n = rw (← g, ← e, not-true c n, and-false)
 
-  pub record_no_number : (orderId : ℕ) → orderId ≡ order_id_at t i → orderId ≡ 0 → false ≡ is_record t i
+  pub record_no_number : (order_id : ℕ) → order_id ≡ order_id_at t i → order_id ≡ 0 → false ≡ is_record t i
   unfolding is_record
-  record_no_number orderId e z = rw (← e, z, and-false)
+  record_no_number order_id e z = rw (← e, z, and-false)
 
   -- record i by its parts: the first that fails, or the last
   pub order_not_record : (a : Bool) → a ≡ is_record t i → not a ≡ true → false ≡ is_order t i

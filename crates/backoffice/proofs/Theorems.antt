@@ -76,22 +76,22 @@ module _ (q : Instrument) (before venue port code : List ℕ) (first : ℕ) (mpi
   few = few_reports q calls (opened q before venue port code first mpids modes) (opening_makes_a_market q before venue port code first mpids modes taken)
 
   -- a feed with any identifiers that it can show
-  module _ (shows : ℕ) (feedPort feedGroup : List ℕ) where
+  module _ (shows : ℕ) (feed_port feed_group : List ℕ) where
     -- its copies are numbered 1, 2, 3 and so on, in 34 and in 17, whatever it subscribes to
-    pub numbered_without_gap : (subscription : ℕ) → is_setting q subscription shows feedPort feedGroup ≡ true
-        → NumberedFrom q 1 (copies_from q subscription shows feedPort feedGroup 1 reports)
+    pub numbered_without_gap : (subscription : ℕ) → is_setting q subscription shows feed_port feed_group ≡ true
+        → NumberedFrom q 1 (copies_from q subscription shows feed_port feed_group 1 reports)
     numbered_without_gap subscription set =
-        numbered q subscription shows feedPort feedGroup set reports 1 (omega arith) few (all_read q before venue port code first mpids modes taken calls)
+        numbered q subscription shows feed_port feed_group set reports 1 (omega arith) few (all_read q before venue port code first mpids modes taken calls)
 
     -- a full feed: the account of every OrderID (37) by the copies is its account by the reports, those of orders that are gone too
-    pub same_accounts : is_setting q 2 shows feedPort feedGroup ≡ true → (k : ℕ) → account_of k (map (read_copy_of q) (copies_from q 2 shows feedPort feedGroup 1 reports)) ≡ account_of k (map (read_of q) reports)
-    same_accounts set k = full_accounts q shows feedPort feedGroup set k reports blank 1 (omega arith) few (all_read q before venue port code first mpids modes taken calls)
+    pub same_accounts : is_setting q 2 shows feed_port feed_group ≡ true → (k : ℕ) → account_of k (map (read_copy_of q) (copies_from q 2 shows feed_port feed_group 1 reports)) ≡ account_of k (map (read_of q) reports)
+    same_accounts set k = full_accounts q shows feed_port feed_group set k reports blank 1 (omega arith) few (all_read q before venue port code first mpids modes taken calls)
 
     -- a reconciliation feed: what is bought is sold
-    pub bought_is_sold : is_setting q 1 shows feedPort feedGroup ≡ true
-        → bought (map (read_copy_of q) (copies_from q 1 shows feedPort feedGroup 1 reports)) ≡ sold (map (read_copy_of q) (copies_from q 1 shows feedPort feedGroup 1 reports))
+    pub bought_is_sold : is_setting q 1 shows feed_port feed_group ≡ true
+        → bought (map (read_copy_of q) (copies_from q 1 shows feed_port feed_group 1 reports)) ≡ sold (map (read_copy_of q) (copies_from q 1 shows feed_port feed_group 1 reports))
     bought_is_sold set =
         let read = all_read q before venue port code first mpids modes taken calls in
-        trades_copied q shows feedPort feedGroup set buys reports 1 (omega arith) few read
+        trades_copied q shows feed_port feed_group set buys reports 1 (omega arith) few read
         ∙ balanced q before venue port code first mpids modes taken calls
-        ∙ sym (trades_copied q shows feedPort feedGroup set sells reports 1 (omega arith) few read)
+        ∙ sym (trades_copied q shows feed_port feed_group set sells reports 1 (omega arith) few read)

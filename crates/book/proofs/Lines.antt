@@ -147,9 +147,9 @@ module _ {q : Instrument} {t : List ℕ} {n : ℕ} {out : List ℕ} {at side : �
         let z : length (level_line q side x a c) ≤ 32 = rw (p, o, l) (level_line_lem q b side m.held.sound all_quoted book_few one k (rw l at d)) in
         record { fits = omega (arith, z, lines_short q b side m.held.sound all_quoted book_few one k, g.wrote.place, g.kept, length_book t, filled_few t, e, r, h) }
 
-    pub going_one : k < n → (x ≡ 0 → ⊥) → {a c y placed : ℕ} {then-out : List ℕ} → a ≡ total (book_of t) side x → c ≡ orders (book_of t) side x
-        → Wrote after place (level_line q side x a c) placed then-out → y ≡ next (book_of t) side x n
-        → Going q t n out at side then-out placed y (k + 1)
+    pub going_one : k < n → (x ≡ 0 → ⊥) → {a c y placed : ℕ} {then_out : List ℕ} → a ≡ total (book_of t) side x → c ≡ orders (book_of t) side x
+        → Wrote after place (level_line q side x a c) placed then_out → y ≡ next (book_of t) side x n
+        → Going q t n out at side then_out placed y (k + 1)
     going_one h d {a} {c} {y} p o w v =
         record {
           within = omega arith;

@@ -30,8 +30,8 @@ use Rattle.table.proofs.Books.{at_book}
 use Rattle.table.proofs.Theorems.{opening_makes_a_market}
 use Rattle.report.specs.declared.Reading.{Reading}
 use Rattle.report.specs.Reports.{read_of}
-use Rattle.calls.specs.declared.SubmitAnswer.TheVariants as submit-answer
-use Rattle.calls.specs.declared.RunAnswer.TheVariants as run-answer
+use Rattle.calls.specs.declared.SubmitAnswer.TheVariants as submit_variants
+use Rattle.calls.specs.declared.RunAnswer.TheVariants as run_variants
 use Rattle.calls.specs.declared.SubmitAnswer.{SubmitAnswer}
 use Rattle.calls.specs.declared.Standing.{Standing}
 use Rattle.calls.specs.declared.Standing.TheVariants.{Stands, Fails}
@@ -39,11 +39,11 @@ use Rattle.calls.specs.Told.{joined, room_asked}
 use Rattle.calls.specs.Checks.{new_stands, cancel_stands, replace_stands}
 use Rattle.calls.specs.Submit.{rejecting, faulted, new_rejected, change_rejected, new_taken, replacement_taken, cancel_taken, entering, replacing, canceling, handled, submitted}
 use Rattle.calls.specs.Run.{worked, ran}
-use Rattle.load.specs.declared.LoadAnswer.TheVariants as load-answer
+use Rattle.load.specs.declared.LoadAnswer.TheVariants as load_variants
 use Rattle.load.specs.Load.{loaded, load_number, refuses}
 use Rattle.load.proofs.Answers.{Opens, narrow, strange, busy, went, opens}
 use Rattle.intake.proofs.Keeping.{Comes, no_room, no_market, in_work, spent, heard, comes}
-use Rattle.market.specs.declared.DepthAnswer.TheVariants as depth-answer
+use Rattle.market.specs.declared.DepthAnswer.TheVariants as depth_variants
 use Rattle.market.specs.Depth.{is_side, depth_answer}
 use Rattle.promises.specs.History.{Call, table_after, reports_after}
 use Rattle.promises.specs.Tallies.{Account, blank, account_of, bought, sold, trades_of, self_trades, unread}
@@ -144,15 +144,15 @@ module _ (t : List ℕ) where
 
 -- ---- no call finds no market
 abbrev is_no_market : SubmitAnswer → Bool
-is_no_market submit-answer.NoRoom = false
-is_no_market submit-answer.NoMarket = true
-is_no_market submit-answer.InWork = false
-is_no_market submit-answer.NumbersSpent = false
-is_no_market submit-answer.Garbled = false
-is_no_market (submit-answer.SessionReject n) = false
-is_no_market (submit-answer.OrderReject n) = false
-is_no_market (submit-answer.ChangeReject n) = false
-is_no_market (submit-answer.Taken n) = false
+is_no_market submit_variants.NoRoom = false
+is_no_market submit_variants.NoMarket = true
+is_no_market submit_variants.InWork = false
+is_no_market submit_variants.NumbersSpent = false
+is_no_market submit_variants.Garbled = false
+is_no_market (submit_variants.SessionReject n) = false
+is_no_market (submit_variants.OrderReject n) = false
+is_no_market (submit_variants.ChangeReject n) = false
+is_no_market (submit_variants.Taken n) = false
 
 module _ (t message : List ℕ) where
   entering_found : (o : NewOrder) (s : Standing) → is_no_market (entering t message o s).answer ≡ false
@@ -189,21 +189,21 @@ module _ (t message : List ℕ) where
       by (heard a n x e) = rw e (handled_found (asked_of (instrument_of t) (venue_of t) (port_of t) message))
 
 module _ (q : Instrument) (t : List ℕ) (m : is_market_of q t ≡ true) where
-  pub submit_found : (message : List ℕ) (room : ℕ) → (submitted q t message room).answer ≢ submit-answer.NoMarket
+  pub submit_found : (message : List ℕ) (room : ℕ) → (submitted q t message room).answer ≢ submit_variants.NoMarket
   submit_found message room e = not_both (ap is_no_market e) (submitted_found t message q room m)
 
-  pub run_found : (room budget : ℕ) → (ran q t room budget).answer ≢ run-answer.NoMarket
+  pub run_found : (room budget : ℕ) → (ran q t room budget).answer ≢ run_variants.NoMarket
   unfolding ran
   run_found room budget e =
       split (ltb room room_asked)
-      (λ z. let x : run-answer.NoRoom ≡ run-answer.NoMarket = rw z at e in let y : ◌≡◌ {A = ℕ} 0 1 = cc in omega arith)
+      (λ z. let x : run_variants.NoRoom ≡ run_variants.NoMarket = rw z at e in let y : ◌≡◌ {A = ℕ} 0 1 = cc in omega arith)
       (λ z.
       let w = worked budget t room in
-      let x : run-answer.Ran (length (joined w.reports)) (length w.reports) w.steps ≡ run-answer.NoMarket = rw (z, m) at e in
+      let x : run_variants.Ran (length (joined w.reports)) (length w.reports) w.steps ≡ run_variants.NoMarket = rw (z, m) at e in
       let y : ◌≡◌ {A = ℕ} 0 1 = cc in
       omega arith)
 
-  pub load_found : (buffer : List ℕ) (room : ℕ) → (loaded q t buffer room).answer ≢ load-answer.NoMarket
+  pub load_found : (buffer : List ℕ) (room : ℕ) → (loaded q t buffer room).answer ≢ load_variants.NoMarket
   load_found buffer room e = by (opens q t buffer room)
     where
       by : Opens q t buffer room → ⊥
@@ -212,15 +212,15 @@ module _ (q : Instrument) (t : List ℕ) (m : is_market_of q t ≡ true) where
       by (busy a n w x) = let n : ◌≡◌ {A = ℕ} 3 2 = rw x at (ap load_number e) in omega arith
       by (went a n w x) = not_both (ap refuses e) (rw x)
 
-  pub depth_found : (side k : ℕ) → depth_answer q t side k ≢ depth-answer.NoMarket
+  pub depth_found : (side k : ℕ) → depth_answer q t side k ≢ depth_variants.NoMarket
   unfolding depth_answer
   depth_found side k e =
       split (eqb (work_of t) 0)
       (λ z.
       split (is_side side)
-      (λ w. let x : depth-answer.Found (depth (book_of t) side k) ≡ depth-answer.NoMarket = rw (m, z, w) at e in let y : ◌≡◌ {A = ℕ} 0 1 = cc in omega arith)
-      (λ w. let x : depth-answer.BadSide ≡ depth-answer.NoMarket = rw (m, z, w) at e in let y : ◌≡◌ {A = ℕ} 0 1 = cc in omega arith))
-      (λ z. let x : depth-answer.InWork ≡ depth-answer.NoMarket = rw (m, z) at e in let y : ◌≡◌ {A = ℕ} 0 1 = cc in omega arith)
+      (λ w. let x : depth_variants.Found (depth (book_of t) side k) ≡ depth_variants.NoMarket = rw (m, z, w) at e in let y : ◌≡◌ {A = ℕ} 0 1 = cc in omega arith)
+      (λ w. let x : depth_variants.BadSide ≡ depth_variants.NoMarket = rw (m, z, w) at e in let y : ◌≡◌ {A = ℕ} 0 1 = cc in omega arith))
+      (λ z. let x : depth_variants.InWork ≡ depth_variants.NoMarket = rw (m, z) at e in let y : ◌≡◌ {A = ℕ} 0 1 = cc in omega arith)
 
   -- ---- an open buy is above an open sell
   pub buys_above : work_of t ≡ 0 → (i j : ℕ) → 1 ≤ i → i ≤ filled t → 1 ≤ j → j ≤ filled t → is_buy (order_at t i) ≡ true → is_buy (order_at t j) ≡ false

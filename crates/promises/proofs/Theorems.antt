@@ -119,9 +119,9 @@ module _ (q : Instrument) (before venue port code : List ℕ) (first : ℕ) (mpi
     rest = drop (load_place stopped.answer) buffer
 
     module _ (begun : refuses stopped.answer ≡ false) (narrow : load_number stopped.answer ≡ 1) (idle : work_of ended ≡ 0)
-        (enough-again : load_number (loaded q ended rest again).answer ≢ 1) (enough-at-once : load_number (loaded q table buffer wide).answer ≢ 1) where
+        (enough_again : load_number (loaded q ended rest again).answer ≢ 1) (enough_at_once : load_number (loaded q table buffer wide).answer ≢ 1) where
       goes_on : GoesOn stopped (ran q stopped.table further enough) (loaded q ended rest again) (loaded q table buffer wide)
-      goes_on = load_goes_on q table buffer room further again wide begun narrow idle enough-again enough-at-once
+      goes_on = load_goes_on q table buffer room further again wide begun narrow idle enough_again enough_at_once
 
       pub gone_on_with : table_after q table (Load buffer room ∷ Run further enough ∷ Load rest again ∷ []) ≡ table_after q table (Load buffer wide ∷ [])
       gone_on_with = gone_on_table q table buffer room further again wide goes_on
@@ -193,7 +193,7 @@ module _ (q : Instrument) (before venue port code : List ℕ) (first : ℕ) (mpi
 
   -- ---- the same in prices, where equities are traded: of a buy the higher price is better, of a sell the lower; a buy meets a sell whose
   -- price is at most its own; and while nothing is in work every open buy price is below every open sell price
-  module _ (shares : q ≡ Equities) (i j : ℕ) (first_low : 1 ≤ i) (first_high : i ≤ filled table) (second-low : 1 ≤ j) (second-high : j ≤ filled table) where
+  module _ (shares : q ≡ Equities) (i j : ℕ) (first_low : 1 ≤ i) (first_high : i ≤ filled table) (second_low : 1 ≤ j) (second_high : j ≤ filled table) where
     low_level : (k : ℕ) → 1 ≤ k → k ≤ filled table → (order_at table k).level ≤ 1_000_000_000
     low_level k l h =
         let e : highest (instrument_of table) ≡ 1_000_000_000 = ap highest (market_instrument q table a_market ∙ shares) in
@@ -209,13 +209,13 @@ module _ (q : Instrument) (before venue port code : List ℕ) (first : ℕ) (mpi
 
     pub meet_by_price : is_buy (order_at table i) ≡ true → meets (order_at table i) (order_at table j) ≡ leb (price_of (order_at table j)) (price_of (order_at table i))
     meet_by_price =
-        meets_price (order_at table i) (order_at table j) (low_level i first_low first_high) (low_level j second-low second-high)
+        meets_price (order_at table i) (order_at table j) (low_level i first_low first_high) (low_level j second_low second_high)
 
     pub buys_below_sells : work_of table ≡ 0 → is_buy (order_at table i) ≡ true → is_buy (order_at table j) ≡ false
         → 0 < open_of (order_at table i) → 0 < open_of (order_at table j) → price_of (order_at table i) < price_of (order_at table j)
     buys_below_sells idle b s x y =
-        price_below (order_at table i) (order_at table j) (low_level i first_low first_high) (low_level j second-low second-high)
-        (uncrossed idle i j first_low first_high second-low second-high b s x y)
+        price_below (order_at table i) (order_at table j) (low_level i first_low first_high) (low_level j second_low second_high)
+        (uncrossed idle i j first_low first_high second_low second_high b s x y)
 
   -- ---- a message that comes next: m is the number of open opposite orders that its order meets then
   module _ (message : List ℕ) (room : ℕ) where
@@ -244,36 +244,36 @@ module _ (q : Instrument) (before venue port code : List ℕ) (first : ℕ) (mpi
     -- its Runs divide the steps. Had every open order of that MPID on the other side been canceled first, each by a message of its own, so
     -- that none is left there, then the order would have had the same trades in turn, by the 11, 32 and 31 of the resting orders' Trades;
     -- and as much of it would be left open, and have been canceled
-    module _ (o : NewOrder) (taken-alone : TakenAs q table message room o) (some : 1 ≤ o.terms.mpid) (oldest : mode_of table o.terms.mpid ≡ 2)
+    module _ (o : NewOrder) (taken_alone : TakenAs q table message room o) (some : 1 ≤ o.terms.mpid) (oldest : mode_of table o.terms.mpid ≡ 2)
         (later : List Call) (runs : no_submit later ≡ true) (ended : work_of (table_after q table (Submit message room ∷ later)) ≡ 0)
-        (cancels : List Call) (each-canceled : AllCancel q o.terms.mpid table cancels) where
+        (cancels : List Call) (each_canceled : AllCancel q o.terms.mpid table cancels) where
       abbrev cleared : List ℕ
       cleared = table_after q table cancels
 
       module _ (none_left : (i : ℕ) → stands (other_side o.terms.side) (at (book_of cleared) i) ≡ true → is_of o.terms.mpid (at (book_of cleared) i) ≡ false)
           (area : ℕ) (Taken-then : TakenAs q cleared message area o) (others : List Call) (Runs-then : no_submit others ≡ true)
-          (ended-then : work_of (table_after q cleared (Submit message area ∷ others)) ≡ 0) where
+          (ended_then : work_of (table_after q cleared (Submit message area ∷ others)) ≡ 0) where
         pub canceling_first_gains_nothing : SameFills q (reports_after q table (Submit message room ∷ later)) (reports_after q cleared (Submit message area ∷ others))
         canceling_first_gains_nothing =
             taken_alike q message o table cleared room area later others a_market (history_keeps q cancels table a_market)
-            (canceled_clear q (other_side o.terms.side) o.terms.mpid cancels table a_market some each-canceled none_left)
-            oldest (canceled_modes q o.terms.mpid cancels table a_market some each-canceled o.terms.mpid ∙ oldest)
-            taken-alone Taken-then runs Runs-then ended ended-then
+            (canceled_clear q (other_side o.terms.side) o.terms.mpid cancels table a_market some each_canceled none_left)
+            oldest (canceled_modes q o.terms.mpid cancels table a_market some each_canceled o.terms.mpid ∙ oldest)
+            taken_alone Taken-then runs Runs-then ended ended_then
 
 -- ---- the same of any two markets of one kind, t and u, that stand so to each other, however they came about: u has no open order of the MPID
 -- on the other side, and there the other open orders of t, in the same turn, with the same ClOrdIDs, levels and open quantities
 module _ (q : Instrument) (t u : List ℕ) (market : is_market_of q t ≡ true) (other : is_market_of q u ≡ true) (message : List ℕ) (room area : ℕ) (o : NewOrder)
-    (clear : StandsClear (other_side o.terms.side) o.terms.mpid t u) (oldest : mode_of t o.terms.mpid ≡ 2) (oldest-too : mode_of u o.terms.mpid ≡ 2)
-    (taken-there : TakenAs q t message room o) (taken-too : TakenAs q u message area o) (later others : List Call) (runs : no_submit later ≡ true) (runs-too : no_submit others ≡ true)
-    (ended : work_of (table_after q t (Submit message room ∷ later)) ≡ 0) (ended-too : work_of (table_after q u (Submit message area ∷ others)) ≡ 0) where
+    (clear : StandsClear (other_side o.terms.side) o.terms.mpid t u) (oldest : mode_of t o.terms.mpid ≡ 2) (oldest_too : mode_of u o.terms.mpid ≡ 2)
+    (taken_there : TakenAs q t message room o) (taken_too : TakenAs q u message area o) (later others : List Call) (runs : no_submit later ≡ true) (runs_too : no_submit others ≡ true)
+    (ended : work_of (table_after q t (Submit message room ∷ later)) ≡ 0) (ended_too : work_of (table_after q u (Submit message area ∷ others)) ≡ 0) where
   pub own_orders_cost_no_fills : SameFills q (reports_after q t (Submit message room ∷ later)) (reports_after q u (Submit message area ∷ others))
-  own_orders_cost_no_fills = taken_alike q message o t u room area later others market other clear oldest oldest-too taken-there taken-too runs runs-too ended ended-too
+  own_orders_cost_no_fills = taken_alike q message o t u room area later others market other clear oldest oldest_too taken_there taken_too runs runs_too ended ended_too
 
 -- and of a replacement that is taken on both, of two orders that it makes the same, by the reports from its Replaced on
 module _ (q : Instrument) (t u : List ℕ) (market : is_market_of q t ≡ true) (other : is_market_of q u ≡ true) (message : List ℕ) (room area : ℕ) (o : Replacement)
     (alike : Alike (replaced_on t message o) (replaced_on u message o)) (clear : StandsClear (other_side (replaced_on t message o).side) (replaced_on t message o).mpid t u)
-    (oldest : mode_of t (replaced_on t message o).mpid ≡ 2) (oldest-too : mode_of u (replaced_on u message o).mpid ≡ 2)
-    (taken-there : RenewedAs q t message room o) (taken-too : RenewedAs q u message area o) (later others : List Call) (runs : no_submit later ≡ true) (runs-too : no_submit others ≡ true)
-    (ended : work_of (table_after q t (Submit message room ∷ later)) ≡ 0) (ended-too : work_of (table_after q u (Submit message area ∷ others)) ≡ 0) where
+    (oldest : mode_of t (replaced_on t message o).mpid ≡ 2) (oldest_too : mode_of u (replaced_on u message o).mpid ≡ 2)
+    (taken_there : RenewedAs q t message room o) (taken_too : RenewedAs q u message area o) (later others : List Call) (runs : no_submit later ≡ true) (runs_too : no_submit others ≡ true)
+    (ended : work_of (table_after q t (Submit message room ∷ later)) ≡ 0) (ended_too : work_of (table_after q u (Submit message area ∷ others)) ≡ 0) where
   pub replaced_as_new : SameFills q (reports_after q t (Submit message room ∷ later)) (reports_after q u (Submit message area ∷ others))
-  replaced_as_new = renewed_alike q message o t u room area later others market other alike clear oldest oldest-too taken-there taken-too runs runs-too ended ended-too
+  replaced_as_new = renewed_alike q message o t u room area later others market other alike clear oldest oldest_too taken_there taken_too runs runs_too ended ended_too

@@ -45,12 +45,12 @@ zero_later : (t : List ℕ) (q p : ℕ) → all_zero (drop q t) ≡ true → q �
 zero_later t q p h l = zero_from (drop p t) (λ k m. get_or-drop p t k 0 ∙ zero_byte t q (p + k) h (omega arith))
 
 -- the order o is written as record k of t, which it may take, with a new OrderID and ClOrdID
-module _ (t : List ℕ) (k orderId : ℕ) (cl_ord_id account : List ℕ) (marks : Marks) (o : Order) (f : Formed t) (x : Takes (book_of t) k) (small : k ≤ 255)
+module _ (t : List ℕ) (k order_id : ℕ) (cl_ord_id account : List ℕ) (marks : Marks) (o : Order) (f : Formed t) (x : Takes (book_of t) k) (small : k ≤ 255)
     (g : Named t cl_ord_id) (few : length account ≤ 10) (printable : every is_printable account ≡ true) (a : is_marked (instrument_of t) marks ≡ true)
-    (some : 1 ≤ orderId) (sized : orderId < 256 ^ 4) where
+    (some : 1 ≤ order_id) (sized : order_id < 256 ^ 4) where
   -- the table afterwards, and its number of filled records
   abbrev pub after : List ℕ
-  after = accepted t k orderId cl_ord_id account marks o
+  after = accepted t k order_id cl_ord_id account marks o
 
   abbrev pub count : ℕ
   count = length (put_order (book_of t) k o)
@@ -77,24 +77,24 @@ module _ (t : List ℕ) (k orderId : ℕ) (cl_ord_id account : List ℕ) (marks 
   -- all bytes but those of the record are as they were
   pub entered_heading : Same after t 0 128
   unfolding accepted
-  entered_heading = let l = low in put_below t (128 * k) (record_of orderId cl_ord_id account marks o) 0 128 (omega arith)
+  entered_heading = let l = low in put_below t (128 * k) (record_of order_id cl_ord_id account marks o) 0 128 (omega arith)
 
   pub entered_instrument : instrument_of after ≡ instrument_of t
   entered_instrument = instrument_same (same_in 55 56 entered_heading (lit≤ tt) (lit≤ tt))
 
   entered_behind : (e : ℕ) → Same after t (128 * k + 128) e
-  entered_behind = accepted_behind t k orderId cl_ord_id account marks o g.short few room
+  entered_behind = accepted_behind t k order_id cl_ord_id account marks o g.short few room
 
   entered_other : (i : ℕ) → (i ≡ k → ⊥) → Same after t (128 * i) (128 * i + 128)
   unfolding accepted
   entered_other i n =
-      let s = length_record t k orderId cl_ord_id account marks o g.short few room in
-      ⊎_elim (λ (l : k < i). put_above t (128 * k) (record_of orderId cl_ord_id account marks o) (128 * i) (128 * i + 128) (omega arith))
-      (λ (l : i ≤ k). put_below t (128 * k) (record_of orderId cl_ord_id account marks o) (128 * i) (128 * i + 128) (omega arith)) (below_or k i)
+      let s = length_record t k order_id cl_ord_id account marks o g.short few room in
+      ⊎_elim (λ (l : k < i). put_above t (128 * k) (record_of order_id cl_ord_id account marks o) (128 * i) (128 * i + 128) (omega arith))
+      (λ (l : i ≤ k). put_below t (128 * k) (record_of order_id cl_ord_id account marks o) (128 * i) (128 * i + 128) (omega arith)) (below_or k i)
 
   -- its texts
   texts : Same after (put_texts t k cl_ord_id account) (128 * k) (128 * k + 44)
-  texts = accepted_texts t k orderId cl_ord_id account marks o g.short few room
+  texts = accepted_texts t k order_id cl_ord_id account marks o g.short few room
 
   id_texts : Same after (put_id t k cl_ord_id) (128 * k) (128 * k + 33)
   id_texts =
@@ -126,24 +126,24 @@ module _ (t : List ℕ) (k orderId : ℕ) (cl_ord_id account : List ℕ) (marks 
       ∙ zero_byte t (128 * (filled t + 1)) (128 * (count + 1)) (rest_zero_lem t f.rest) (omega arith))
 
   -- the OrderIDs afterwards
-  pub entered_order_id : order_id_at after k ≡ orderId
-  entered_order_id = accepted_order_id t k orderId cl_ord_id account marks o g.short few room sized
+  pub entered_order_id : order_id_at after k ≡ order_id
+  entered_order_id = accepted_order_id t k order_id cl_ord_id account marks o g.short few room sized
 
   other_order_id : (i : ℕ) → (i ≡ k → ⊥) → order_id_at after i ≡ order_id_at t i
   other_order_id i n = order_id_same i (same_in (128 * i + 84) (128 * i + 128) (entered_other i n) (omega arith) (omega arith))
 
-  pub entered_order_ids : FreshNumbers (order_id_at t) orderId (filled t) → FreshNumbers (order_id_at after) (orderId + 1) (filled after)
+  pub entered_order_ids : FreshNumbers (order_id_at t) order_id (filled t) → FreshNumbers (order_id_at after) (order_id + 1) (filled after)
   entered_order_ids h =
       let e = entered_filled in
       rw e
-      (fresh_taken (order_id_at t) (order_id_at after) orderId (filled t) count k
+      (fresh_taken (order_id_at t) (order_id_at after) order_id (filled t) count k
       (λ i l m n. (others i l m n, other_order_id i n)) entered_order_id h)
 
   new_record : is_record after k ≡ true
   new_record =
       let p : ℕ = 128 * k in
       let long = length_put t p (text_bytes 32 cl_ord_id) in
-      let c = accepted_marks t k orderId cl_ord_id account marks o g.short few room (marked_bytes (instrument_of t) marks a) in
+      let c = accepted_marks t k order_id cl_ord_id account marks o g.short few room (marked_bytes (instrument_of t) marks a) in
       let d = entered_instrument in
       parts_record after k
       (is_text_same is_printable 1 32 p (p + 33) id_texts (omega arith)
@@ -152,7 +152,7 @@ module _ (t : List ℕ) (k orderId : ℕ) (cl_ord_id account : List ℕ) (marks 
       ∙ is_text_put 10 (put_id t k cl_ord_id) (p + 33) account (omega (arith, room)) few is_printable 0 (omega arith) printable)
       (rw (d, c) a)
       (rw entered_order_id some)
-      (accepted_spare t k orderId cl_ord_id account marks o g.short few room)
+      (accepted_spare t k order_id cl_ord_id account marks o g.short few room)
 
   entered_record : (i : ℕ) → 1 ≤ i → i ≤ count → is_record after i ≡ true
   entered_record i l h =
@@ -167,7 +167,7 @@ module _ (t : List ℕ) (k orderId : ℕ) (cl_ord_id account : List ℕ) (marks 
 
   -- the ClOrdIDs afterwards
   pub entered_id : cl_ord_id_at after k ≡ cl_ord_id
-  entered_id = accepted_id t k orderId cl_ord_id account marks o g.short few room
+  entered_id = accepted_id t k order_id cl_ord_id account marks o g.short few room
 
   pub entered_keeps : (i : ℕ) → 1 ≤ i → i ≤ count → (i ≡ k → ⊥) → cl_ord_id_at after i ≡ cl_ord_id_at t i
   entered_keeps i l h n =
@@ -222,7 +222,7 @@ module _ (t : List ℕ) (k orderId : ℕ) (cl_ord_id account : List ℕ) (marks 
   entered_book z =
       let e = entered_filled in
       book_put t after k o low (takes_high (book_of t) k x) e
-      (accepted_order t k orderId cl_ord_id account marks o g.short few room z)
+      (accepted_order t k order_id cl_ord_id account marks o g.short few room z)
       (λ j l h n. others j l (rw e at h) n)
       (λ j l h n. order_same j (same_in (128 * j + 44) (128 * j + 92) (entered_other j n) (omega arith) (omega arith)))
 

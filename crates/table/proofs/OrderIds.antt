@@ -116,14 +116,14 @@ stepped_order_id t i =
 
 -- ---- a new order, as record k
 
-module _ (t : List ℕ) (k orderId : ℕ) (cl_ord_id account : List ℕ) (marks : Marks) (o : Order) (short : length cl_ord_id ≤ 32) (few : length account ≤ 10)
+module _ (t : List ℕ) (k order_id : ℕ) (cl_ord_id account : List ℕ) (marks : Marks) (o : Order) (short : length cl_ord_id ≤ 32) (few : length account ≤ 10)
     (room : record_at k + 128 ≤ length t) where
-  pub accepted_others : (i : ℕ) → (i ≡ k → ⊥) → order_id_at (accepted t k orderId cl_ord_id account marks o) i ≡ order_id_at t i
+  pub accepted_others : (i : ℕ) → (i ≡ k → ⊥) → order_id_at (accepted t k order_id cl_ord_id account marks o) i ≡ order_id_at t i
   unfolding accepted
   accepted_others i n =
-      let w = length_record t k orderId cl_ord_id account marks o short few room in
-      ⊎_elim (λ (l : i < k). le_at_below 4 t (128 * k) (record_of orderId cl_ord_id account marks o) (128 * i + 84) (omega arith))
-      (λ (l : k ≤ i). le_at_above 4 t (128 * k) (record_of orderId cl_ord_id account marks o) (128 * i + 84) (omega arith)) (below_or i k)
+      let w = length_record t k order_id cl_ord_id account marks o short few room in
+      ⊎_elim (λ (l : i < k). le_at_below 4 t (128 * k) (record_of order_id cl_ord_id account marks o) (128 * i + 84) (omega arith))
+      (λ (l : k ≤ i). le_at_above 4 t (128 * k) (record_of order_id cl_ord_id account marks o) (128 * i + 84) (omega arith)) (below_or i k)
 
 module _ (t : List ℕ) (k : ℕ) (cl_ord_id account : List ℕ) (marks : Marks) (o : Order) (stamp : List ℕ) (short : length cl_ord_id ≤ 32)
     (few : length account ≤ 10) (brief : length stamp ≤ 21) (room : record_at k + 128 ≤ length t) where

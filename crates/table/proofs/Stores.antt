@@ -40,9 +40,9 @@ pub length_terms : (o : Order) → length (term_bytes o) ≡ 12
 unfolding term_bytes bytes_of
 length_terms o = refl
 
-pub length_fields : (orderId : ℕ) (marks : Marks) (o : Order) → length (field_bytes orderId marks o) ≡ 84
+pub length_fields : (order_id : ℕ) (marks : Marks) (o : Order) → length (field_bytes order_id marks o) ≡ 84
 unfolding field_bytes amount_bytes tail_bytes end_bytes term_bytes bytes_of
-length_fields orderId marks o = refl
+length_fields order_id marks o = refl
 
 -- every number is of its width
 pub record Sized (o : Order) : Type 0 where
@@ -135,20 +135,20 @@ module _ (t : List ℕ) (i : ℕ) (xs : List ℕ) (short : length xs ≤ 32) (ro
 abbrev pub put_texts : List ℕ → ℕ → List ℕ → List ℕ → List ℕ
 put_texts t i cl_ord_id account = put_text 10 (put_id t i cl_ord_id) (128 * i + 33) account
 
-module _ (t : List ℕ) (i orderId : ℕ) (cl_ord_id account : List ℕ) (marks : Marks) (o : Order) (short : length cl_ord_id ≤ 32) (few : length account ≤ 10)
+module _ (t : List ℕ) (i order_id : ℕ) (cl_ord_id account : List ℕ) (marks : Marks) (o : Order) (short : length cl_ord_id ≤ 32) (few : length account ≤ 10)
     (room : record_at i + 128 ≤ length t) where
   -- it is written in three parts: the ClOrdID, the account, the rest
-  pub accepted_parts : put (put_texts t i cl_ord_id account) (128 * i + 44) (field_bytes orderId marks o) ≡ accepted t i orderId cl_ord_id account marks o
+  pub accepted_parts : put (put_texts t i cl_ord_id account) (128 * i + 44) (field_bytes order_id marks o) ≡ accepted t i order_id cl_ord_id account marks o
   unfolding accepted record_of
   accepted_parts =
       let a = length_text_bytes 32 cl_ord_id short in
       let b = length_text_bytes 10 account few in
       let p : 128 * i + 33 ≡ 128 * i + length (text_bytes 32 cl_ord_id) = omega arith in
       let q : 128 * i + 44 ≡ 128 * i + 33 + length (text_bytes 10 account) = omega arith in
-      ap (λ (k : ℕ). put (put_texts t i cl_ord_id account) k (field_bytes orderId marks o)) q
-      ∙ put_put (put_id t i cl_ord_id) (128 * i + 33) (text_bytes 10 account) (field_bytes orderId marks o)
-      ∙ ap (λ (k : ℕ). put (put_id t i cl_ord_id) k (text_bytes 10 account ++ field_bytes orderId marks o)) p
-      ∙ put_put t (128 * i) (text_bytes 32 cl_ord_id) (text_bytes 10 account ++ field_bytes orderId marks o)
+      ap (λ (k : ℕ). put (put_texts t i cl_ord_id account) k (field_bytes order_id marks o)) q
+      ∙ put_put (put_id t i cl_ord_id) (128 * i + 33) (text_bytes 10 account) (field_bytes order_id marks o)
+      ∙ ap (λ (k : ℕ). put (put_id t i cl_ord_id) k (text_bytes 10 account ++ field_bytes order_id marks o)) p
+      ∙ put_put t (128 * i) (text_bytes 32 cl_ord_id) (text_bytes 10 account ++ field_bytes order_id marks o)
 
   length_first : length (put_id t i cl_ord_id) ≡ length t
   length_first = length_put t (128 * i) (text_bytes 32 cl_ord_id)
@@ -157,29 +157,29 @@ module _ (t : List ℕ) (i orderId : ℕ) (cl_ord_id account : List ℕ) (marks 
   length_second = length_put (put_id t i cl_ord_id) (128 * i + 33) (text_bytes 10 account) ∙ length_first
 
   -- the bytes before the record and those behind it are as they were
-  pub accepted_before : Same (accepted t i orderId cl_ord_id account marks o) t 0 (128 * i)
+  pub accepted_before : Same (accepted t i order_id cl_ord_id account marks o) t 0 (128 * i)
   unfolding accepted
-  accepted_before = put_below t (128 * i) (record_of orderId cl_ord_id account marks o) 0 (128 * i) (omega arith)
+  accepted_before = put_below t (128 * i) (record_of order_id cl_ord_id account marks o) 0 (128 * i) (omega arith)
 
-  pub length_record : length (record_of orderId cl_ord_id account marks o) ≡ 128
+  pub length_record : length (record_of order_id cl_ord_id account marks o) ≡ 128
   unfolding record_of
   length_record =
       let a = length_text_bytes 32 cl_ord_id short in
       let b = length_text_bytes 10 account few in
-      let c = length_fields orderId marks o in
+      let c = length_fields order_id marks o in
       simp length-append (omega arith)
 
-  pub accepted_behind : (e : ℕ) → Same (accepted t i orderId cl_ord_id account marks o) t (128 * i + 128) e
+  pub accepted_behind : (e : ℕ) → Same (accepted t i order_id cl_ord_id account marks o) t (128 * i + 128) e
   unfolding accepted
-  accepted_behind e = put_above t (128 * i) (record_of orderId cl_ord_id account marks o) (128 * i + 128) e (omega (arith, length_record))
+  accepted_behind e = put_above t (128 * i) (record_of order_id cl_ord_id account marks o) (128 * i + 128) e (omega (arith, length_record))
 
   -- its texts stand as they do before the rest is put
-  pub accepted_texts : Same (accepted t i orderId cl_ord_id account marks o) (put_texts t i cl_ord_id account) (128 * i) (128 * i + 44)
+  pub accepted_texts : Same (accepted t i order_id cl_ord_id account marks o) (put_texts t i cl_ord_id account) (128 * i) (128 * i + 44)
   accepted_texts =
       rw (← accepted_parts)
-      (put_below (put_texts t i cl_ord_id account) (128 * i + 44) (field_bytes orderId marks o) (128 * i) (128 * i + 44) (omega arith))
+      (put_below (put_texts t i cl_ord_id account) (128 * i + 44) (field_bytes order_id marks o) (128 * i) (128 * i + 44) (omega arith))
 
-  pub accepted_id : cl_ord_id_at (accepted t i orderId cl_ord_id account marks o) i ≡ cl_ord_id
+  pub accepted_id : cl_ord_id_at (accepted t i order_id cl_ord_id account marks o) i ≡ cl_ord_id
   accepted_id =
       let s : Same (put_texts t i cl_ord_id account) (put_id t i cl_ord_id) (128 * i) (128 * i + 33) =
       put_below (put_id t i cl_ord_id) (128 * i + 33) (text_bytes 10 account) (128 * i) (128 * i + 33) (omega arith) in
@@ -187,7 +187,7 @@ module _ (t : List ℕ) (i orderId : ℕ) (cl_ord_id account : List ℕ) (marks 
       id_same i (same_then (same_in (128 * i) (128 * i + 33) accepted_texts (omega arith) (omega arith)) s) (omega arith)
       ∙ id_got t i cl_ord_id short room
 
-  pub accepted_account : account_at (accepted t i orderId cl_ord_id account marks o) i ≡ account
+  pub accepted_account : account_at (accepted t i order_id cl_ord_id account marks o) i ≡ account
   accepted_account =
       let z = length_first in
       let n : get_or (put_texts t i cl_ord_id account) (128 * i + 33) 0 ≡ length account = text_put_first 10 (put_id t i cl_ord_id) (128 * i + 33) account (omega arith) few in
@@ -195,26 +195,26 @@ module _ (t : List ℕ) (i orderId : ℕ) (cl_ord_id account : List ℕ) (marks 
       ∙ text_put 10 (put_id t i cl_ord_id) (128 * i + 33) account (omega arith) few
 
   -- the order and the marks are those that were put
-  field_byte : (k : ℕ) → k < 84 → get_or (put (put_texts t i cl_ord_id account) (128 * i + 44) (field_bytes orderId marks o)) (128 * i + 44 + k) 0 ≡ get_or (field_bytes orderId marks o) k 0
+  field_byte : (k : ℕ) → k < 84 → get_or (put (put_texts t i cl_ord_id account) (128 * i + 44) (field_bytes order_id marks o)) (128 * i + 44 + k) 0 ≡ get_or (field_bytes order_id marks o) k 0
   field_byte k h =
       let z = length_second in
-      let c = length_fields orderId marks o in
-      get_d_put_in (put_texts t i cl_ord_id account) (128 * i + 44) (field_bytes orderId marks o) k (omega arith) (omega arith)
+      let c = length_fields order_id marks o in
+      get_d_put_in (put_texts t i cl_ord_id account) (128 * i + 44) (field_bytes order_id marks o) k (omega arith) (omega arith)
 
-  field_at : (k q v : ℕ) → get_or (field_bytes orderId marks o) k 0 ≡ v → q ≡ 44 + k → k < 84 → get_or (accepted t i orderId cl_ord_id account marks o) (128 * i + q) 0 ≡ v
+  field_at : (k q v : ℕ) → get_or (field_bytes order_id marks o) k 0 ≡ v → q ≡ 44 + k → k < 84 → get_or (accepted t i order_id cl_ord_id account marks o) (128 * i + q) 0 ≡ v
   field_at k q v e h l =
       let z : 128 * i + q ≡ 128 * i + 44 + k = omega arith in
       rw (← accepted_parts, z) (field_byte k l ∙ e)
 
-  field_number : (n k q v : ℕ) → le_at n (field_bytes orderId marks o) k ≡ le_at n (bytes_of n v) 0 → q ≡ 44 + k → k + n ≤ 84 → v < 256 ^ n
-      → le_at n (accepted t i orderId cl_ord_id account marks o) (128 * i + q) ≡ v
+  field_number : (n k q v : ℕ) → le_at n (field_bytes order_id marks o) k ≡ le_at n (bytes_of n v) 0 → q ≡ 44 + k → k + n ≤ 84 → v < 256 ^ n
+      → le_at n (accepted t i order_id cl_ord_id account marks o) (128 * i + q) ≡ v
   field_number n k q v e h l small =
       let z = length_second in
-      let c = length_fields orderId marks o in
+      let c = length_fields order_id marks o in
       rw (← accepted_parts)
-      (number_in n (put_texts t i cl_ord_id account) (128 * i) 44 (field_bytes orderId marks o) k q v e h (omega arith) (omega arith) small)
+      (number_in n (put_texts t i cl_ord_id account) (128 * i) 44 (field_bytes order_id marks o) k q v e h (omega arith) (omega arith) small)
 
-  pub accepted_marks : InBytes marks → marks_at (accepted t i orderId cl_ord_id account marks o) i ≡ marks
+  pub accepted_marks : InBytes marks → marks_at (accepted t i order_id cl_ord_id account marks o) i ≡ marks
   unfolding marks_at field_bytes term_bytes amount_bytes tail_bytes end_bytes bytes_of le_at
   accepted_marks f =
       λ j. record {
@@ -224,22 +224,22 @@ module _ (t : List ℕ) (i orderId : ℕ) (cl_ord_id account : List ℕ) (marks 
         margin = (field_at 49 93 (marks.margin % 256) refl refl (lit< tt) ∙ byte_is _ f.margin) j;
       }
 
-  pub accepted_order_id : orderId < 256 ^ 4 → order_id_at (accepted t i orderId cl_ord_id account marks o) i ≡ orderId
+  pub accepted_order_id : order_id < 256 ^ 4 → order_id_at (accepted t i order_id cl_ord_id account marks o) i ≡ order_id
   unfolding field_bytes term_bytes amount_bytes tail_bytes end_bytes bytes_of le_at
-  accepted_order_id small = field_number 4 40 84 orderId refl refl (lit≤ tt) small
+  accepted_order_id small = field_number 4 40 84 order_id refl refl (lit≤ tt) small
 
   -- the unused bytes are zero
-  pub accepted_spare : all_zero (part_at (accepted t i orderId cl_ord_id account marks o) (128 * i + 94) 34) ≡ true
+  pub accepted_spare : all_zero (part_at (accepted t i order_id cl_ord_id account marks o) (128 * i + 94) 34) ≡ true
   unfolding field_bytes term_bytes amount_bytes tail_bytes end_bytes bytes_of part_at all_zero
   accepted_spare =
       let z = length_second in
-      let c = length_fields orderId marks o in
+      let c = length_fields order_id marks o in
       let q : 128 * i + 94 ≡ 128 * i + 44 + 50 = omega arith in
-      let e : part_at (put (put_texts t i cl_ord_id account) (128 * i + 44) (field_bytes orderId marks o)) (128 * i + 44 + 50) 34 ≡ part_at (field_bytes orderId marks o) 50 34 =
-      part_in_lem (put_texts t i cl_ord_id account) (128 * i + 44) (field_bytes orderId marks o) 50 34 (omega arith) (omega arith) in
+      let e : part_at (put (put_texts t i cl_ord_id account) (128 * i + 44) (field_bytes order_id marks o)) (128 * i + 44 + 50) 34 ≡ part_at (field_bytes order_id marks o) 50 34 =
+      part_in_lem (put_texts t i cl_ord_id account) (128 * i + 44) (field_bytes order_id marks o) 50 34 (omega arith) (omega arith) in
       rw (← accepted_parts, q, e)
 
-  pub accepted_order : Sized o → order_at (accepted t i orderId cl_ord_id account marks o) i ≡ o
+  pub accepted_order : Sized o → order_at (accepted t i order_id cl_ord_id account marks o) i ≡ o
   unfolding order_at field_bytes term_bytes amount_bytes tail_bytes end_bytes bytes_of le_at
   accepted_order f =
       λ j. record {

@@ -55,24 +55,24 @@ module _ (t : List ℕ) (p : ℕ) (o : Order) where
       four t t1 t2 t3 t4 p (p + 8) (p + 12) (p + 16) (bytes_of 8 o.sum) (bytes_of 4 o.executed) (bytes_of 4 o.decremented) (bytes_of 4 o.canceled)
       a b c d (omega arith) (omega arith) (omega arith)
 
-  pub tail_written : (orderId : ℕ) (marks : Marks) (t1 t2 t3 t4 : List ℕ) → t1 ≡ put t p (amount_bytes o) → t2 ≡ put t1 (p + 20) (bytes_of 4 orderId)
-      → t3 ≡ put t2 (p + 24) (bytes_of 4 o.minqty) → t4 ≡ put t3 (p + 28) (end_bytes marks) → t4 ≡ put t p (tail_bytes orderId marks o)
+  pub tail_written : (order_id : ℕ) (marks : Marks) (t1 t2 t3 t4 : List ℕ) → t1 ≡ put t p (amount_bytes o) → t2 ≡ put t1 (p + 20) (bytes_of 4 order_id)
+      → t3 ≡ put t2 (p + 24) (bytes_of 4 o.minqty) → t4 ≡ put t3 (p + 28) (end_bytes marks) → t4 ≡ put t p (tail_bytes order_id marks o)
   unfolding tail_bytes
-  tail_written orderId marks t1 t2 t3 t4 a b c d =
+  tail_written order_id marks t1 t2 t3 t4 a b c d =
       let x = length_amounts o in
-      let y = length_bytes_of 4 orderId in
+      let y = length_bytes_of 4 order_id in
       let z = length_bytes_of 4 o.minqty in
-      four t t1 t2 t3 t4 p (p + 20) (p + 24) (p + 28) (amount_bytes o) (bytes_of 4 orderId) (bytes_of 4 o.minqty) (end_bytes marks)
+      four t t1 t2 t3 t4 p (p + 20) (p + 24) (p + 28) (amount_bytes o) (bytes_of 4 order_id) (bytes_of 4 o.minqty) (end_bytes marks)
       a b c d (omega arith) (omega arith) (omega arith)
 
-  pub fields_written : (orderId : ℕ) (marks : Marks) (t1 t2 t3 t4 : List ℕ) → t1 ≡ put t p (o.side ∷ o.tif ∷ marks.capacity ∷ marks.class ∷ [])
-      → t2 ≡ put t1 (p + 4) (term_bytes o) → t3 ≡ put t2 (p + 16) (bytes_of 4 o.mpid) → t4 ≡ put t3 (p + 20) (tail_bytes orderId marks o)
-      → t4 ≡ put t p (field_bytes orderId marks o)
+  pub fields_written : (order_id : ℕ) (marks : Marks) (t1 t2 t3 t4 : List ℕ) → t1 ≡ put t p (o.side ∷ o.tif ∷ marks.capacity ∷ marks.class ∷ [])
+      → t2 ≡ put t1 (p + 4) (term_bytes o) → t3 ≡ put t2 (p + 16) (bytes_of 4 o.mpid) → t4 ≡ put t3 (p + 20) (tail_bytes order_id marks o)
+      → t4 ≡ put t p (field_bytes order_id marks o)
   unfolding field_bytes
-  fields_written orderId marks t1 t2 t3 t4 a b c d =
+  fields_written order_id marks t1 t2 t3 t4 a b c d =
       let y = length_terms o in
       let z = length_bytes_of 4 o.mpid in
-      four t t1 t2 t3 t4 p (p + 4) (p + 16) (p + 20) (o.side ∷ o.tif ∷ marks.capacity ∷ marks.class ∷ []) (term_bytes o) (bytes_of 4 o.mpid) (tail_bytes orderId marks o)
+      four t t1 t2 t3 t4 p (p + 4) (p + 16) (p + 20) (o.side ∷ o.tif ∷ marks.capacity ∷ marks.class ∷ []) (term_bytes o) (bytes_of 4 o.mpid) (tail_bytes order_id marks o)
       a b c d refl (omega arith) (omega arith)
 
 pub four_written : (t : List ℕ) (p a b c d : ℕ) → set (set (set (set t p a) (p + 1) b) (p + 2) c) (p + 3) d ≡ put t p (a ∷ b ∷ c ∷ d ∷ [])
@@ -132,11 +132,11 @@ module _ (t : List ℕ) (p : ℕ) (buy sell : BestLevel) where
       let y = length_levels_bytes buy sell in
       three t t1 t2 t3 p (p + 3) (p + 15) (orders_bytes buy sell) (levels_bytes buy sell) (totals_bytes buy sell) a b c (omega arith) (omega arith)
 
-pub record_written : (t t1 t2 t3 : List ℕ) (i orderId : ℕ) (cl_ord_id account : List ℕ) (marks : Marks) (o : Order) → length t ≡ 32768 → i < 256
+pub record_written : (t t1 t2 t3 : List ℕ) (i order_id : ℕ) (cl_ord_id account : List ℕ) (marks : Marks) (o : Order) → length t ≡ 32768 → i < 256
     → length cl_ord_id ≤ 32 → length account ≤ 10 → t1 ≡ put_text 32 t (128 * i) cl_ord_id → t2 ≡ put_text 10 t1 (128 * i + 33) account
-    → t3 ≡ put t2 (128 * i + 44) (field_bytes orderId marks o) → t3 ≡ accepted t i orderId cl_ord_id account marks o
-record_written t t1 t2 t3 i orderId cl_ord_id account marks o long l short few a b c =
-    rw (c, b, a) (accepted_parts t i orderId cl_ord_id account marks o short few (omega arith))
+    → t3 ≡ put t2 (128 * i + 44) (field_bytes order_id marks o) → t3 ≡ accepted t i order_id cl_ord_id account marks o
+record_written t t1 t2 t3 i order_id cl_ord_id account marks o long l short few a b c =
+    rw (c, b, a) (accepted_parts t i order_id cl_ord_id account marks o short few (omega arith))
 
 pub work_length : (t u : List ℕ) (w : ℕ) (stamp : List ℕ) → u ≡ put_text 21 (set t 32 w) 33 stamp → length u ≡ length t
 work_length t u w stamp e = ap length e ∙ length_put (set t 32 w) 33 (text_bytes 21 stamp) ∙ length-set t 32 w

@@ -113,17 +113,17 @@ end_bytes marks = bytes_of 1 marks.cash ++ (bytes_of 1 marks.margin ++ replicate
 
 -- what stands behind the MPID, up to the end of the record: the amounts, the OrderID, MinQty, the end
 unfoldable pub tail_bytes : ℕ → Marks → Order → List ℕ
-tail_bytes orderId marks o = amount_bytes o ++ (bytes_of 4 orderId ++ (bytes_of 4 o.minqty ++ end_bytes marks))
+tail_bytes order_id marks o = amount_bytes o ++ (bytes_of 4 order_id ++ (bytes_of 4 o.minqty ++ end_bytes marks))
 
 -- a record's bytes behind its texts: side, time in force, capacity, classification; the terms; the MPID; the rest
 unfoldable pub field_bytes : ℕ → Marks → Order → List ℕ
-field_bytes orderId marks o =
-    (o.side ∷ o.tif ∷ marks.capacity ∷ marks.class ∷ []) ++ (term_bytes o ++ (bytes_of 4 o.mpid ++ tail_bytes orderId marks o))
+field_bytes order_id marks o =
+    (o.side ∷ o.tif ∷ marks.capacity ∷ marks.class ∷ []) ++ (term_bytes o ++ (bytes_of 4 o.mpid ++ tail_bytes order_id marks o))
 
 -- all bytes of a record
 unfoldable pub record_of : ℕ → List ℕ → List ℕ → Marks → Order → List ℕ
-record_of orderId cl_ord_id account marks o =
-    text_bytes cl_ord_id_room cl_ord_id ++ (text_bytes account_room account ++ field_bytes orderId marks o)
+record_of order_id cl_ord_id account marks o =
+    text_bytes cl_ord_id_room cl_ord_id ++ (text_bytes account_room account ++ field_bytes order_id marks o)
 
 -- ---- the table after an event
 
@@ -141,4 +141,4 @@ replaced t cl_ord_id e = put_terms (put_id t (who e) cl_ord_id) (who e) (change 
 
 -- after a new order, o, is accepted as record i with this OrderID: nothing is left of what the record held
 unfoldable pub accepted : List ℕ → ℕ → ℕ → List ℕ → List ℕ → Marks → Order → List ℕ
-accepted t i orderId cl_ord_id account marks o = put t (record_at i) (record_of orderId cl_ord_id account marks o)
+accepted t i order_id cl_ord_id account marks o = put t (record_at i) (record_of order_id cl_ord_id account marks o)
