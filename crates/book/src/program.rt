@@ -1,6 +1,6 @@
 // The program `book`: reads standard input to its end, and prints the sheet of the market that its lines leave. The market trades bonds;
 // with the argument --equities it trades equities.
-ghost use Rattle.std.specs.Prelude.{◌≡◌, ℕ, ◌≤◌, length, IfOk, OnErr};
+ghost use Rattle.std.specs.Prelude.{◌≡◌, ◌≤◌, length};
 ghost use Rattle.book.specs.Book.{area_bytes, traded, rehearsal};
 ghost use Rattle.book.specs.Reading.{line_bytes, Held, Came, Printed};
 
@@ -40,7 +40,17 @@ fn open_rehearsal(q: Instrument, t: &mut [u8])
     }
 }
 
-// Reads a part of the input and takes its bytes. A read that fails takes nothing.
+// Reads a part of the input, and gives how many bytes that are: none at its end, which a read that fails is taken for.
+fn read_part(input: &mut impl Read, part: &mut [u8]) -> usize
+    ensures { result ≤ length part.new }
+{
+    match input.read(part) {
+        Ok(n) => n,
+        Err(_) => 0,
+    }
+}
+
+// Reads a part of the input and takes its bytes.
 fn read_some(
     input: &mut impl Read,
     q: Instrument,
@@ -48,61 +58,56 @@ fn read_some(
     line: &mut [u8],
     held: usize,
     area: &mut [u8],
-) -> Result<Chunk>
+) -> Chunk
     requires { Held line.old held × (length area.old ≡ area_bytes) }
-    ensures came { IfOk result (λ c. Came q t.old line.old held t.new line.new c.held) }
-    ensures lent { length area.new ≡ area_bytes }
-    ensures failed { OnErr result ((t.new ≡ t.old) × (line.new ≡ line.old)) }
+    ensures { Came q t.old line.old held t.new line.new result.held × (length area.new ≡ area_bytes) }
 {
     let mut b = [0u8; 65536];
-    let n = input.read(&mut b)?;
+    let n = read_part(input, &mut b);
     if n == 0 {
-        return Ok(Chunk { held, more: false });
+        return Chunk { held, more: false };
     }
     let h = take_bytes(q, t, line, held, area, &b[..n]);
-    Ok(Chunk {
+    Chunk {
         held: h,
         more: true,
-    })
+    }
 }
 
-// Reads the input to its end and takes its bytes, in more turns than any run uses up. Where a read fails, what came before it is taken.
+// Reads the input to its end and takes its bytes, in more turns than any run uses up.
 fn read_all(
     input: &mut impl Read,
     q: Instrument,
     t: &mut [u8],
     line: &mut [u8],
     area: &mut [u8],
-) -> Result<usize>
+) -> usize
     requires { (length line.old ≡ line_bytes) × (length area.old ≡ area_bytes) }
-    ensures came { IfOk result (λ held. Came q t.old line.old 0 t.new line.new held) }
-    ensures lent { length area.new ≡ area_bytes }
-    ensures failed { OnErr result ((held : ℕ) × Came q t.old line.old 0 t.new line.new held) }
+    ensures { Came q t.old line.old 0 t.new line.new result × (length area.new ≡ area_bytes) }
 {
     let mut held = 0;
     for _ in 0..u64::MAX {
-        let c = read_some(input, q, t, line, held, area)?;
+        let c = read_some(input, q, t, line, held, area);
         held = c.held;
         if !c.more {
-            break;
+            return held;
         }
     }
-    Ok(held)
+    held
 }
 
-// Reads the input and writes the sheet at the start of out. Its length is given back. Where a read fails, out stays.
-fn book(input: &mut impl Read, q: Instrument, out: &mut [u8]) -> Result<usize>
+// Reads the input and writes the sheet at the start of out. Its length is given back.
+fn book(input: &mut impl Read, q: Instrument, out: &mut [u8]) -> usize
     requires { 16384 ≤ length out.old }
-    ensures printed { IfOk result (λ n. Printed q out.old n out.new) }
-    ensures failed { OnErr result (out.new ≡ out.old) }
+    ensures { Printed q out.old result out.new }
 {
     let mut t = [0u8; 32768];
     let mut line = [0u8; 1025];
     let mut area = [0u8; 262144];
     open_rehearsal(q, &mut t);
-    let held = read_all(input, q, &mut t, &mut line, &mut area)?;
+    let held = read_all(input, q, &mut t, &mut line, &mut area);
     take_end(q, &mut t, &mut line, held, &mut area);
-    Ok(write_sheet(q, &t, out))
+    write_sheet(q, &t, out)
 }
 
 // What the market trades, by the first argument.
@@ -125,6 +130,6 @@ fn traded_at(word: &[u8]) -> Instrument {
 // All that the program does.
 pub fn print_book(rt: &(impl Env + Print), input: &mut impl Read) -> Result<()> {
     let mut out = [0u8; 16384];
-    let n = book(input, asked(rt), &mut out)?;
+    let n = book(input, asked(rt), &mut out);
     rt.write_all(&out[..n])
 }

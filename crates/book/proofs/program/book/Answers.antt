@@ -2,5 +2,5 @@
 use Rattle.book.proofs.Programs.{printed}
 use Rattle.book.proofs.program.book.Goals as goal
 
-pub returns-clause-printed : goal.returns-clause-printed
-returns-clause-printed g c = printed c.open_rehearsal.ensures c.in_ok-held.ensures.came c.take_end.ensures c.requires c.write_sheet.ensures
+pub returns : goal.returns
+returns g c = printed c.open_rehearsal.ensures c.read_all-held.ensures.0 c.take_end.ensures c.requires c.write_sheet.ensures
