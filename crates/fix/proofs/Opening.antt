@@ -1,13 +1,11 @@
 -- The clauses by which a message is garbled, and 8 and 9 by the row.
-use Rattle.std.proofs.Common.{◌≡◌, ℕ, ◌+◌, ◌*◌, Bool, true, false, not, List, get_or, sym, refl, ap, ◌∙◌}
+use Rattle.std.proofs.Common.{Option, Some, None, ◌≡◌, ℕ, ◌+◌, ◌*◌, Bool, true, false, not, List, get_or, sym, refl, ap, ◌∙◌}
 use mathlib.Core.Bool.{and-false}
 use borrow.Author.Tests.{not-true, not-false}
 use Rattle.octets.specs.Octets.{part_at, same_bytes}
 use Rattle.decimal.specs.declared.Said.{Said}
 use Rattle.decimal.specs.declared.Said.TheVariants.{Value, Wrong}
 use Rattle.decimal.specs.Reading.{num_of}
-use Rattle.fix.specs.declared.fields.Found.{Found}
-use Rattle.fix.specs.declared.fields.Found.TheVariants.{At, Nothing}
 use Rattle.fix.specs.declared.frame.Part.{Part}
 use Rattle.fix.specs.Fields.{fields_of, found_in, find_tag, value_of}
 use Rattle.fix.specs.Garbled.{headed_by, header, ordered, fix42, header_right, as_part, part_of, end_of, length_true, sum_true, garbled_message}
@@ -36,10 +34,10 @@ module _ (s : List ℕ) where
   garbled_sum h = simp (h, and-false)
 
 -- ---- the value of a tag is the part where it stands
-found_part : (s : List ℕ) (f : Found) → part_at s (as_part f).start (as_part f).len ≡ found_in s f
+found_part : (s : List ℕ) (f : Option Part) → part_at s (as_part f).start (as_part f).len ≡ found_in s f
 unfolding part_at
-found_part s (At start len) = refl
-found_part s Nothing = refl
+found_part s (Some p) = refl
+found_part s None = refl
 
 pub value_part : (s : List ℕ) (t : ℕ) → part_at s (part_of s t).start (part_of s t).len ≡ value_of s t
 unfolding part_of value_of

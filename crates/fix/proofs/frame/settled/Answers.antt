@@ -3,8 +3,8 @@ use Rattle.fix.proofs.Verdict.{settle_header, settle_length, settle_sum, settle_
 use Rattle.std.proofs.Common.{rules}
 use Rattle.fix.proofs.frame.settled.Goals as goal
 
-pub returns-then-minus-count : goal.returns-then-minus-count
-returns-then-minus-count c = search (rules, settle_length)
+pub returns-then-saturating_sub-count : goal.returns-then-saturating_sub-count
+returns-then-saturating_sub-count c = search (rules, settle_length)
 
 pub returns-then-not-sums : goal.returns-then-not-sums
 returns-then-not-sums c = search (rules, settle_sum)
