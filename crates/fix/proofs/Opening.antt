@@ -3,8 +3,6 @@ use Rattle.std.proofs.Common.{Option, Some, None, ◌≡◌, ℕ, ◌+◌, ◌*�
 use mathlib.Core.Bool.{and-false}
 use borrow.Author.Tests.{not-true, not-false}
 use Rattle.octets.specs.Octets.{part_at, same_bytes}
-use Rattle.decimal.specs.declared.Said.{Said}
-use Rattle.decimal.specs.declared.Said.TheVariants.{Value, Wrong}
 use Rattle.decimal.specs.Reading.{num_of}
 use Rattle.fix.specs.declared.frame.Part.{Part}
 use Rattle.fix.specs.Fields.{fields_of, found_in, find_tag, value_of}
@@ -68,15 +66,15 @@ module _ (s row : List ℕ) (o : Headed s row) where
         let z : same_bytes (value_of s 8) fix42 ≡ false = rw (← value_8) (sym eb ∙ not-true b h) in
         garbled_header s (simp z)
 
-    module _ (n : Part) (en : n ≡ part_row row 1) (w : List ℕ) (ew : w ≡ part_at s n.start n.len) (x : Said) (ex : x ≡ num_of 4 w) where
+    module _ (n : Part) (en : n ≡ part_row row 1) (w : List ℕ) (ew : w ≡ part_at s n.start n.len) (x : Option ℕ) (ex : x ≡ num_of 4 w) where
       said_9 : x ≡ num_of 4 (value_of s 9)
       said_9 = ex ∙ ap (num_of 4) (ew ∙ rw (en, ← part_9) (value_part s 9))
 
-      pub opens_wrong : x ≡ Wrong → garbled_message s ≡ true
+      pub opens_wrong : x ≡ None → garbled_message s ≡ true
       unfolding length_true
       opens_wrong h = garbled_length s (rw (← said_9, h))
 
-      pub opens_is : (count : ℕ) → not b ≡ false → x ≡ Value count → Counted s count (n.start + n.len + 1)
+      pub opens_is : (count : ℕ) → not b ≡ false → x ≡ Some count → Counted s count (n.start + n.len + 1)
       unfolding end_of
       opens_is count h g =
           record {

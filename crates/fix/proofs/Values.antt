@@ -5,8 +5,6 @@ use borrow.Author.Tests.{not-false}
 use Rattle.octets.specs.Octets.{part_at, same_bytes}
 use Rattle.octets.proofs.Bools.{split, both_l, both_r}
 use Rattle.octets.proofs.Parts.{length_part, get_d_part}
-use Rattle.decimal.specs.declared.Said.{Said}
-use Rattle.decimal.specs.declared.Said.TheVariants.{Value, Wrong}
 use Rattle.decimal.specs.Reading.{num_of, is_time}
 use Rattle.decimal.proofs.Scans.{run_below}
 use Rattle.decimal.proofs.Numbers.{num_below}
@@ -138,9 +136,9 @@ pub record HeadSpelt (s : List ℕ) (h : Head) : Type 0 where
   pub number_low : 0 < h.number
   pub number_high : h.number < 1000000000
 
-said_below : (x : Said) (m : ℕ) → 0 < m → ((n : ℕ) → x ≡ Value n → n < m) → said_of x < m
-said_below (Value n) m z h = h n refl
-said_below Wrong m z h = z
+said_below : (x : Option ℕ) (m : ℕ) → 0 < m → ((n : ℕ) → x ≡ Some n → n < m) → said_of x < m
+said_below (Some n) m z h = h n refl
+said_below None m z h = z
 
 pub clear_head : (s : List ℕ) → garbled_message s ≡ false → HeadSpelt s (head_of s)
 unfolding header_right head_of

@@ -1,12 +1,11 @@
 -- What is known once the header is read, and the verdict: each test that fails makes the message garbled, and all together
 -- say that it is not.
-use Rattle.std.proofs.Common.{Option, Some, None, is_none, ◌≡◌, ℕ, ◌-◌, ◌<◌, Bool, true, false, cond, not, eqb, leb, List, length, sym, refl, ap, ◌∙◌, subst, suc-ne-zero, arith, eq-eqb, ne_eqb, le-leb}
+use Rattle.std.proofs.Common.{Option, Some, None, is_none, ◌≡◌, ℕ, ◌-◌, ◌<◌, Bool, true, false, cond, not, ◌&&◌, eqb, leb, List, length, sym, refl, ap, ◌∙◌, subst, suc-ne-zero, arith, eq-eqb, ne_eqb, le-leb}
 use mathlib.Core.Bool.{and-false}
+use Rattle.std.specs.Option.{option_eq}
 use borrow.Author.Tests.{not-true, not-false, lt-leb}
 use Rattle.octets.specs.Octets.{part_at}
 use Rattle.octets.proofs.Bools.{split}
-use Rattle.decimal.specs.declared.Said.{Said}
-use Rattle.decimal.specs.declared.Said.TheVariants.{Value, Wrong}
 use Rattle.decimal.specs.Reading.{num_of}
 use Rattle.fix.specs.declared.frame.Part.{Part}
 use Rattle.fix.specs.declared.frame.Places.{Places}
@@ -18,12 +17,15 @@ use Rattle.fix.specs.Steps.{OpeningSays, part_in, right_of, sums_of, Laid}
 use Rattle.fix.proofs.Loops.{found_inside}
 use Rattle.fix.proofs.Opening.{garbled_order, garbled_header, garbled_length, garbled_sum, value_part}
 
--- a number that is said
-pub says_value : (m n : ℕ) (x : Said) → x ≡ Value n → eqb n m ≡ says_it m x
-says_value m n x e = rw e
+-- ---- 10 against the sum
+says_same : (m : ℕ) (x : Option ℕ) → option_eq eqb x (Some m) ≡ says_it m x
+says_same m (Some n) = refl
+says_same m None = refl
 
-pub says_wrong : (m : ℕ) (x : Said) → x ≡ Wrong → false ≡ says_it m x
-says_wrong m x e = rw e
+pub sums_says : (s : List ℕ) (sum m : ℕ) (p : Part) (v : List ℕ) (x : Option ℕ) (b : Bool) → v ≡ part_in s p → x ≡ num_of 3 v → m ≡ sum → b ≡ option_eq eqb x (Some m)
+    → (eqb (length v) 3 && b) ≡ sums_of s sum p
+unfolding sums_of
+sums_says s sum m p v x b ev ex em eb = rw (eb, says_same m x, em, ex, ev)
 
 -- ---- how the fields end
 module _ (s : List ℕ) where
@@ -91,38 +93,45 @@ module _ (s : List ℕ) (count a : ℕ) (h : Places) (b : ℕ) (p : Part) (t sum
     pub settle_sum : not z ≡ true → None ≡ frame_of s
     settle_sum g = garbled_frame s (garbled_sum s (sum_is ∙ sym ez ∙ not-true z g))
 
-    module _ (v : List ℕ) (x : Said) (n : ℕ) (ev : v ≡ part_at s h.number.start h.number.len) (ex : x ≡ num_of 9 v) (en : n ≡ said_of x)
-        (y : Bool) (ey : y ≡ right_of s h n) where
-      number_is : said_of (num_of 9 (value_of s 34)) ≡ n
-      number_is = rw (value_at_lem 34 h.number l.placed.number) (rw (← ev, ← ex) (sym en))
+    module _ (v : List ℕ) (x : Option ℕ) (ev : v ≡ part_at s h.number.start h.number.len) (ex : x ≡ num_of 9 v) where
+      said_is : said_of (num_of 9 (value_of s 34)) ≡ said_of x
+      said_is = rw (value_at_lem 34 h.number l.placed.number) (rw (← ev, ← ex))
 
-      header_is_right : header_right s ≡ right_of s h n
-      unfolding header_right right_of
-      header_is_right =
-          rw (l.counted.begins, number_is, value_at_lem 35 h.kind l.placed.kind, value_at_lem 49 h.sender l.placed.sender, value_at_lem 52 h.time l.placed.time, value_at_lem 56 h.target l.placed.target)
+      pub settle_unsaid : x ≡ None → None ≡ frame_of s
+      unfolding header_right
+      settle_unsaid g = garbled_frame s (garbled_header s (rw (said_is, g) (simp and-false)))
 
-      pub settle_header : not y ≡ true → None ≡ frame_of s
-      settle_header g = garbled_frame s (garbled_header s (header_is_right ∙ sym ey ∙ not-true y g))
+      module _ (n : ℕ) (en : x ≡ Some n) (y : Bool) (ey : y ≡ right_of s h n) where
+        number_is : said_of (num_of 9 (value_of s 34)) ≡ n
+        number_is = said_is ∙ rw en
 
-      module _ (m : ℕ) (em : m ≡ t - a) where
-        good : not y ≡ false → m ≡ count → not z ≡ false → garbled_message s ≡ false
-        unfolding garbled_message
-        good gy gm gz =
-            let q : leb 1 (length s) ≡ true = le-leb 1 (length s) (omega (arith, found_inside s 10 p.start p.len (omega arith) l.ended.ten)) in
-            rw (q, le-leb (length s) 1024 l.short, order, header_is_right ∙ sym ey ∙ not-false y gy, length_is m em ∙ eq-eqb count m (sym gm), sum_is ∙ sym ez ∙ not-false z gz)
+        header_is_right : header_right s ≡ right_of s h n
+        unfolding header_right right_of
+        header_is_right =
+            rw (l.counted.begins, number_is, value_at_lem 35 h.kind l.placed.kind, value_at_lem 49 h.sender l.placed.sender, value_at_lem 52 h.time l.placed.time, value_at_lem 56 h.target l.placed.target)
 
-        head : (k : ℕ) → k ≡ t - b
-            → record { kind = h.kind; number = n; sender = h.sender; time = h.time; target = h.target; body = record { start = b; len = k } } ≡ head_of s
-        unfolding head_of body_part
-        head k ek =
-            let w : end_of (part_of s 56) ≡ b = rw l.placed.target l.placed.ends in
-            let j : ten_at s - end_of (part_of s 56) ≡ k = rw (ten_place, w) (sym ek) in
-            rw (j, w, l.placed.kind, number_is, l.placed.sender, l.placed.time, l.placed.target)
+        pub settle_header : not y ≡ true → None ≡ frame_of s
+        settle_header g = garbled_frame s (garbled_header s (header_is_right ∙ sym ey ∙ not-true y g))
 
-        pub settle_good : (k : ℕ) → not y ≡ false → m ≡ count → not z ≡ false → k ≡ t - b
-            → Some (record { kind = h.kind; number = n; sender = h.sender; time = h.time; target = h.target; body = record { start = b; len = k } }) ≡ frame_of s
-        unfolding frame_of
-        settle_good k gy gm gz ek = rw (good gy gm gz) (ap Some (head k ek))
+        module _ (m : ℕ) (em : m ≡ t - a) where
+          good : not y ≡ false → m ≡ count → not z ≡ false → garbled_message s ≡ false
+          unfolding garbled_message
+          good gy gm gz =
+              let q : leb 1 (length s) ≡ true = le-leb 1 (length s) (omega (arith, found_inside s 10 p.start p.len (omega arith) l.ended.ten)) in
+              rw (q, le-leb (length s) 1024 l.short, order, header_is_right ∙ sym ey ∙ not-false y gy, length_is m em ∙ eq-eqb count m (sym gm), sum_is ∙ sym ez ∙ not-false z gz)
+
+          head : (k : ℕ) → k ≡ t - b
+              → record { kind = h.kind; number = n; sender = h.sender; time = h.time; target = h.target; body = record { start = b; len = k } } ≡ head_of s
+          unfolding head_of body_part
+          head k ek =
+              let w : end_of (part_of s 56) ≡ b = rw l.placed.target l.placed.ends in
+              let j : ten_at s - end_of (part_of s 56) ≡ k = rw (ten_place, w) (sym ek) in
+              rw (j, w, l.placed.kind, number_is, l.placed.sender, l.placed.time, l.placed.target)
+
+          pub settle_good : (k : ℕ) → not y ≡ false → m ≡ count → not z ≡ false → k ≡ t - b
+              → Some (record { kind = h.kind; number = n; sender = h.sender; time = h.time; target = h.target; body = record { start = b; len = k } }) ≡ frame_of s
+          unfolding frame_of
+          settle_good k gy gm gz ek = rw (good gy gm gz) (ap Some (head k ek))
 
 -- ---- the answer as a Bool
 module _ (s : List ℕ) (r : Option Head) (e : r ≡ frame_of s) where

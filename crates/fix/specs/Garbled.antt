@@ -3,8 +3,6 @@
 use Rattle.std.specs.Prelude.{Option, Some, None, ℕ, ◌+◌, ◌-◌, ◌%◌, Bool, true, false, cond, not, ◌&&◌, List, [], ◌∷◌, length, take, ◌==◌, nat_le, nat_lt}
 use Rattle.octets.specs.Characters.{bytes}
 use Rattle.octets.specs.Octets.{same_bytes}
-use Rattle.decimal.specs.declared.Said.{Said}
-use Rattle.decimal.specs.declared.Said.TheVariants.{Value, Wrong}
 use Rattle.decimal.specs.Reading.{num_of, is_time}
 use Rattle.fix.specs.declared.frame.Part.{Part}
 use Rattle.fix.specs.declared.frame.Head.{Head}
@@ -29,14 +27,14 @@ ordered fs = clean_fields fs && headed_by header fs && last_tag_or 0 fs == 10
 -- ---- what values say
 
 -- the number that is said, and 0 where none is
-abbrev pub said_of : Said → ℕ
-said_of (Value n) = n
-said_of Wrong = 0
+abbrev pub said_of : Option ℕ → ℕ
+said_of (Some n) = n
+said_of None = 0
 
 -- the number m is said
-abbrev pub says_it : ℕ → Said → Bool
-says_it m (Value n) = n == m
-says_it m Wrong = false
+abbrev pub says_it : ℕ → Option ℕ → Bool
+says_it m (Some n) = n == m
+says_it m None = false
 
 -- what 8 says
 abbrev pub fix42 : List ℕ

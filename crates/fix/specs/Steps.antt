@@ -1,7 +1,6 @@
 -- What the inner functions of the reading answer, one step of it each. Nothing here need be believed: `garbled` and `frame`
 -- do not cite it.
 use Rattle.std.specs.Prelude.{Option, Some, None, ◌≡◌, ℕ, zero, suc, ◌+◌, ◌-◌, ◌*◌, ◌%◌, ◌<◌, ◌≤◌, Bool, true, false, cond, ◌&&◌, List, [], ◌∷◌, length, take, drop, ◌==◌, ◌≢◌, nat_le, nat_lt, slice_index, slice_index_or, slice_set}
-use Rattle.decimal.specs.declared.Said.TheVariants.{Value}
 use Rattle.decimal.specs.Reading.{num_of, is_time}
 use Rattle.octets.specs.Octets.{part_at, same_bytes}
 use Rattle.fix.specs.declared.fields.Tag.{Tag}
@@ -133,7 +132,7 @@ pub record Headed (s row : List ℕ) : Type 0 where
 -- 8 is right, 9 says count, and field 9 ends before place a
 pub record Counted (s : List ℕ) (count a : ℕ) : Type 0 where
   pub begins : same_bytes (value_of s 8) fix42 ≡ true
-  pub says : num_of 4 (value_of s 9) ≡ Value count
+  pub says : num_of 4 (value_of s 9) ≡ Some count
   pub ends : end_of (part_of s 9) ≡ a
 
 abbrev pub OpeningSays : List ℕ → Option Opening → Type 0

@@ -3,11 +3,10 @@ ghost use Rattle.std.specs.Prelude.{◌≡◌, ℕ, ◌+◌, ◌-◌, ◌*◌, �
 ghost use Rattle.octets.specs.Octets.{part_at};
 ghost use Rattle.decimal.specs.Reading.{num_of, is_time};
 ghost use Rattle.fix.specs.Fields.{fields_of, fields_from, value_of};
-ghost use Rattle.fix.specs.Garbled.{headed_by, header, said_of, says_it, check_sum, frame_of, garbled_message};
+ghost use Rattle.fix.specs.Garbled.{headed_by, header, check_sum, frame_of, garbled_message};
 ghost use Rattle.fix.specs.Steps.{row_fields, Rowed, part_row, Headed, OpeningSays, right_of, sums_of, Lined, Laid, Framed};
 
 use crate::pass::{walk, wide};
-use decimal::Said;
 use decimal::read::{is_time, read_number};
 use octets::part::{part_at, same};
 
@@ -88,33 +87,11 @@ fn opens(s: &[u8], row: &[u16; 1023]) -> Option<Opening>
         return None;
     }
     let n = place(row, 1);
-    match read_number(part_at(s, n.start, n.len), 4) {
-        Said::Value(count) => Some(Opening {
-            count,
-            next: n.start + n.len + 1,
-        }),
-        Said::Wrong => None,
-    }
-}
-
-// The number that is said, and 0 where none is.
-pub fn said(x: Said) -> u64
-    ensures { result ≡ said_of x }
-{
-    match x {
-        Said::Value(n) => n,
-        Said::Wrong => 0,
-    }
-}
-
-// Whether the number m is said.
-fn says_it(m: u64, x: Said) -> bool
-    ensures { result ≡ says_it m x }
-{
-    match x {
-        Said::Value(n) => n == m,
-        Said::Wrong => false,
-    }
+    let count = read_number(part_at(s, n.start, n.len), 4)?;
+    Some(Opening {
+        count,
+        next: n.start + n.len + 1,
+    })
 }
 
 // Whether the values of the header are what they may be, where 34 says n.
@@ -138,7 +115,7 @@ fn sums(s: &[u8], sum: u8, p: Part) -> bool
     ensures { result ≡ sums_of s.now sum p }
 {
     let v = part_at(s, p.start, p.len);
-    (v.len() == 3) & says_it(sum as u64, read_number(v, 3))
+    (v.len() == 3) & (read_number(v, 3) == Some(u64::from(sum)))
 }
 
 // The parts of a message whose fields are in order, where 9 says count for the bytes from place a on, the header ends at b, the
@@ -162,7 +139,7 @@ fn settled(
     if !sums(s, sum, p) {
         return None;
     }
-    let number = said(read_number(part_at(s, h.number.start, h.number.len), 9));
+    let number = read_number(part_at(s, h.number.start, h.number.len), 9)?;
     if !right(s, h, number) {
         return None;
     }
