@@ -99,38 +99,18 @@ fn read_fixed(q: Instrument, s: &[u8], k: usize, unit: u64) -> Option<u64>
     }
 }
 
-// The decimals of a yield or a price.
-fn decimals(q: Instrument) -> usize
-    ensures { (result ≡ decimals_of q) × (result ≤ 3) }
-{
-    match q {
-        Instrument::Bonds => 3,
-        Instrument::Equities => 1,
-    }
-}
-
-// The unit of its smallest one.
-fn unit(q: Instrument) -> u64
-    ensures { (result ≡ 10 ^ decimals_of q) × (result ≤ 1000) }
-{
-    match q {
-        Instrument::Bonds => 1000,
-        Instrument::Equities => 10,
-    }
-}
-
 // The level of a yield or a price.
 pub fn read_level(q: Instrument, s: &[u8]) -> Option<u64>
     ensures { result ≡ level_in q s.now }
 {
-    read_fixed(q, s, decimals(q), unit(q))
+    read_fixed(q, s, q.decimals(), q.unit())
 }
 
 // The mean that AvgPx says, which has three decimals more.
 pub fn read_mean(q: Instrument, s: &[u8]) -> Option<u64>
     ensures { result ≡ mean_in q s.now }
 {
-    let k = decimals(q) + 3;
-    let scale = unit(q) * 1000;
+    let k = q.decimals() + 3;
+    let scale = q.unit() * 1000;
     read_fixed(q, s, k, scale)
 }
