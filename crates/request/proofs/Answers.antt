@@ -1,5 +1,6 @@
 -- From the rows to the answer: the first tag that clashes, the smallest that is missing, the request, and the session rejects
 -- before them.
+use Rattle.std.specs.Prelude.{Option, Some, None, Ok, Err}
 use Prim.Native.Nat.{ℕ, ◌+◌, ◌≤◌, ◌<◌}
 use mathlib.Core.Path.{◌≡◌, refl, sym, ap, ◌∙◌}
 use mathlib.Core.List.{List, [], ◌∷◌}
@@ -10,14 +11,13 @@ use native.Mathlib.Numerals.{add-one}
 use lib.Dec.{ltb, eqb}
 use lib.ListN.{length, get_or, set, drop, replicate, drop_of_length-le}
 use lib.Seq.{drop-cons}
-use borrow.Author.Tests.{eq-eqb, ne_eqb, not-true, not-false}
+use borrow.Author.Tests.{ne_eqb, not-true, not-false}
 use Rattle.octets.specs.Octets.{part_at, same_bytes}
 use Rattle.octets.proofs.Bools.{split, both_l, both_r}
 use Rattle.decimal.specs.declared.Instrument.{Instrument}
 use Rattle.decimal.specs.declared.Instrument.TheVariants.{Bonds, Equities}
 use Rattle.fix.specs.declared.frame.Part.{Part}
 use Rattle.fix.specs.declared.frame.Head.{Head}
-use Rattle.fix.specs.declared.frame.Frame.{Frame}
 use Rattle.fix.specs.Fields.{Fld, fields_of, find_tag, has_tag, value_of}
 use Rattle.fix.specs.Garbled.{body_part, head_of}
 use Rattle.fix.specs.Steps.{Held, Framed}
@@ -25,14 +25,15 @@ use Rattle.fix.proofs.Opening.{value_part}
 use Rattle.fix.proofs.Verdict.{is_garbled, is_good_lem, good_head}
 use Rattle.request.specs.declared.Kind.{Kind}
 use Rattle.request.specs.declared.Kind.TheVariants.{NewOrder, Replacement, Cancel, Unknown}
-use Rattle.request.specs.declared.Judged.{Judged}
-use Rattle.request.specs.declared.Verdict.{Verdict}
+use Rattle.request.specs.declared.Reason.{Reason}
+use Rattle.request.specs.declared.Reason.TheVariants.{RequiredTagMissing, ValueIncorrect, CompIdProblem, InvalidMsgType}
+use Rattle.request.specs.declared.Fault.{Fault}
 use Rattle.request.specs.declared.Terms.{Terms}
 use Rattle.request.specs.declared.Asked.{Asked}
 use Rattle.request.specs.declared.Asked.TheVariants.{Garbled, Enters, Replaces, Cancels}
-use Rattle.request.specs.Session.{kind_of, needed, one_of, belongs, listed, judge, or_else, first_failing, minimum_clashes, margin_clashes, first_clashing, first_missing}
-use Rattle.request.specs.Asks.{length_found, said_in, length_in, has_in, text_in, terms_in, request_in, refusal_of, completed, agreed, body_asked, is_known, body_of, head_asked, asked_of}
-use Rattle.request.specs.Gathers.{slots, slot, Starts, Admitted, kept_says, kept_lens, known, Gathered, Walked, first_unset, row_at, has_row, text_row, terms_row, request_row, Blank, outcome_row, completed_by, agreed_by}
+use Rattle.request.specs.Session.{Judged, Verdict, kind_of, needed, one_of, belongs, listed, judge, or_else, first_failing, minimum_clashes, margin_clashes, first_clashing, first_missing}
+use Rattle.request.specs.Asks.{length_found, said_in, length_in, has_in, text_in, terms_in, request_in, refusal_of, refused_or, completed, agreed, body_asked, is_known, body_of, head_asked, asked_of}
+use Rattle.request.specs.Gathers.{slots, slot, Starts, Admitted, kept_says, kept_lens, known, Gathered, Walked, first_unset, row_at, has_row, text_row, terms_row, request_row, Blank, outcome_row, fault_or, completed_by, agreed_by}
 use Rattle.request.proofs.Keys.{each_is}
 use Rattle.request.proofs.Gathering.{says_means}
 
@@ -59,31 +60,35 @@ abbrev pub Unset : List ℕ → List ℕ → ℕ → Type 0
 Unset ts lens i = (i ≤ length ts) × (first_unset ts lens ≡ first_unset (drop i ts) lens)
 
 module _ (ts lens : List ℕ) (i : ℕ) (inv : Unset ts lens i) where
-  module _ (h : i < length ts) (x : ℕ) (ex : x ≡ get_or lens (slot (get_or ts i 0)) 0) where
-    pub unset_here : x ≡ 0 → get_or ts i 0 ≡ first_unset ts lens
-    unfolding first_unset
-    unset_here e = rw (inv.1, drop-cons ts i 0, eq-eqb (get_or lens (slot (get_or ts i 0)) 0) 0 (sym ex ∙ e))
+  module _ (h : i < length ts) (b : Bool) (eb : b ≡ has_row lens (get_or ts i 0)) where
+    pub unset_here : not b ≡ true → Some (get_or ts i 0) ≡ first_unset ts lens
+    unfolding first_unset has_row
+    unset_here e =
+        let z : eqb (row_at lens (get_or ts i 0)) 0 ≡ true = not-false _ (sym eb ∙ not-true b e) in
+        rw (inv.1, drop-cons ts i 0, z)
 
-    pub unset_more : (x ≡ 0 → ⊥) → Unset ts lens (i + 1)
-    unfolding first_unset
-    unset_more e = (omega arith, rw (inv.1, drop-cons ts i 0, ne_eqb (get_or lens (slot (get_or ts i 0)) 0) 0 (λ z. e (ex ∙ z)), add-one))
+    pub unset_more : not b ≡ false → Unset ts lens (i + 1)
+    unfolding first_unset has_row
+    unset_more e =
+        let z : eqb (row_at lens (get_or ts i 0)) 0 ≡ false = not-true _ (sym eb ∙ not-false b e) in
+        (omega arith, rw (inv.1, drop-cons ts i 0, z, add-one))
 
-  pub unset_none : length ts ≤ i → 0 ≡ first_unset ts lens
+  pub unset_none : length ts ≤ i → None ≡ first_unset ts lens
   unfolding first_unset
   unset_none h = rw (inv.1, drop_of_length-le ts {i = i} h)
 
-pub unset_kind : (q : Instrument) (k l : Kind) (lens : List ℕ) (r : ℕ) → k ≡ l → r ≡ first_unset (needed q l) lens → r ≡ first_unset (needed q k) lens
+pub unset_kind : (q : Instrument) (k l : Kind) (lens : List ℕ) (r : Option ℕ) → k ≡ l → r ≡ first_unset (needed q l) lens → r ≡ first_unset (needed q k) lens
 unset_kind q k l lens r e h = rw e h
 
-pub unset_unknown : (q : Instrument) (k : Kind) (lens : List ℕ) → k ≡ Unknown → 0 ≡ first_unset (needed q k) lens
+pub unset_unknown : (q : Instrument) (k : Kind) (lens : List ℕ) → k ≡ Unknown → None ≡ first_unset (needed q k) lens
 unfolding first_unset
 unset_unknown q k lens e = rw e
 
 -- the tags of a new order, by what is traded
-pub unset_bonds : (q : Instrument) (lens : List ℕ) (r : ℕ) → q ≡ Bonds → r ≡ first_unset (needed Bonds NewOrder) lens → r ≡ first_unset (needed q NewOrder) lens
+pub unset_bonds : (q : Instrument) (lens : List ℕ) (r : Option ℕ) → q ≡ Bonds → r ≡ first_unset (needed Bonds NewOrder) lens → r ≡ first_unset (needed q NewOrder) lens
 unset_bonds q lens r e h = rw e h
 
-pub unset_equities : (q : Instrument) (lens : List ℕ) (r : ℕ) → q ≡ Equities → r ≡ first_unset (needed Equities NewOrder) lens → r ≡ first_unset (needed q NewOrder) lens
+pub unset_equities : (q : Instrument) (lens : List ℕ) (r : Option ℕ) → q ≡ Equities → r ≡ first_unset (needed Equities NewOrder) lens → r ≡ first_unset (needed q NewOrder) lens
 unset_equities q lens r e h = rw e h
 
 -- ---- the first tag that clashes
@@ -108,29 +113,29 @@ module _ (q : Instrument) (says lens : List ℕ) where
   margin_is a b x e ea eb ex = rw (e, ea, eb, ex)
 
   module _ (a : Bool) (e : a ≡ minimum_clashes (has_row lens) (row_at says)) where
-    pub clash_minimum : a ≡ true → 110 ≡ first_clashing q (has_row lens) (row_at says)
+    pub clash_minimum : a ≡ true → Some 110 ≡ first_clashing q (has_row lens) (row_at says)
     unfolding first_clashing
     clash_minimum h = rw (← e, h)
 
     module _ (n : a ≡ false) (c : Bool) (g : c ≡ margin_clashes q (has_row lens) (row_at says)) where
-      pub clash_margin : c ≡ true → 8214 ≡ first_clashing q (has_row lens) (row_at says)
+      pub clash_margin : c ≡ true → Some 8214 ≡ first_clashing q (has_row lens) (row_at says)
       unfolding first_clashing
       clash_margin h = rw (← e, n, ← g, h)
 
-      pub clash_none : c ≡ false → 0 ≡ first_clashing q (has_row lens) (row_at says)
+      pub clash_none : c ≡ false → None ≡ first_clashing q (has_row lens) (row_at says)
       unfolding first_clashing
       clash_none h = rw (← e, n, ← g, h)
 
 -- ---- where the body passes, a tag has no length exactly if no field has it
-passes_first : (x : Judged) (t : ℕ) (rest : Verdict) → or_else x t rest ≡ Verdict.Passes → rest ≡ Verdict.Passes
-passes_first (Judged.Says n) t rest e = e
-passes_first (Judged.Fails r) t rest e = let z : ◌≡◌ {A = ℕ} 0 1 = cc in absurd (suc-ne-zero 0 (sym z))
+passes_first : (x : Judged) (t : ℕ) (rest : Verdict) → or_else x t rest ≡ Ok tt → rest ≡ Ok tt
+passes_first (Ok n) t rest e = e
+passes_first (Err r) t rest e = let z : ◌≡◌ {A = ℕ} 0 1 = cc in absurd (suc-ne-zero 0 (sym z))
 
-passes_says : (q : Instrument) (k : Kind) (b : List ℕ) (from : ℕ) (f : Fld) (x : Judged) (t : ℕ) (rest : Verdict) → judge q k b from f ≡ x → or_else x t rest ≡ Verdict.Passes → f.len ≡ 0 → ⊥
-passes_says q k b from f (Judged.Says n) t rest g e = (says_means q k b from f n g).some
-passes_says q k b from f (Judged.Fails r) t rest g e = let z : ◌≡◌ {A = ℕ} 0 1 = cc in absurd (suc-ne-zero 0 (sym z))
+passes_says : (q : Instrument) (k : Kind) (b : List ℕ) (from : ℕ) (f : Fld) (x : Judged) (t : ℕ) (rest : Verdict) → judge q k b from f ≡ x → or_else x t rest ≡ Ok tt → f.len ≡ 0 → ⊥
+passes_says q k b from f (Ok n) t rest g e = (says_means q k b from f n g).some
+passes_says q k b from f (Err r) t rest g e = let z : ◌≡◌ {A = ℕ} 0 1 = cc in absurd (suc-ne-zero 0 (sym z))
 
-length_has : (q : Instrument) (k : Kind) (b : List ℕ) (from t : ℕ) (fs : List Fld) → first_failing q k b from fs ≡ Verdict.Passes → eqb (length_found (find_tag t fs)) 0 ≡ not (has_tag t fs)
+length_has : (q : Instrument) (k : Kind) (b : List ℕ) (from t : ℕ) (fs : List Fld) → first_failing q k b from fs ≡ Ok tt → eqb (length_found (find_tag t fs)) 0 ≡ not (has_tag t fs)
 unfolding first_failing find_tag has_tag
 length_has q k b from t [] e = refl
 length_has q k b from t (f ∷ fs) e =
@@ -138,16 +143,16 @@ length_has q k b from t (f ∷ fs) e =
     (λ y. rw y (ne_eqb f.len 0 (passes_says q k b from f (judge q k b from f) f.tag (first_failing q k b from fs) refl e)))
     (λ n. rw n (length_has q k b from t fs (passes_first (judge q k b from f) f.tag (first_failing q k b from fs) e)))
 
-module _ (q : Instrument) (k : Kind) (b : List ℕ) (from : ℕ) (says lens : List ℕ) (rows : Gathered q b from says lens) (passes : first_failing q k b from (fields_of b) ≡ Verdict.Passes) where
+module _ (q : Instrument) (k : Kind) (b : List ℕ) (from : ℕ) (says lens : List ℕ) (rows : Gathered q b from says lens) (passes : first_failing q k b from (fields_of b) ≡ Ok tt) where
   unset_missing : (ts : List ℕ) → each_is known ts ≡ true → first_unset ts lens ≡ first_missing ts (fields_of b)
   unfolding first_unset first_missing each_is length_in
   unset_missing [] e = refl
   unset_missing (t ∷ ts) e =
       let ih = unset_missing ts (both_r (known t) (each_is known ts) e) in
       let l = (rows t (both_l (known t) (each_is known ts) e)).1 in
-      rw (l, length_has q k b from t (fields_of b) passes, ih) (swap (has_tag t (fields_of b)) (first_missing ts (fields_of b)) t)
+      rw (l, length_has q k b from t (fields_of b) passes, ih) (swap (has_tag t (fields_of b)) (first_missing ts (fields_of b)) (Some t))
     where
-      swap : (a : Bool) (x y : ℕ) → cond (not a) y x ≡ cond a x y
+      swap : (a : Bool) (x y : Option ℕ) → cond (not a) y x ≡ cond a x y
       swap true x y = refl
       swap false x y = refl
 
@@ -193,17 +198,21 @@ module _ (q : Instrument) (k : Kind) (b : List ℕ) (from : ℕ) (says lens : Li
   unfolding first_clashing minimum_clashes known listed belongs one_of
   clashes = rw (has 110 refl, has 59 refl, has 38 refl, at 59 refl, at 38 refl, at 110 refl, margins q)
 
+  -- a tag that fails a verdict, and a tag that a message is rejected for
+  module _ (h : Head) (reason : Reason) (v : Verdict) (x : Asked) (e : outcome_row k h says lens v ≡ x) where
+    by_tag : (t : Option ℕ) → outcome_row k h says lens (fault_or reason t v) ≡ refused_or h reason t x
+    by_tag (Some t) = refl
+    by_tag None = e
+
   complete : (h : Head) → outcome_row k h says lens (completed_by q k lens) ≡ completed q k h b from
   unfolding completed_by completed
   complete h =
-      let t : ℕ = first_missing (needed q k) (fields_of b) in
-      rw (unset_missing (needed q k) (all_needed q k)) (split (eqb t 0) (λ y. rw y (requests k h)) (λ n. rw n))
+      rw (unset_missing (needed q k) (all_needed q k)) (by_tag h RequiredTagMissing (Ok tt) (request_in q k h b from) (requests k h) (first_missing (needed q k) (fields_of b)))
 
   agree : (h : Head) → outcome_row k h says lens (agreed_by q k says lens) ≡ agreed q k h b from
   unfolding agreed_by agreed
   agree h =
-      let t : ℕ = first_clashing q (has_in b) (said_in q b from) in
-      rw clashes (split (eqb t 0) (λ y. rw y (complete h)) (λ n. rw n))
+      rw clashes (by_tag h ValueIncorrect (completed_by q k lens) (completed q k h b from) (complete h) (first_clashing q (has_in b) (said_in q b from)))
 
 -- ---- the request of each type, by the rows
 module _ (k : Kind) (h : Head) (says lens : List ℕ) (id code : Part) (ei : id ≡ text_row says lens 11) (ec : code ≡ text_row says lens 55) where
@@ -222,35 +231,35 @@ module _ (k : Kind) (h : Head) (says lens : List ℕ) (id code : Part) (ei : id 
     unfolding request_row
     request_cancel ek = rw (ek, ei, ec, eo, es)
 
-pub request_unknown : (k : Kind) (h : Head) (says lens : List ℕ) (r : Asked) → k ≡ Unknown → r ≡ refusal_of h 11 35 → r ≡ request_row k h says lens
+pub request_unknown : (k : Kind) (h : Head) (says lens : List ℕ) (r : Asked) → k ≡ Unknown → r ≡ refusal_of h InvalidMsgType 35 → r ≡ request_row k h says lens
 unfolding request_row
 request_unknown k h says lens r ek er = er ∙ rw ek
 
 -- ---- the verdict, from the last step back
-module _ (q : Instrument) (k : Kind) (lens : List ℕ) (t : ℕ) (e : t ≡ first_unset (needed q k) lens) where
-  pub completes_missing : (t ≡ 0 → ⊥) → Verdict.Fails 1 t ≡ completed_by q k lens
+module _ (q : Instrument) (k : Kind) (lens : List ℕ) (r : Option ℕ) (e : r ≡ first_unset (needed q k) lens) where
+  pub completes_missing : (t : ℕ) → r ≡ Some t → Err (record { reason = RequiredTagMissing; tag = t }) ≡ completed_by q k lens
   unfolding completed_by
-  completes_missing d = rw (← e, ne_eqb t 0 d)
+  completes_missing t g = rw (← e, g)
 
-  pub completes_is : t ≡ 0 → Verdict.Passes ≡ completed_by q k lens
+  pub completes_is : r ≡ None → Ok tt ≡ completed_by q k lens
   unfolding completed_by
-  completes_is z = rw (← e, eq-eqb t 0 z)
+  completes_is g = rw (← e, g)
 
-module _ (q : Instrument) (k : Kind) (says lens : List ℕ) (t : ℕ) (e : t ≡ first_clashing q (has_row lens) (row_at says)) where
-  pub agrees_clash : (t ≡ 0 → ⊥) → Verdict.Fails 5 t ≡ agreed_by q k says lens
+module _ (q : Instrument) (k : Kind) (says lens : List ℕ) (r : Option ℕ) (e : r ≡ first_clashing q (has_row lens) (row_at says)) where
+  pub agrees_clash : (t : ℕ) → r ≡ Some t → Err (record { reason = ValueIncorrect; tag = t }) ≡ agreed_by q k says lens
   unfolding agreed_by
-  agrees_clash d = rw (← e, ne_eqb t 0 d)
+  agrees_clash t g = rw (← e, g)
 
-  pub agrees_is : t ≡ 0 → (r : Verdict) → r ≡ completed_by q k lens → r ≡ agreed_by q k says lens
+  pub agrees_is : r ≡ None → (x : Verdict) → x ≡ completed_by q k lens → x ≡ agreed_by q k says lens
   unfolding agreed_by
-  agrees_is z r g = g ∙ rw (← e, eq-eqb t 0 z)
+  agrees_is g x h = h ∙ rw (← e, g)
 
 module _ (q : Instrument) (k : Kind) (h : Head) (b x : List ℕ) (from : ℕ) (v : Verdict) (says lens : List ℕ) (eb : b ≡ x) (w : Walked q k b from v says lens) where
-  pub decides_fails : (reason tag : ℕ) → v ≡ Verdict.Fails reason tag → outcome_row k h says lens (Verdict.Fails reason tag) ≡ body_asked q k h x from
+  pub decides_fails : (f : Fault) → v ≡ Err f → outcome_row k h says lens (Err f) ≡ body_asked q k h x from
   unfolding body_asked
-  decides_fails reason tag g = rw (← eb) (rw (← w.verdict, g))
+  decides_fails f g = rw (← eb) (rw (← w.verdict, g))
 
-  pub decides_passes : v ≡ Verdict.Passes → (r : Verdict) → r ≡ agreed_by q k says lens → outcome_row k h says lens r ≡ body_asked q k h x from
+  pub decides_passes : v ≡ Ok tt → (r : Verdict) → r ≡ agreed_by q k says lens → outcome_row k h says lens r ≡ body_asked q k h x from
   unfolding body_asked
   decides_passes g r er =
       ap (outcome_row k h says lens) er ∙ agree q k b from says lens (w.rows g) (sym w.verdict ∙ g) h ∙ rw (← eb) (rw (← w.verdict, g))
@@ -304,7 +313,7 @@ module _ (q : Instrument) (venue port s : List ℕ) (h : Head) (eh : h ≡ head_
     kind_is : kind_of (value_of s 35) ≡ k
     kind_is = sym (ek ∙ ap kind_of value_35)
 
-    pub admits_kind : not a ≡ true → outcome_row k h says lens (Verdict.Fails 11 35) ≡ head_asked q venue port s
+    pub admits_kind : not a ≡ true → outcome_row k h says lens (Err (record { reason = InvalidMsgType; tag = 35 })) ≡ head_asked q venue port s
     unfolding head_asked
     admits_kind g = rw (kind_is, sym ea ∙ not-true a g, eh)
 
@@ -312,7 +321,7 @@ module _ (q : Instrument) (venue port s : List ℕ) (h : Head) (eh : h ≡ head_
       sender_is : same_bytes (value_of s 49) port ≡ c
       sender_is = sym (ec ∙ ap (λ x. same_bytes x port) (e₂ ∙ value_49))
 
-      pub admits_sender : not c ≡ true → outcome_row k h says lens (Verdict.Fails 9 49) ≡ head_asked q venue port s
+      pub admits_sender : not c ≡ true → outcome_row k h says lens (Err (record { reason = CompIdProblem; tag = 49 })) ≡ head_asked q venue port s
       unfolding head_asked
       admits_sender g = rw (kind_is, sym ea ∙ not-false a ga, sender_is, not-true c g, eh)
 
@@ -320,7 +329,7 @@ module _ (q : Instrument) (venue port s : List ℕ) (h : Head) (eh : h ≡ head_
         target_is : same_bytes (value_of s 56) venue ≡ d
         target_is = sym (ed ∙ ap (λ x. same_bytes x venue) (e₃ ∙ value_56))
 
-        pub admits_target : not d ≡ true → outcome_row k h says lens (Verdict.Fails 9 56) ≡ head_asked q venue port s
+        pub admits_target : not d ≡ true → outcome_row k h says lens (Err (record { reason = CompIdProblem; tag = 56 })) ≡ head_asked q venue port s
         unfolding head_asked
         admits_target g = rw (kind_is, sym ea ∙ not-false a ga, sender_is, not-false c gc, target_is, not-true d g, eh)
 
@@ -331,26 +340,26 @@ module _ (q : Instrument) (venue port s : List ℕ) (h : Head) (eh : h ≡ head_
 
 -- the answer by the verdict
 module _ (k : Kind) (h : Head) (says lens : List ℕ) (v : Verdict) (x r : Asked) (e : outcome_row k h says lens v ≡ x) where
-  pub admits_refusal : (reason tag : ℕ) → v ≡ Verdict.Fails reason tag → r ≡ refusal_of h reason tag → r ≡ x
-  admits_refusal reason tag g er = er ∙ rw g at e
+  pub admits_refusal : (f : Fault) → v ≡ Err f → r ≡ refusal_of h f.reason f.tag → r ≡ x
+  admits_refusal f g er = er ∙ rw g at e
 
-  pub admits_request : v ≡ Verdict.Passes → r ≡ request_row k h says lens → r ≡ x
+  pub admits_request : v ≡ Ok tt → r ≡ request_row k h says lens → r ≡ x
   admits_request g er = er ∙ rw g at e
 
 pub kind_part : (s v : List ℕ) (p n : ℕ) (k : Kind) → v ≡ part_at s p n → k ≡ kind_of v → k ≡ kind_of (part_at s p n)
 kind_part s v p n k e g = g ∙ ap kind_of e
 
 -- ---- the message
-module _ (q : Instrument) (venue port s row : List ℕ) (f : Frame) (w : Framed s row f) where
-  pub asked_garbled : f ≡ Frame.Garbled → Garbled ≡ asked_of q venue port s
+module _ (q : Instrument) (venue port s row : List ℕ) (f : Option Head) (w : Framed s row f) where
+  pub asked_garbled : f ≡ None → Garbled ≡ asked_of q venue port s
   unfolding asked_of
   asked_garbled g = rw (← is_garbled s f w.frame g)
 
-  pub asked_good : (h : Head) (r : Asked) → f ≡ Frame.Good h → r ≡ head_asked q venue port s → r ≡ asked_of q venue port s
+  pub asked_good : (h : Head) (r : Asked) → f ≡ Some h → r ≡ head_asked q venue port s → r ≡ asked_of q venue port s
   unfolding asked_of
   asked_good h r g er = er ∙ rw (← is_good_lem s f w.frame h g)
 
-pub asked_head : (s row : List ℕ) (f : Frame) (h : Head) → Framed s row f → f ≡ Frame.Good h → Admitted s h row
+pub asked_head : (s row : List ℕ) (f : Option Head) (h : Head) → Framed s row f → f ≡ Some h → Admitted s h row
 asked_head s row f h w g = record { head = good_head s f w.frame h g; held = w.held h g }
 
 pub admits_held : (s row : List ℕ) (h : Head) → Admitted s h row → Held row h.body.start 7 (fields_of (part_at s h.body.start h.body.len))

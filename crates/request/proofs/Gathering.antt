@@ -1,4 +1,5 @@
 -- The walk over the fields of a body: the verdict, and the rows of what the values say.
+use Rattle.std.specs.Prelude.{Option, Some, None, Ok, Err}
 use Prim.Native.Nat.{ℕ, zero, suc, ◌+◌, ◌-◌, ◌*◌, ◌^◌, ◌≤◌, ◌<◌}
 use mathlib.Core.Path.{◌≡◌, refl, sym, ap, ◌∙◌}
 use mathlib.Core.List.{List, [], ◌∷◌}
@@ -15,16 +16,14 @@ use Rattle.octets.proofs.Parts.{lent_part}
 use Rattle.octets.proofs.Bools.{split, both_l, both_r, or_r, not_both}
 use Rattle.decimal.specs.declared.Instrument.{Instrument}
 use Rattle.decimal.specs.declared.Instrument.TheVariants.{Bonds, Equities}
-use Rattle.fix.specs.declared.fields.Found.TheVariants.{At, Nothing}
-use Rattle.fix.specs.declared.pass.Seat.{Seat}
 use Rattle.fix.specs.declared.pass.Noted.{Noted}
 use Rattle.fix.specs.Fields.{Fld, fields_of, find_tag}
 use Rattle.fix.specs.Steps.{field_at, moved, Held, seat_of}
 use Rattle.request.specs.declared.Kind.{Kind}
 use Rattle.request.specs.declared.Kind.TheVariants.{NewOrder, Replacement, Cancel, Unknown}
-use Rattle.request.specs.declared.Judged.{Judged}
-use Rattle.request.specs.declared.Verdict.{Verdict}
-use Rattle.request.specs.Session.{needed, optional, one_of, belongs, listed, shape_of, look_as, judge, first_failing}
+use Rattle.request.specs.declared.Reason.{Reason}
+use Rattle.request.specs.declared.Reason.TheVariants.{UndefinedTag, TagNotDefined, TagWithoutValue}
+use Rattle.request.specs.Session.{Judged, needed, optional, one_of, belongs, listed, shape_of, look_as, judge, first_failing}
 use Rattle.request.specs.Asks.{said_in, length_in}
 use Rattle.request.specs.Gathers.{slots, slot, is_equities, InEach, Starts, kept_says, kept_lens, known, Walked}
 use Rattle.request.proofs.Insides.{Inside, fields_inside}
@@ -157,11 +156,11 @@ fld t start len = record { tag = t; start = start; len = len }
 
 module _ (q : Instrument) (k : Kind) (b : List ℕ) (from t start len : ℕ) (y : Bool) (ey : y ≡ belongs q k t) where
   module _ (z : Bool) (ez : z ≡ listed q t) (h : not y ≡ true) where
-    pub judge_type : z ≡ true → Judged.Fails 2 ≡ judge q k b from (fld t start len)
+    pub judge_type : z ≡ true → Err TagNotDefined ≡ judge q k b from (fld t start len)
     unfolding judge
     judge_type g = rw (sym ez ∙ g, sym ey ∙ not-true y h)
 
-    pub judge_unlisted : z ≡ false → Judged.Fails 3 ≡ judge q k b from (fld t start len)
+    pub judge_unlisted : z ≡ false → Err UndefinedTag ≡ judge q k b from (fld t start len)
     unfolding judge
     judge_unlisted g = rw (sym ez ∙ g)
 
@@ -169,7 +168,7 @@ module _ (q : Instrument) (k : Kind) (b : List ℕ) (from t start len : ℕ) (y 
     here : belongs q k t ≡ true
     here = sym ey ∙ not-false y h
 
-    pub judge_empty : len ≡ 0 → Judged.Fails 4 ≡ judge q k b from (fld t start len)
+    pub judge_empty : len ≡ 0 → Err TagWithoutValue ≡ judge q k b from (fld t start len)
     unfolding judge
     judge_empty g = rw (belongs_listed q k t here, here) (simp (eq-eqb len 0 g))
 
@@ -186,16 +185,16 @@ module _ (q : Instrument) (k : Kind) (b : List ℕ) (from t start len : ℕ) (y 
 pub record Means (q : Instrument) (k : Kind) (b : List ℕ) (from : ℕ) (f : Fld) (n : ℕ) : Type 0 where
   pub listed_is : listed q f.tag ≡ true
   pub some : f.len ≡ 0 → ⊥
-  pub looks : look_as (from + f.start) (shape_of q f.tag) (part_at b f.start f.len) ≡ Judged.Says n
+  pub looks : look_as (from + f.start) (shape_of q f.tag) (part_at b f.start f.len) ≡ Ok n
 
-means_by : (a c e : Bool) (x : Judged) (n : ℕ) → cond (not a) (Judged.Fails 3) (cond (not c) (Judged.Fails 2) (cond e (Judged.Fails 4) x)) ≡ Judged.Says n
-    → (a ≡ true) × (e ≡ false) × (x ≡ Judged.Says n)
+means_by : (a c e : Bool) (x : Judged) (n : ℕ) → cond (not a) (Err UndefinedTag) (cond (not c) (Err TagNotDefined) (cond e (Err TagWithoutValue) x)) ≡ Ok n
+    → (a ≡ true) × (e ≡ false) × (x ≡ Ok n)
 means_by true true false x n same = (refl, refl, same)
 means_by false c e x n same = let z : ◌≡◌ {A = ℕ} 0 1 = cc in absurd (suc-ne-zero 0 (sym z))
 means_by true false e x n same = let z : ◌≡◌ {A = ℕ} 0 1 = cc in absurd (suc-ne-zero 0 (sym z))
 means_by true true true x n same = let z : ◌≡◌ {A = ℕ} 0 1 = cc in absurd (suc-ne-zero 0 (sym z))
 
-pub says_means : (q : Instrument) (k : Kind) (b : List ℕ) (from : ℕ) (f : Fld) (n : ℕ) → judge q k b from f ≡ Judged.Says n → Means q k b from f n
+pub says_means : (q : Instrument) (k : Kind) (b : List ℕ) (from : ℕ) (f : Fld) (n : ℕ) → judge q k b from f ≡ Ok n → Means q k b from f n
 unfolding judge
 says_means q k b from f n same =
     let m = means_by (listed q f.tag) (belongs q k f.tag) (eqb f.len 0) _ n same in
@@ -245,12 +244,17 @@ pub record Taken (q : Instrument) (k : Kind) (b row : List ℕ) (from next : ℕ
   pub gathers : Gathering q k b from (fld t (start - from) len ∷ rest) says lens
 
 -- a test that the tag is not 10
-good_if : (a : Bool) (t start len n t' start' len' : ℕ) (next : Seat) → cond a Noted.End (Noted.Good t start len (record { number = n })) ≡ Noted.Good t' start' len' next
-    → (a ≡ false) × (t ≡ t') × (start ≡ start') × (len ≡ len') × (n ≡ next.number)
-good_if false t start len n t' start' len' next e = (refl, cc, cc, cc, cc)
-good_if true t start len n t' start' len' next e = let z : ◌≡◌ {A = ℕ} 0 1 = cc in absurd (suc-ne-zero 0 (sym z))
+abbrev note : ℕ → ℕ → ℕ → ℕ → Noted
+note t start len n = record { tag = t; start = start; len = len; next = record { number = n } }
 
-end_if : (a : Bool) (t start len n : ℕ) → cond a Noted.End (Noted.Good t start len (record { number = n })) ≡ Noted.End → a ≡ true
+good_if : (a : Bool) (t start len n : ℕ) (x : Noted) → cond a None (Some (note t start len n)) ≡ Some x
+    → (a ≡ false) × (t ≡ x.tag) × (start ≡ x.start) × (len ≡ x.len) × (n ≡ x.next.number)
+good_if false t start len n x e =
+    let q : note t start len n ≡ x = cc in
+    (refl, ap (λ (y : Noted). y.tag) q, ap (λ (y : Noted). y.start) q, ap (λ (y : Noted). y.len) q, ap (λ (y : Noted). y.next.number) q)
+good_if true t start len n x e = let z : ◌≡◌ {A = ℕ} 0 1 = cc in absurd (suc-ne-zero 0 (sym z))
+
+end_if : (a : Bool) (t start len n : ℕ) → cond a None (Some (note t start len n)) ≡ None → a ≡ true
 end_if true t start len n e = refl
 end_if false t start len n e = let z : ◌≡◌ {A = ℕ} 0 1 = cc in absurd (suc-ne-zero 0 (sym z))
 
@@ -268,20 +272,20 @@ module _ (q : Instrument) (k : Kind) (b row : List ℕ) (from j : ℕ) (says len
   pub seat_room : j < 341
   seat_room = held_room row from j inv.left inv.held
 
-  module _ (r : Noted) (e : r ≡ seat_of row j) where
-    taken_by : (left : List Fld) → Held row from j left → Inside (length b) left → Gathering q k b from left says lens → (t start len : ℕ) (next : Seat) → r ≡ Noted.Good t start len next
-        → Taken q k b row from next.number says lens t start len
+  module _ (r : Option Noted) (e : r ≡ seat_of row j) where
+    taken_by : (left : List Fld) → Held row from j left → Inside (length b) left → Gathering q k b from left says lens → (x : Noted) → r ≡ Some x
+        → Taken q k b row from x.next.number says lens x.tag x.start x.len
     unfolding seat_of
-    taken_by [] h i w t start len next g =
-        let same = good_if (eqb (get_or row (j * 3) 0) 10) _ _ _ _ t start len next (sym e ∙ g) in
+    taken_by [] h i w x g =
+        let same = good_if (eqb (get_or row (j * 3) 0) 10) _ _ _ _ x (sym e ∙ g) in
         absurd (eqb-false (get_or row (j * 3) 0) 10 same.0 h.0)
-    taken_by (f ∷ fs) h i w t start len next g =
-        let same = good_if (eqb (get_or row (j * 3) 0) 10) _ _ _ _ t start len next (sym e ∙ g) in
+    taken_by (f ∷ fs) h i w x g =
+        let same = good_if (eqb (get_or row (j * 3) 0) 10) _ _ _ _ x (sym e ∙ g) in
         let n = numbers row from j f h.0.here in
-        let a : f.tag ≡ t = sym n.tag ∙ same.1 in
-        let c : from + f.start ≡ start = sym n.start ∙ same.2 in
-        let d : f.len ≡ len = sym n.len ∙ same.3 in
-        let z : f.start ≡ start - from = omega (arith, c) in
+        let a : f.tag ≡ x.tag = sym n.tag ∙ same.1 in
+        let c : from + f.start ≡ x.start = sym n.start ∙ same.2 in
+        let d : f.len ≡ x.len = sym n.len ∙ same.3 in
+        let z : f.start ≡ x.start - from = omega (arith, c) in
         record {
           behind = omega (arith, c);
           within = omega (arith, z, d, i.0);
@@ -291,40 +295,49 @@ module _ (q : Instrument) (k : Kind) (b row : List ℕ) (from j : ℕ) (says len
           gathers = rw (← a, ← z, ← d) w;
         }
 
-    pub taken : (t start len : ℕ) (next : Seat) → r ≡ Noted.Good t start len next → Taken q k b row from next.number says lens t start len
-    taken t start len next g = taken_by inv.left inv.held inv.inside inv.gathers t start len next g
+    pub taken : (x : Noted) → r ≡ Some x → Taken q k b row from x.next.number says lens x.tag x.start x.len
+    taken x g = taken_by inv.left inv.held inv.inside inv.gathers x g
 
-    pub seat_behind : (t start len : ℕ) (next : Seat) → r ≡ Noted.Good t start len next → from ≤ start
-    seat_behind t start len next g = (taken t start len next g).behind
+    pub seat_behind : (x : Noted) → r ≡ Some x → from ≤ x.start
+    seat_behind x g = (taken x g).behind
 
-    pub seat_within : (t start len : ℕ) (next : Seat) → r ≡ Noted.Good t start len next → start - from + len ≤ length b
-    seat_within t start len next g = (taken t start len next g).within
+    pub seat_within : (x : Noted) → r ≡ Some x → x.start - from + x.len ≤ length b
+    seat_within x g = (taken x g).within
 
-    pub seat_less : (t start len : ℕ) (next : Seat) → r ≡ Noted.Good t start len next → 341 - next.number < 341 - j
+    pub seat_less : (x : Noted) → r ≡ Some x → 341 - x.next.number < 341 - j
     unfolding seat_of
-    seat_less t start len next g =
-        let same = good_if (eqb (get_or row (j * 3) 0) 10) _ _ _ _ t start len next (sym e ∙ g) in
+    seat_less x g =
+        let same = good_if (eqb (get_or row (j * 3) 0) 10) _ _ _ _ x (sym e ∙ g) in
         omega (arith, same.4, seat_room)
 
-    pub place_near : (t start len : ℕ) (next : Seat) → r ≡ Noted.Good t start len next → start < 2 ^ 64 → from + (start - from) < 2 ^ 64
-    place_near t start len next g h = omega (arith, seat_behind t start len next g)
+    pub place_near : (x : Noted) → r ≡ Some x → x.start < 2 ^ 64 → from + (x.start - from) < 2 ^ 64
+    place_near x g h = omega (arith, seat_behind x g)
 
-    empty_by : (left : List Fld) → Held row from j left → r ≡ Noted.End → left ≡ []
+    empty_by : (left : List Fld) → Held row from j left → r ≡ None → left ≡ []
     unfolding seat_of
     empty_by [] h g = refl
     empty_by (f ∷ fs) h g =
         let same = end_if (eqb (get_or row (j * 3) 0) 10) _ _ _ _ (sym e ∙ g) in
         absurd (h.0.other (sym (numbers row from j f h.0.here).tag ∙ eqb-true (get_or row (j * 3) 0) 10 same))
 
-    module _ (t start len : ℕ) (next : Seat) (g : r ≡ Noted.Good t start len next) where
-      step : Taken q k b row from next.number says lens t start len
-      step = taken t start len next g
+    module _ (f : Noted) (g : r ≡ Some f) where
+      abbrev t : ℕ
+      t = f.tag
+
+      abbrev start : ℕ
+      start = f.start
+
+      abbrev len : ℕ
+      len = f.len
+
+      step : Taken q k b row from f.next.number says lens t start len
+      step = taken f g
 
       w : Gathering q k b from (fld t (start - from) len ∷ step.rest) says lens
       w = step.gathers
 
       module _ (x : Judged) (ex : x ≡ judge q k b from (fld t (start - from) len)) where
-        pub gather_fails : (reason : ℕ) (says' lens' : List ℕ) → x ≡ Judged.Fails reason → Walked q k b from (Verdict.Fails reason t) says' lens'
+        pub gather_fails : (reason : Reason) (says' lens' : List ℕ) → x ≡ Err reason → Walked q k b from (Err (record { reason = reason; tag = t })) says' lens'
         unfolding first_failing
         gather_fails reason says' lens' gx =
             record {
@@ -332,7 +345,7 @@ module _ (q : Instrument) (k : Kind) (b row : List ℕ) (from j : ℕ) (says len
               rows = λ same. let z : ◌≡◌ {A = ℕ} 0 1 = cc in absurd (suc-ne-zero 0 (sym z));
             }
 
-        module _ (n : ℕ) (gx : x ≡ Judged.Says n) where
+        module _ (n : ℕ) (gx : x ≡ Ok n) where
           m : Means q k b from (fld t (start - from) len) n
           m = says_means q k b from (fld t (start - from) len) n (sym ex ∙ gx)
 
@@ -345,7 +358,7 @@ module _ (q : Instrument) (k : Kind) (b row : List ℕ) (from j : ℕ) (says len
           unfolding find_tag
           find_past u d = simp (ne_eqb t u d)
 
-          find_now : find_tag t (fld t (start - from) len ∷ step.rest) ≡ At (start - from) len
+          find_now : find_tag t (fld t (start - from) len ∷ step.rest) ≡ Some (record { start = start - from; len = len })
           unfolding find_tag
           find_now = simp (eq-eqb t t refl)
 
@@ -357,14 +370,14 @@ module _ (q : Instrument) (k : Kind) (b row : List ℕ) (from j : ℕ) (says len
                 lens_room = w.lens_room;
                 verdict = verdict_next;
                 fresh = λ u l z.
-                    let f = w.fresh u l z in
-                    (f.0, f.1 ∙ find_past u (λ same. h (rw same z)));
+                    let y = w.fresh u l z in
+                    (y.0, y.1 ∙ find_past u (λ same. h (rw same z)));
                 held = w.held;
               }
 
           -- it has nothing yet
           module _ (h : get_or lens (slot t) 0 ≡ 0) where
-            first : find_tag t (fields_of b) ≡ At (start - from) len
+            first : find_tag t (fields_of b) ≡ Some (record { start = start - from; len = len })
             first = (w.fresh t (listed_known q t m.listed_is) h).1 ∙ find_now
 
             other : (u : ℕ) → known u ≡ true → (u ≡ t → ⊥) → (get_or (set says (slot t) n) (slot u) 0 ≡ get_or says (slot u) 0) × (get_or (set lens (slot t) len) (slot u) 0 ≡ get_or lens (slot u) 0)
@@ -406,14 +419,14 @@ module _ (q : Instrument) (k : Kind) (b row : List ℕ) (from j : ℕ) (says len
                       (o.0 ∙ f.0, o.1 ∙ f.1));
                 }
 
-          pub gather_more : (says' lens' : List ℕ) → says' ≡ kept_says says lens t n → lens' ≡ kept_lens lens t len → Seated q k b row from next.number says' lens'
+          pub gather_more : (says' lens' : List ℕ) → says' ≡ kept_says says lens t n → lens' ≡ kept_lens lens t len → Seated q k b row from f.next.number says' lens'
           unfolding kept_says kept_lens
           gather_more says' lens' es el =
               split (eqb (get_or lens (slot t) 0) 0)
               (λ y. record { left = step.rest; held = step.held; inside = step.inside; gathers = rw (es, el) (rw y (stored (eqb-true (get_or lens (slot t) 0) 0 y))) })
               (λ d. record { left = step.rest; held = step.held; inside = step.inside; gathers = rw (es, el) (rw d (again (eqb-false (get_or lens (slot t) 0) 0 d))) })
 
-    ended : (left : List Fld) → left ≡ [] → Gathering q k b from left says lens → Walked q k b from Verdict.Passes says lens
+    ended : (left : List Fld) → left ≡ [] → Gathering q k b from left says lens → Walked q k b from (Ok tt) says lens
     unfolding first_failing find_tag said_in length_in
     ended left same w =
         record {
@@ -422,10 +435,10 @@ module _ (q : Instrument) (k : Kind) (b row : List ℕ) (from j : ℕ) (says len
               (λ y.
               let z = eqb-true (get_or lens (slot t) 0) 0 y in
               let f = w.fresh t l z in
-              let v : find_tag t (fields_of b) ≡ Nothing = f.1 ∙ rw same in
+              let v : find_tag t (fields_of b) ≡ None = f.1 ∙ rw same in
               (f.0 ∙ rw v, z ∙ rw v))
               (λ d. w.held t l (eqb-false (get_or lens (slot t) 0) 0 d));
         }
 
-    pub gather_end : r ≡ Noted.End → Walked q k b from Verdict.Passes says lens
+    pub gather_end : r ≡ None → Walked q k b from (Ok tt) says lens
     gather_end g = ended inv.left (empty_by inv.left inv.held g) inv.gathers

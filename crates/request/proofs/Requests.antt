@@ -1,5 +1,6 @@
 -- What the numbers and texts of a request may be, whatever the message: the ranges in which a market keeps its orders. A
 -- theorem for each of the three requests.
+use Rattle.std.specs.Prelude.{Option, Some, None, Ok}
 use Prim.Native.Nat.{ℕ, ◌≤◌, ◌<◌}
 use mathlib.Core.Path.{◌≡◌, refl, sym, subst}
 use mathlib.Core.List.{List, [], ◌∷◌}
@@ -12,14 +13,12 @@ use Rattle.octets.proofs.Bools.{split, not_both}
 use Rattle.decimal.specs.declared.Instrument.{Instrument}
 use Rattle.decimal.specs.declared.Instrument.TheVariants.{Bonds, Equities}
 use Rattle.decimal.specs.Instruments.{highest}
-use Rattle.fix.specs.declared.fields.Found.{Found}
-use Rattle.fix.specs.declared.fields.Found.TheVariants.{At, Nothing}
+use Rattle.fix.specs.declared.frame.Part.{Part}
 use Rattle.fix.specs.declared.frame.Head.{Head}
 use Rattle.fix.specs.Fields.{fields_of, find_tag}
 use Rattle.fix.specs.Garbled.{head_of, body_part}
 use Rattle.request.specs.declared.Kind.{Kind}
 use Rattle.request.specs.declared.Kind.TheVariants.{NewOrder, Replacement, Cancel, Unknown}
-use Rattle.request.specs.declared.Verdict.{Verdict}
 use Rattle.request.specs.declared.NewOrder.{NewOrder as NewOrderAsked}
 use Rattle.request.specs.declared.Replacement.{Replacement as ReplacementAsked}
 use Rattle.request.specs.declared.Cancellation.{Cancellation}
@@ -64,21 +63,21 @@ cancels_kind q Replacement h b from o e = let z : ◌≡◌ {A = ℕ} 0 1 = cc i
 cancels_kind q Unknown h b from o e = let z : ◌≡◌ {A = ℕ} 0 1 = cc in absurd (no z)
 
 -- ---- values that a message may leave out
-module _ (q : Instrument) (b : List ℕ) (from : ℕ) (p : first_failing q NewOrder b from (fields_of b) ≡ Verdict.Passes) where
-  mpid_by : (f : Found) → find_tag 109 (fields_of b) ≡ f → said_in q b from 109 < 1000000
+module _ (q : Instrument) (b : List ℕ) (from : ℕ) (p : first_failing q NewOrder b from (fields_of b) ≡ Ok tt) where
+  mpid_by : (f : Option Part) → find_tag 109 (fields_of b) ≡ f → said_in q b from 109 < 1000000
   unfolding said_in
-  mpid_by (At start len) e = (mpid_range q b from (stands_told q NewOrder b from 109 p (record { start = start; len = len; at = e }))).1
-  mpid_by Nothing e = rw e (omega arith)
+  mpid_by (Some v) e = (mpid_range q b from (stands_told q NewOrder b from 109 p (record { start = v.start; len = v.len; at = e }))).1
+  mpid_by None e = rw e (omega arith)
 
-  minqty_by : (f : Found) → find_tag 110 (fields_of b) ≡ f → said_in q b from 110 < 1000000000
+  minqty_by : (f : Option Part) → find_tag 110 (fields_of b) ≡ f → said_in q b from 110 < 1000000000
   unfolding said_in
-  minqty_by (At start len) e = (minqty_range q b from (stands_told q NewOrder b from 110 p (record { start = start; len = len; at = e }))).1
-  minqty_by Nothing e = rw e (omega arith)
+  minqty_by (Some v) e = (minqty_range q b from (stands_told q NewOrder b from 110 p (record { start = v.start; len = v.len; at = e }))).1
+  minqty_by None e = rw e (omega arith)
 
-  account_by : (f : Found) → find_tag 1 (fields_of b) ≡ f → length_in b 1 ≤ 10
+  account_by : (f : Option Part) → find_tag 1 (fields_of b) ≡ f → length_in b 1 ≤ 10
   unfolding length_in shape_of one_of
-  account_by (At start len) e = (text_in_lem q b from 1 10 (omega arith) refl (stands_told q NewOrder b from 1 p (record { start = start; len = len; at = e }))).1
-  account_by Nothing e = rw e (omega arith)
+  account_by (Some v) e = (text_in_lem q b from 1 10 (omega arith) refl (stands_told q NewOrder b from 1 p (record { start = v.start; len = v.len; at = e }))).1
+  account_by None e = rw e (omega arith)
 
 -- a tag that is not there says 0
 none_said : (q : Instrument) (b : List ℕ) (from t : ℕ) → has_in b t ≡ false → said_in q b from t ≡ 0
@@ -87,7 +86,7 @@ none_said q b from t n = rw (lacks_nothing t (fields_of b) n)
 
 -- a minimum goes with 59=3 and is not above 38; without one 110 says 0
 module _ (q : Instrument) (b : List ℕ) (from : ℕ) where
-  minimum_by : first_clashing q (has_in b) (said_in q b from) ≡ 0 → has_in b 59 ≡ true → has_in b 38 ≡ true → one_of (said_in q b from 59) (0 ∷ 3 ∷ 4 ∷ []) ≡ true
+  minimum_by : first_clashing q (has_in b) (said_in q b from) ≡ None → has_in b 59 ≡ true → has_in b 38 ≡ true → one_of (said_in q b from 59) (0 ∷ 3 ∷ 4 ∷ []) ≡ true
       → cond (eqb (said_in q b from 59) 3) (leb (said_in q b from 110) (said_in q b from 38)) (eqb (said_in q b from 110) 0) ≡ true
   minimum_by a tif quantity one =
       split (has_in b 110)
@@ -117,11 +116,11 @@ is_cash_of Bonds cash margin = eqb cash 0 && eqb margin 0
 is_cash_of Equities cash margin = leb 1 cash && leb cash 3 && leb margin 2 && (not (eqb cash 1) || eqb margin 0)
 
 -- a body that passes has no tag that its market does not list
-module _ (q : Instrument) (b : List ℕ) (from : ℕ) (p : first_failing q NewOrder b from (fields_of b) ≡ Verdict.Passes) (t : ℕ) (n : listed q t ≡ false) where
-  unlisted_by : (f : Found) → find_tag t (fields_of b) ≡ f → said_in q b from t ≡ 0
+module _ (q : Instrument) (b : List ℕ) (from : ℕ) (p : first_failing q NewOrder b from (fields_of b) ≡ Ok tt) (t : ℕ) (n : listed q t ≡ false) where
+  unlisted_by : (f : Option Part) → find_tag t (fields_of b) ≡ f → said_in q b from t ≡ 0
   unfolding said_in
-  unlisted_by (At start len) e = absurd (not_both (found_tells q NewOrder b from t start len (fields_of b) p e).means.listed_is n)
-  unlisted_by Nothing e = rw e
+  unlisted_by (Some v) e = absurd (not_both (found_tells q NewOrder b from t v.start v.len (fields_of b) p e).means.listed_is n)
+  unlisted_by None e = rw e
 
   unlisted_none : said_in q b from t ≡ 0
   unlisted_none = unlisted_by (find_tag t (fields_of b)) refl
@@ -141,7 +140,7 @@ module _ (b : List ℕ) (from : ℕ) where
       split (eqb m 1) (λ y. omega (arith, eqb-true m 1 y))
       (λ d. split (eqb m 2) (λ y. omega (arith, eqb-true m 2 y)) (λ n. absurd (not_both (rw (d, n) at h) refl)))
 
-  module _ (p : first_failing Equities NewOrder b from (fields_of b) ≡ Verdict.Passes) (a : first_clashing Equities (has_in b) (said_in Equities b from) ≡ 0)
+  module _ (p : first_failing Equities NewOrder b from (fields_of b) ≡ Ok tt) (a : first_clashing Equities (has_in b) (said_in Equities b from) ≡ None)
       (has : has_in b 544 ≡ true) (told : Told Equities b from 544) where
     margin_small : (m : Bool) → has_in b 8214 ≡ m → said_in Equities b from 8214 ≤ 2
     unfolding has_in
@@ -160,8 +159,8 @@ module _ (b : List ℕ) (from : ℕ) where
         rw (le-leb 1 (said_in Equities b from 544) c.0, le-leb (said_in Equities b from 544) 3 c.1, le-leb (said_in Equities b from 8214) 2 (margin_small (has_in b 8214) refl))
         (margin_beside (has_in b 8214) refl)
 
-cash_by : (q : Instrument) (b : List ℕ) (from : ℕ) → first_failing q NewOrder b from (fields_of b) ≡ Verdict.Passes
-    → first_clashing q (has_in b) (said_in q b from) ≡ 0 → first_missing (needed q NewOrder) (fields_of b) ≡ 0 → is_cash_of q (said_in q b from 544) (said_in q b from 8214) ≡ true
+cash_by : (q : Instrument) (b : List ℕ) (from : ℕ) → first_failing q NewOrder b from (fields_of b) ≡ Ok tt
+    → first_clashing q (has_in b) (said_in q b from) ≡ None → first_missing (needed q NewOrder) (fields_of b) ≡ None → is_cash_of q (said_in q b from 544) (said_in q b from 8214) ≡ true
 unfolding listed belongs one_of
 cash_by Bonds b from p a c = rw (unlisted_none Bonds b from p 544 refl, unlisted_none Bonds b from p 8214 refl)
 cash_by Equities b from p a c =

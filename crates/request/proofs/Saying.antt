@@ -1,5 +1,6 @@
 -- What the texts of a request are, whatever the message: each lies within it, is as long as its tag allows, and has nothing
 -- but the characters that a market keeps and a report may have. A theorem for each of the three requests.
+use Rattle.std.specs.Prelude.{Option, Some, None, Ok, Err}
 use Prim.Native.Nat.{ℕ, ◌+◌, ◌≤◌, ◌<◌}
 use mathlib.Core.Path.{◌≡◌, refl, sym, subst}
 use mathlib.Core.List.{List}
@@ -14,26 +15,23 @@ use Rattle.octets.proofs.Bools.{split, both_l, both_r}
 use Rattle.octets.proofs.Parts.{length_part, get_d_part}
 use Rattle.decimal.specs.declared.Instrument.{Instrument}
 use Rattle.decimal.specs.declared.Instrument.TheVariants.{Bonds, Equities}
-use Rattle.decimal.specs.declared.Said.{Said}
-use Rattle.decimal.specs.declared.Said.TheVariants.{Value, Wrong}
 use Rattle.decimal.specs.Reading.{digit_run, number, is_number, num_of}
-use Rattle.decimal.proofs.Numbers.{let_through, digit_at}
-use Rattle.fix.specs.declared.fields.Found.{Found}
-use Rattle.fix.specs.declared.fields.Found.TheVariants.{At, Nothing}
+use Rattle.decimal.proofs.Numbers.{digit_at}
+use Rattle.std.proofs.lemmas.Option.{cond_some}
+use Rattle.fix.specs.declared.frame.Part.{Part}
 use Rattle.fix.specs.Fields.{fields_of, find_tag}
 use Rattle.fix.specs.Garbled.{head_of, body_part}
 use Rattle.fix.proofs.Loops.{found_inside}
 use Rattle.fix.proofs.Values.{Spelt, spelt_by, Timed, text_low, found_text, clear_head}
 use Rattle.request.specs.declared.Kind.{Kind}
 use Rattle.request.specs.declared.Kind.TheVariants.{NewOrder, Replacement, Cancel}
-use Rattle.request.specs.declared.Judged.{Judged}
-use Rattle.request.specs.declared.Verdict.{Verdict}
+use Rattle.request.specs.declared.Reason.TheVariants.{IncorrectDataFormat}
 use Rattle.request.specs.declared.NewOrder.{NewOrder as NewOrderAsked}
 use Rattle.request.specs.declared.Replacement.{Replacement as ReplacementAsked}
 use Rattle.request.specs.declared.Cancellation.{Cancellation}
 use Rattle.request.specs.declared.Asked.{Asked}
 use Rattle.request.specs.declared.Asked.TheVariants.{Enters, Replaces, Cancels}
-use Rattle.request.specs.Session.{needed, one_of, Text, Digits, shape_of, look_as, first_failing}
+use Rattle.request.specs.Session.{Judged, needed, one_of, Text, Digits, shape_of, look_as, first_failing}
 use Rattle.request.specs.Asks.{body_of, said_in, length_in, text_in, terms_in, request_in, asked_of}
 use Rattle.request.proofs.Told.{Told, stands_told, needed_told, text_in_lem, Passed, request_passed}
 use Rattle.request.proofs.Requests.{enters_kind, replaces_kind, cancels_kind}
@@ -50,24 +48,24 @@ record Run (at n : ℕ) (v : List ℕ) (m : ℕ) : Type 0 where
   digits : digit_run v ≡ length v
 
 module _ (at n : ℕ) (v : List ℕ) (m : ℕ) where
-  text_place : look_as at (Text n) v ≡ Judged.Says m → m ≡ at
+  text_place : look_as at (Text n) v ≡ Ok m → m ≡ at
   unfolding look_as
   text_place e =
-      split (leb 1 (length v) && leb (length v) n) (λ y. let same : Judged.Says at ≡ Judged.Says m = rw y at e in cc)
-      (λ d. let same : Judged.Fails 6 ≡ Judged.Says m = rw d at e in let z : ◌≡◌ {A = ℕ} 0 1 = cc in absurd (no z))
+      split (leb 1 (length v) && leb (length v) n) (λ y. let same : ◌≡◌ {A = Judged} (Ok at) (Ok m) = rw y at e in cc)
+      (λ d. let same : ◌≡◌ {A = Judged} (Err IncorrectDataFormat) (Ok m) = rw d at e in let z : ◌≡◌ {A = ℕ} 0 1 = cc in absurd (no z))
 
-  run_by : (x : Said) → num_of n v ≡ x → look_as at (Digits n) v ≡ Judged.Says m → Run at n v m
+  run_by : (x : Option ℕ) → num_of n v ≡ x → look_as at (Digits n) v ≡ Ok m → Run at n v m
   unfolding look_as num_of is_number
-  run_by (Value i) ex e =
-      let same : Judged.Says at ≡ Judged.Says m = rw ex at e in
-      let t = (let_through (is_number n v) (number v) i ex).0 in
+  run_by (Some i) ex e =
+      let same : ◌≡◌ {A = Judged} (Ok at) (Ok m) = rw ex at e in
+      let t = (cond_some (is_number n v) (number v) i ex).0 in
       let a = ltb 0 (length v) in
       record {
         place = cc;
         short = leb-true (length v) n (both_r a (leb (length v) n) (both_l (a && leb (length v) n) (eqb (digit_run v) (length v)) t));
         digits = eqb-true (digit_run v) (length v) (both_r (a && leb (length v) n) (eqb (digit_run v) (length v)) t);
       }
-  run_by Wrong ex e = let same : Judged.Fails 6 ≡ Judged.Says m = rw ex at e in let z : ◌≡◌ {A = ℕ} 0 1 = cc in absurd (no z)
+  run_by None ex e = let same : ◌≡◌ {A = Judged} (Err IncorrectDataFormat) (Ok m) = rw ex at e in let z : ◌≡◌ {A = ℕ} 0 1 = cc in absurd (no z)
 
 -- ---- a value of the body, by its place in the message
 module _ (q : Instrument) (s : List ℕ) where
@@ -127,13 +125,13 @@ module _ (q : Instrument) (s : List ℕ) where
   unfolding shape_of one_of
   original_spelt = text_spelt 41 32 (omega arith) refl
 
-  account_by : first_failing q NewOrder (body_of s) from (fields_of (body_of s)) ≡ Verdict.Passes → (f : Found) → find_tag 1 (fields_of (body_of s)) ≡ f
+  account_by : first_failing q NewOrder (body_of s) from (fields_of (body_of s)) ≡ Ok tt → (f : Option Part) → find_tag 1 (fields_of (body_of s)) ≡ f
       → Spelt s (text_in q (body_of s) from 1) 0 10 32 126
   unfolding shape_of one_of said_in length_in
-  account_by p (At start len) e =
-      let w = text_spelt 1 10 (omega arith) refl (stands_told q NewOrder (body_of s) from 1 p (record { start = start; len = len; at = e })) in
+  account_by p (Some v) e =
+      let w = text_spelt 1 10 (omega arith) refl (stands_told q NewOrder (body_of s) from 1 p (record { start = v.start; len = v.len; at = e })) in
       record { inside = w.inside; long = w.long; some = omega arith; short = w.short; bytes = w.bytes }
-  account_by p Nothing e = rw e (spelt_by s (record { start = 0; len = 0 }) 0 10 32 126 (omega arith) (omega arith) (omega arith) (λ k i. absurd (not-suc-le-zero i)))
+  account_by p None e = rw e (spelt_by s (record { start = 0; len = 0 }) 0 10 32 126 (omega arith) (omega arith) (omega arith) (λ k i. absurd (not-suc-le-zero i)))
 
   -- 52 is a time
   time_spelt : (k : Kind) (x : Asked) → Passed q s k x → Timed s (head_of s).time

@@ -2,24 +2,21 @@
 -- asks for a new order, a replacement or a cancel. From "Reading a message" of document 01 and T-05 and T-08 of document 02; what the
 -- market trades is q. A text is given by where it stands in the message, a number as a number. Assumes nothing: every list of bytes
 -- has one answer.
-use Rattle.std.specs.Prelude.{ℕ, ◌+◌, List, Bool, true, false, cond, not, eqb}
+use Rattle.std.specs.Prelude.{Option, Some, None, Ok, Err, ℕ, ◌+◌, List, Bool, true, false, cond, not}
 use Rattle.octets.specs.Octets.{part_at, same_bytes}
 use Rattle.decimal.specs.declared.Instrument.{Instrument}
-use Rattle.fix.specs.declared.fields.Found.{Found}
-use Rattle.fix.specs.declared.fields.Found.TheVariants.{At, Nothing}
 use Rattle.fix.specs.declared.frame.Part.{Part}
 use Rattle.fix.specs.declared.frame.Head.{Head}
 use Rattle.fix.specs.Fields.{fields_of, find_tag, has_tag, value_of}
 use Rattle.fix.specs.Garbled.{garbled_message, head_of, body_part}
 use Rattle.request.specs.declared.Kind.{Kind}
 use Rattle.request.specs.declared.Kind.TheVariants.{NewOrder, Replacement, Cancel, Unknown}
-use Rattle.request.specs.declared.Judged.{Judged}
-use Rattle.request.specs.declared.Judged.TheVariants.{Says, Fails}
-use Rattle.request.specs.declared.Verdict.{Verdict}
+use Rattle.request.specs.declared.Reason.{Reason}
+use Rattle.request.specs.declared.Reason.TheVariants.{RequiredTagMissing, ValueIncorrect, CompIdProblem, InvalidMsgType}
 use Rattle.request.specs.declared.Terms.{Terms}
 use Rattle.request.specs.declared.Asked.{Asked}
 use Rattle.request.specs.declared.Asked.TheVariants.{Garbled, Refused, Enters, Replaces, Cancels}
-use Rattle.request.specs.Session.{kind_of, needed, shape_of, look_as, first_failing, first_clashing, first_missing}
+use Rattle.request.specs.Session.{number_of, Judged, Verdict, kind_of, needed, shape_of, look_as, first_failing, first_clashing, first_missing}
 
 -- ---- the body: the part of the message between field 56 and field 10
 
@@ -29,16 +26,16 @@ body_of s = part_at s (body_part s).start (body_part s).len
 -- ---- what the value of a tag says in a body b, which stands at place `from` of the message; 0 where it has none
 
 abbrev pub number_said : Judged → ℕ
-number_said (Says n) = n
-number_said (Fails r) = 0
+number_said (Ok n) = n
+number_said (Err r) = 0
 
-abbrev pub said_found : Instrument → List ℕ → ℕ → ℕ → Found → ℕ
-said_found q b from t (At start len) = number_said (look_as (from + start) (shape_of q t) (part_at b start len))
-said_found q b from t Nothing = 0
+abbrev pub said_found : Instrument → List ℕ → ℕ → ℕ → Option Part → ℕ
+said_found q b from t (Some p) = number_said (look_as (from + p.start) (shape_of q t) (part_at b p.start p.len))
+said_found q b from t None = 0
 
-abbrev pub length_found : Found → ℕ
-length_found (At start len) = len
-length_found Nothing = 0
+abbrev pub length_found : Option Part → ℕ
+length_found (Some p) = p.len
+length_found None = 0
 
 unfoldable pub said_in : Instrument → List ℕ → ℕ → ℕ → ℕ
 said_in q b from t = said_found q b from t (find_tag t (fields_of b))
@@ -57,9 +54,9 @@ text_in q b from t = record { start = said_in q b from t; len = length_in b t }
 -- ---- a session Reject
 
 -- a Reject of the message for a reason (373) and a tag (371)
-unfoldable pub refusal_of : Head → ℕ → ℕ → Asked
+unfoldable pub refusal_of : Head → Reason → ℕ → Asked
 refusal_of h reason tag =
-    Refused (record { reason = reason; tag = tag; number = h.number; kind = h.kind; time = h.time })
+    Refused (record { reason = number_of reason; tag = tag; number = h.number; kind = h.kind; time = h.time })
 
 -- ---- requests
 
@@ -86,25 +83,26 @@ request_in q Replacement h b from =
     Replaces (record { time = h.time; id = text_in q b from 11; original = text_in q b from 41; code = text_in q b from 55; quantity = said_in q b from 38; level = said_in q b from 44; side = said_in q b from 54 })
 request_in q Cancel h b from =
     Cancels (record { time = h.time; id = text_in q b from 11; original = text_in q b from 41; code = text_in q b from 55; side = said_in q b from 54 })
-request_in q Unknown h b from = refusal_of h 11 35
+request_in q Unknown h b from = refusal_of h InvalidMsgType 35
 
 -- ---- from the left
 
+-- where there is a tag, a Reject of the message for the reason and that tag, else what follows
+abbrev pub refused_or : Head → Reason → Option ℕ → Asked → Asked
+refused_or h reason (Some t) rest = refusal_of h reason t
+refused_or h reason None rest = rest
+
 -- the fields agree: the smallest needed tag that is missing, or the request
 unfoldable pub completed : Instrument → Kind → Head → List ℕ → ℕ → Asked
-completed q k h b from =
-    let t = first_missing (needed q k) (fields_of b) in
-    cond (eqb t 0) (request_in q k h b from) (refusal_of h 1 t)
+completed q k h b from = refused_or h RequiredTagMissing (first_missing (needed q k) (fields_of b)) (request_in q k h b from)
 
 -- each field by itself passed: the first that clashes with others, or what follows
 unfoldable pub agreed : Instrument → Kind → Head → List ℕ → ℕ → Asked
-agreed q k h b from =
-    let t = first_clashing q (has_in b) (said_in q b from) in
-    cond (eqb t 0) (completed q k h b from) (refusal_of h 5 t)
+agreed q k h b from = refused_or h ValueIncorrect (first_clashing q (has_in b) (said_in q b from)) (completed q k h b from)
 
 abbrev pub after_body : Instrument → Kind → Head → List ℕ → ℕ → Verdict → Asked
-after_body q k h b from (Verdict.Fails r t) = refusal_of h r t
-after_body q k h b from Verdict.Passes = agreed q k h b from
+after_body q k h b from (Err f) = refusal_of h f.reason f.tag
+after_body q k h b from (Ok x) = agreed q k h b from
 
 -- the type is known, and the ids are right: the body decides
 unfoldable pub body_asked : Instrument → Kind → Head → List ℕ → ℕ → Asked
@@ -119,9 +117,9 @@ is_known Unknown = false
 
 unfoldable pub head_asked : Instrument → List ℕ → List ℕ → List ℕ → Asked
 head_asked q venue port s =
-    cond (not (is_known (kind_of (value_of s 35)))) (refusal_of (head_of s) 11 35)
-    (cond (not (same_bytes (value_of s 49) port)) (refusal_of (head_of s) 9 49)
-    (cond (not (same_bytes (value_of s 56) venue)) (refusal_of (head_of s) 9 56)
+    cond (not (is_known (kind_of (value_of s 35)))) (refusal_of (head_of s) InvalidMsgType 35)
+    (cond (not (same_bytes (value_of s 49) port)) (refusal_of (head_of s) CompIdProblem 49)
+    (cond (not (same_bytes (value_of s 56) venue)) (refusal_of (head_of s) CompIdProblem 56)
     (body_asked q (kind_of (value_of s 35)) (head_of s) (body_of s) (body_part s).start)))
 
 -- what a message asks

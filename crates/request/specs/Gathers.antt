@@ -1,5 +1,5 @@
 -- What the inner functions of the reading of a body answer. Nothing here need be believed: `asked` does not cite it.
-use Rattle.std.specs.Prelude.{ℕ, ◌%◌, ◌≡◌, List, [], ◌∷◌, Bool, true, false, cond, not, ◌||◌, get_or, set, replicate, eqb}
+use Rattle.std.specs.Prelude.{Option, Some, None, Ok, Err, ℕ, ◌%◌, ◌≡◌, List, [], ◌∷◌, Bool, true, false, cond, not, ◌||◌, get_or, set, replicate, eqb}
 use Rattle.octets.specs.Octets.{part_at}
 use Rattle.decimal.specs.declared.Instrument.{Instrument}
 use Rattle.decimal.specs.declared.Instrument.TheVariants.{Bonds, Equities}
@@ -13,8 +13,9 @@ use Rattle.request.specs.declared.Kind.TheVariants.{NewOrder, Replacement, Cance
 use Rattle.request.specs.declared.Terms.{Terms}
 use Rattle.request.specs.declared.Asked.{Asked}
 use Rattle.request.specs.declared.Asked.TheVariants.{Enters, Replaces, Cancels}
-use Rattle.request.specs.declared.Verdict.{Verdict}
-use Rattle.request.specs.Session.{needed, belongs, listed, first_failing, first_clashing}
+use Rattle.request.specs.declared.Reason.{Reason}
+use Rattle.request.specs.declared.Reason.TheVariants.{RequiredTagMissing, ValueIncorrect, InvalidMsgType}
+use Rattle.request.specs.Session.{Verdict, needed, belongs, listed, first_failing, first_clashing}
 use Rattle.request.specs.Asks.{said_in, length_in, refusal_of}
 
 -- the length of a row: the tags that are listed in some market have different remainders by it
@@ -67,7 +68,7 @@ Gathered q b from says lens = (t : ℕ) → known t ≡ true → (row_at says t 
 -- the verdict on a body, with the rows that it leaves where it passes
 pub record Walked (q : Instrument) (k : Kind) (b : List ℕ) (from : ℕ) (r : Verdict) (says lens : List ℕ) : Type 0 where
   pub verdict : r ≡ first_failing q k b from (fields_of b)
-  pub rows : r ≡ Verdict.Passes → Gathered q b from says lens
+  pub rows : r ≡ Ok tt → Gathered q b from says lens
 
 -- the head is that of the message, and the row holds the fields of its body
 pub record Admitted (s : List ℕ) (h : Head) (row : List ℕ) : Type 0 where
@@ -75,9 +76,9 @@ pub record Admitted (s : List ℕ) (h : Head) (row : List ℕ) : Type 0 where
   pub held : Held row (body_part s).start 7 (fields_of (part_at s (body_part s).start (body_part s).len))
 
 -- the first of the tags with no length in the row
-unfoldable pub first_unset : List ℕ → List ℕ → ℕ
-first_unset [] lens = 0
-first_unset (t ∷ ts) lens = cond (eqb (row_at lens t) 0) t (first_unset ts lens)
+unfoldable pub first_unset : List ℕ → List ℕ → Option ℕ
+first_unset [] lens = None
+first_unset (t ∷ ts) lens = cond (eqb (row_at lens t) 0) (Some t) (first_unset ts lens)
 
 -- ---- what the rows say
 
@@ -110,20 +111,21 @@ request_row Replacement h says lens =
     Replaces (record { time = h.time; id = text_row says lens 11; original = text_row says lens 41; code = text_row says lens 55; quantity = row_at says 38; level = row_at says 44; side = row_at says 54 })
 request_row Cancel h says lens =
     Cancels (record { time = h.time; id = text_row says lens 11; original = text_row says lens 41; code = text_row says lens 55; side = row_at says 54 })
-request_row Unknown h says lens = refusal_of h 11 35
+request_row Unknown h says lens = refusal_of h InvalidMsgType 35
 
 -- what a verdict on a message of the type comes to: a session Reject, or the request
 abbrev pub outcome_row : Kind → Head → List ℕ → List ℕ → Verdict → Asked
-outcome_row k h says lens (Verdict.Fails reason tag) = refusal_of h reason tag
-outcome_row k h says lens Verdict.Passes = request_row k h says lens
+outcome_row k h says lens (Err f) = refusal_of h f.reason f.tag
+outcome_row k h says lens (Ok x) = request_row k h says lens
+
+-- where there is a tag, that it fails for the reason, else what follows
+abbrev pub fault_or : Reason → Option ℕ → Verdict → Verdict
+fault_or reason (Some t) rest = Err (record { reason = reason; tag = t })
+fault_or reason None rest = rest
 
 -- the verdict on fields that agree, and on fields of which each by itself passed
 unfoldable pub completed_by : Instrument → Kind → List ℕ → Verdict
-completed_by q k lens =
-    let t = first_unset (needed q k) lens in
-    cond (eqb t 0) Verdict.Passes (Verdict.Fails 1 t)
+completed_by q k lens = fault_or RequiredTagMissing (first_unset (needed q k) lens) (Ok tt)
 
 unfoldable pub agreed_by : Instrument → Kind → List ℕ → List ℕ → Verdict
-agreed_by q k says lens =
-    let t = first_clashing q (has_row lens) (row_at says) in
-    cond (eqb t 0) (completed_by q k lens) (Verdict.Fails 5 t)
+agreed_by q k says lens = fault_or ValueIncorrect (first_clashing q (has_row lens) (row_at says)) (completed_by q k lens)

@@ -1,21 +1,38 @@
 -- Which fields a message of each type has, what their values may be, and the first reason for which a body is rejected. From
 -- "Reading a message" of document 01, the part on the session Reject, and T-05 and T-08 of document 02: fields are asked from the
 -- left, each for the reasons 3, 2, 4, 6 and 5 in this order; then one that clashes with others, for the reason 5; then the smallest
--- needed tag that is missing, for the reason 1. What the market trades is q. Assumes nothing.
-use Rattle.std.specs.Prelude.{ℕ, ◌+◌, ◌-◌, List, [], ◌∷◌, ◌++◌, Bool, false, cond, not, ◌&&◌, ◌||◌, length, get_or, ltb, leb, eqb}
+-- needed tag that is missing, for the reason 1. Each reason goes by its name in FIX. What the market trades is q. Assumes nothing.
+use Rattle.std.specs.Prelude.{Option, Some, None, Result, Ok, Err, ok_or, ℕ, ◌+◌, ◌-◌, List, [], ◌∷◌, ◌++◌, Bool, false, cond, not, ◌&&◌, ◌||◌, length, get_or, ltb, leb, eqb}
 use Rattle.octets.specs.Characters.{byte, bytes}
 use Rattle.octets.specs.Octets.{part_at, same_bytes}
 use Rattle.decimal.specs.declared.Instrument.{Instrument}
 use Rattle.decimal.specs.declared.Instrument.TheVariants.{Bonds, Equities}
-use Rattle.decimal.specs.declared.Said.{Said}
-use Rattle.decimal.specs.declared.Said.TheVariants.{Value, Wrong}
 use Rattle.decimal.specs.Reading.{is_digit, num_of, level_of, time_shaped, time_ranged}
 use Rattle.fix.specs.Fields.{Fld, has_tag}
 use Rattle.request.specs.declared.Kind.{Kind}
 use Rattle.request.specs.declared.Kind.TheVariants.{NewOrder, Replacement, Cancel, Unknown}
-use Rattle.request.specs.declared.Judged.{Judged}
-use Rattle.request.specs.declared.Judged.TheVariants.{Says, Fails}
-use Rattle.request.specs.declared.Verdict.{Verdict}
+use Rattle.request.specs.declared.Reason.{Reason}
+use Rattle.request.specs.declared.Reason.TheVariants.{RequiredTagMissing, TagNotDefined, UndefinedTag, TagWithoutValue, ValueIncorrect, IncorrectDataFormat, CompIdProblem, InvalidMsgType}
+use Rattle.request.specs.declared.Fault.{Fault}
+
+-- ---- why a message is rejected, and the number (373) of it
+abbrev pub number_of : Reason → ℕ
+number_of RequiredTagMissing = 1
+number_of TagNotDefined = 2
+number_of UndefinedTag = 3
+number_of TagWithoutValue = 4
+number_of ValueIncorrect = 5
+number_of IncorrectDataFormat = 6
+number_of CompIdProblem = 9
+number_of InvalidMsgType = 11
+
+-- what a value says as a number (a text says the place where it stands), or the reason for which it fails
+abbrev pub Judged : Type 0
+Judged = Result ℕ Reason
+
+-- nothing, or what is wrong with a message: a reason, and the tag (371) that it is of
+abbrev pub Verdict : Type 0
+Verdict = Result (Unit {0}) Fault
 
 -- ---- types: D, G, F
 
@@ -117,29 +134,25 @@ unfoldable pub char_says : ℕ → ℕ
 char_says c = cond (is_digit c) (c - byte "0") c
 
 -- digits, of whatever value: the place where they stand
-abbrev pub digits_at : ℕ → Said → Judged
-digits_at at (Value n) = Says at
-digits_at at Wrong = Fails 6
+abbrev pub digits_at : ℕ → Option ℕ → Judged
+digits_at at (Some n) = Ok at
+digits_at at None = Err IncorrectDataFormat
 
 -- an amount is not 0
-abbrev pub amount_of : Said → Judged
-amount_of (Value n) = cond (eqb n 0) (Fails 5) (Says n)
-amount_of Wrong = Fails 6
+abbrev pub amount_of : Option ℕ → Judged
+amount_of (Some n) = cond (eqb n 0) (Err ValueIncorrect) (Ok n)
+amount_of None = Err IncorrectDataFormat
 
--- a level, of whatever value
-abbrev pub level_said : Said → Judged
-level_said (Value n) = Says n
-level_said Wrong = Fails 6
-
--- what a value of a shape says, where it stands at place `at` of the message: 6 for another shape, 5 for another value
+-- what a value of a shape says, where it stands at place `at` of the message, or that it is of another shape or another value
 unfoldable pub look_as : ℕ → Shape → List ℕ → Judged
-look_as at (Text n) v = cond (leb 1 (length v) && leb (length v) n) (Says at) (Fails 6)
+look_as at (Text n) v = cond (leb 1 (length v) && leb (length v) n) (Ok at) (Err IncorrectDataFormat)
 look_as at (Digits n) v = digits_at at (num_of n v)
 look_as at (Amount n) v = amount_of (num_of n v)
-look_as at (Quote q) v = level_said (level_of q v)
-look_as at Time v = cond (time_shaped v) (cond (time_ranged v) (Says at) (Fails 5)) (Fails 6)
-look_as at (Among cs) v = cond (eqb (length v) 1) (cond (one_of (get_or v 0 0) cs) (Says (char_says (get_or v 0 0))) (Fails 5)) (Fails 6)
-look_as at Unlisted v = Fails 3
+look_as at (Quote q) v = ok_or (level_of q v) IncorrectDataFormat
+look_as at Time v = cond (time_shaped v) (cond (time_ranged v) (Ok at) (Err ValueIncorrect)) (Err IncorrectDataFormat)
+look_as at (Among cs) v =
+    cond (eqb (length v) 1) (cond (one_of (get_or v 0 0) cs) (Ok (char_says (get_or v 0 0))) (Err ValueIncorrect)) (Err IncorrectDataFormat)
+look_as at Unlisted v = Err UndefinedTag
 
 -- ---- a field of a body b, which stands at place `from` of the message
 
@@ -150,22 +163,22 @@ place_in from f = from + f.start
 abbrev pub value_in : List ℕ → Fld → List ℕ
 value_in b f = part_at b f.start f.len
 
--- a field of a message of the type k: 3 for a tag that is not listed, 2 for one of another type, 4 for no value, then 6 and 5
+-- a field of a message of the type k: a tag that is not listed, then one of another type, then no value, then what the value says
 unfoldable pub judge : Instrument → Kind → List ℕ → ℕ → Fld → Judged
 judge q k b from f =
-    cond (not (listed q f.tag)) (Fails 3)
-    (cond (not (belongs q k f.tag)) (Fails 2)
-    (cond (eqb f.len 0) (Fails 4)
+    cond (not (listed q f.tag)) (Err UndefinedTag)
+    (cond (not (belongs q k f.tag)) (Err TagNotDefined)
+    (cond (eqb f.len 0) (Err TagWithoutValue)
     (look_as (place_in from f) (shape_of q f.tag) (value_in b f))))
 
 -- the verdict on a field, or else on those after it
 abbrev pub or_else : Judged → ℕ → Verdict → Verdict
-or_else (Says n) t rest = rest
-or_else (Fails r) t rest = Verdict.Fails r t
+or_else (Ok n) t rest = rest
+or_else (Err r) t rest = Err (record { reason = r; tag = t })
 
 -- the first field from the left that fails
 unfoldable pub first_failing : Instrument → Kind → List ℕ → ℕ → List Fld → Verdict
-first_failing q k b from [] = Verdict.Passes
+first_failing q k b from [] = Ok tt
 first_failing q k b from (f ∷ fs) = or_else (judge q k b from f) f.tag (first_failing q k b from fs)
 
 -- ---- fields against each other: `has` tells which tags a message has, and `says` what the value of each says
@@ -182,16 +195,16 @@ unfoldable pub margin_clashes : Instrument → (ℕ → Bool) → (ℕ → ℕ) 
 margin_clashes Bonds has says = false
 margin_clashes Equities has says = has 8214 && has 544 && eqb (says 544) 1
 
--- the first tag whose value clashes with others, and 0 where none does: a row for each test, with the tag that it refuses
-unfoldable pub first_clashing : Instrument → (ℕ → Bool) → (ℕ → ℕ) → ℕ
+-- the first tag whose value clashes with others: a row for each test, with the tag that it refuses
+unfoldable pub first_clashing : Instrument → (ℕ → Bool) → (ℕ → ℕ) → Option ℕ
 first_clashing q has says =
-    cond (minimum_clashes has says) 110
-    (cond (margin_clashes q has says) 8214
-    0)
+    cond (minimum_clashes has says) (Some 110)
+    (cond (margin_clashes q has says) (Some 8214)
+    None)
 
 -- ---- tags that a message lacks
 
--- the first of the tags ts that no field has, and 0 where each has one
-unfoldable pub first_missing : List ℕ → List Fld → ℕ
-first_missing [] fs = 0
-first_missing (t ∷ ts) fs = cond (has_tag t fs) (first_missing ts fs) t
+-- the first of the tags ts that no field has
+unfoldable pub first_missing : List ℕ → List Fld → Option ℕ
+first_missing [] fs = None
+first_missing (t ∷ ts) fs = cond (has_tag t fs) (first_missing ts fs) (Some t)

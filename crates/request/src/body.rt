@@ -4,22 +4,86 @@ ghost use Rattle.std.specs.Prelude.{◌≡◌, [], ◌∷◌, ℕ, ◌+◌, ◌-
 ghost use Rattle.fix.specs.Fields.{fields_of};
 ghost use Rattle.request.specs.declared.Kind.{Kind};
 ghost use Rattle.request.specs.Session.{judge, needed, minimum_clashes, margin_clashes, first_clashing};
-ghost use Rattle.request.specs.Gathers.{row_at, Starts, kept_says, kept_lens, Walked, has_row, first_unset};
+ghost use Rattle.request.specs.Gathers.{row_at, Starts, kept_says, kept_lens, Walked, has_row, text_row, terms_row, first_unset};
 
 use crate::values::{in_kind, in_some, look};
-use crate::{Judged, Kind, Verdict};
+use crate::{Fault, Kind, Reason, Terms};
 use decimal::Instrument;
-use fix::pass::{Noted, Seat};
+use fix::frame::Part;
+use fix::pass::Seat;
 
 // The length of a row. A tag's place is its remainder by it; those of the tags that some market lists differ.
 pub const SLOTS: usize = 45;
 
+// What the values of a body say, and how long each is, by tag.
+#[derive(Clone, Copy)]
+pub struct Rows {
+    pub says: [u64; SLOTS],
+    pub lens: [u64; SLOTS],
+}
+
 // What a row has for a tag.
-pub fn in_row(row: &[u64; SLOTS], tag: u64) -> u64
+fn in_row(row: &[u64; SLOTS], tag: u64) -> u64
     ensures { result ≡ row_at row.now tag }
 {
     let j = tag as usize % SLOTS;
     row[j]
+}
+
+impl Rows {
+    // What the value of the tag says.
+    pub fn says(&self, tag: u64) -> u64
+        ensures { result ≡ row_at self.now.says tag }
+    {
+        in_row(&self.says, tag)
+    }
+
+    // Whether the message has a tag: its value has a length.
+    pub fn has(&self, tag: u64) -> bool
+        ensures { result ≡ has_row self.now.lens tag }
+    {
+        in_row(&self.lens, tag) != 0
+    }
+
+    // Where the text of a tag stands.
+    pub fn text(&self, tag: u64) -> Part
+        ensures { result ≡ text_row self.now.says self.now.lens tag }
+    {
+        Part {
+            start: in_row(&self.says, tag) as usize,
+            len: in_row(&self.lens, tag) as usize,
+        }
+    }
+
+    // The numbers of a new order.
+    pub fn terms(&self) -> Terms
+        ensures { result ≡ terms_row self.now.says }
+    {
+        Terms {
+            quantity: self.says(38),
+            level: self.says(44),
+            side: self.says(54),
+            tif: self.says(59),
+            capacity: self.says(47),
+            class: self.says(8060),
+            mpid: self.says(109),
+            minqty: self.says(110),
+            cash: self.says(544),
+            margin: self.says(8214),
+        }
+    }
+
+    // Keeps what a value says and its length, where its tag has nothing yet.
+    fn keep(&mut self, tag: u64, n: u64, len: usize)
+        ensures { (self.new.says ≡ kept_says self.old.says self.old.lens tag n)
+            × (self.new.lens ≡ kept_lens self.old.lens tag len) }
+    {
+        let j = tag as usize % SLOTS;
+        if self.lens[j] == 0 {
+            self.says[j] = n;
+            self.lens[j] = len as u64;
+        }
+    }
 }
 
 // What a field says, or why it fails: its value stands at place `start` of the body, which stands at place `from` of the
@@ -32,144 +96,112 @@ fn judged(
     tag: u64,
     start: usize,
     len: usize,
-) -> Judged
+) -> Result<u64, Reason>
     requires { (from + start < 2 ^ 64) × (start + len ≤ length b.now) }
     ensures { result ≡ judge q kind b.now from (record { tag = tag; start = start; len = len }) }
 {
     if !in_kind(q, kind, tag) {
         if in_some(q, tag) {
-            return Judged::Fails(2);
+            return Err(Reason::TagNotDefined);
         }
-        return Judged::Fails(3);
+        return Err(Reason::UndefinedTag);
     }
     if len == 0 {
-        return Judged::Fails(4);
+        return Err(Reason::TagWithoutValue);
     }
     look(q, from + start as u64, tag, &b[start..start + len])
 }
 
-// Puts what a value says and its length into the rows, where its tag has nothing there yet.
-fn keep(says: &mut [u64; SLOTS], lens: &mut [u64; SLOTS], tag: u64, n: u64, len: usize)
-    ensures { (says.new ≡ kept_says says.old lens.old tag n)
-        × (lens.new ≡ kept_lens lens.old tag len) }
-{
-    let j = tag as usize % SLOTS;
-    if lens[j] == 0 {
-        says[j] = n;
-        lens[j] = len as u64;
-    }
-}
-
-// Goes over the fields of a body, which stands at place `from` of the message whose row of places this is. The rows take, for
-// each listed tag, what its value says and how long it is.
+// Goes over the fields of a body, which stands at place `from` of the message whose row of places this is: the first field that
+// fails, or that none does. The rows take, for each listed tag, what its value says and how long it is.
 pub fn gather(
     q: Instrument,
     kind: Kind,
     b: &[u8],
     from: usize,
     row: &[u16; 1023],
-    says: &mut [u64; SLOTS],
-    lens: &mut [u64; SLOTS],
-) -> Verdict
-    requires { Starts b.now row.now from says.old lens.old }
-    ensures { Walked q kind b.now from result says.new lens.new }
+    rows: &mut Rows,
+) -> Result<(), Fault>
+    requires { Starts b.now row.now from rows.old.says rows.old.lens }
+    ensures { Walked q kind b.now from result rows.new.says rows.new.lens }
 {
     let mut c = Seat { number: 7 };
-    loop {
-        match c.step(row) {
-            Noted::Good {
-                tag,
-                start,
-                len,
-                next,
-            } => {
-                match judged(q, kind, b, from as u64, tag, start - from, len) {
-                    Judged::Says(n) => keep(says, lens, tag, n, len),
-                    Judged::Fails(reason) => return Verdict::Fails { reason, tag },
-                }
-                c = next;
-            }
-            Noted::End => return Verdict::Passes,
+    while let Some(f) = c.step(row) {
+        match judged(q, kind, b, from as u64, f.tag, f.start - from, f.len) {
+            Ok(n) => rows.keep(f.tag, n, f.len),
+            Err(reason) => return Err(Fault { reason, tag: f.tag }),
         }
+        c = f.next;
     }
-}
-
-// Whether the message has a tag, by the row of lengths.
-fn has_row(lens: &[u64; SLOTS], tag: u64) -> bool
-    ensures { result ≡ has_row lens.now tag }
-{
-    in_row(lens, tag) != 0
+    Ok(())
 }
 
 // Whether 110 clashes with 59 or 38.
-fn minimum_clashes(says: &[u64; SLOTS], lens: &[u64; SLOTS]) -> bool
-    ensures { result ≡ minimum_clashes (has_row lens.now) (row_at says.now) }
+fn minimum_clashes(rows: &Rows) -> bool
+    ensures { result ≡ minimum_clashes (has_row rows.now.lens) (row_at rows.now.says) }
 {
-    let tif = in_row(says, 59);
-    let other = has_row(lens, 59) & ((tif == 0) | (tif == 4));
-    let above = has_row(lens, 38) & (in_row(says, 38) < in_row(says, 110));
-    has_row(lens, 110) & (other | above)
+    let tif = rows.says(59);
+    let other = rows.has(59) & ((tif == 0) | (tif == 4));
+    let above = rows.has(38) & (rows.says(38) < rows.says(110));
+    rows.has(110) & (other | above)
 }
 
 // Whether 8214 clashes with 544.
-fn margin_clashes(q: Instrument, says: &[u64; SLOTS], lens: &[u64; SLOTS]) -> bool
-    ensures { result ≡ margin_clashes q (has_row lens.now) (row_at says.now) }
+fn margin_clashes(q: Instrument, rows: &Rows) -> bool
+    ensures { result ≡ margin_clashes q (has_row rows.now.lens) (row_at rows.now.says) }
 {
     match q {
         Instrument::Bonds => false,
-        Instrument::Equities => has_row(lens, 8214) & has_row(lens, 544) & (in_row(says, 544) == 1),
+        Instrument::Equities => rows.has(8214) & rows.has(544) & (rows.says(544) == 1),
     }
 }
 
-// The first tag whose value clashes with others, and 0 where none does.
-pub fn clashing(q: Instrument, says: &[u64; SLOTS], lens: &[u64; SLOTS]) -> u64
-    ensures { result ≡ first_clashing q (has_row lens.now) (row_at says.now) }
+// The first tag whose value clashes with others.
+pub fn clashing(q: Instrument, rows: &Rows) -> Option<u64>
+    ensures { result ≡ first_clashing q (has_row rows.now.lens) (row_at rows.now.says) }
 {
-    if minimum_clashes(says, lens) {
-        return 110;
+    if minimum_clashes(rows) {
+        return Some(110);
     }
-    if margin_clashes(q, says, lens) {
-        return 8214;
+    if margin_clashes(q, rows) {
+        return Some(8214);
     }
-    0
+    None
 }
 
-// The first of the tags that has no length in the row, and 0 where each has one.
-fn first_unset(tags: &[u64], lens: &[u64; SLOTS]) -> u64
-    ensures { result ≡ first_unset tags.now lens.now }
+// The first of the tags that has no length in the rows.
+fn first_unset(tags: &[u64], rows: &Rows) -> Option<u64>
+    ensures { result ≡ first_unset tags.now rows.now.lens }
 {
-    let mut i = 0;
-    while i < tags.len() {
-        let t = tags[i];
-        if in_row(lens, t) == 0 {
-            return t;
+    for t in tags {
+        if !rows.has(*t) {
+            return Some(*t);
         }
-        i += 1;
     }
-    0
+    None
 }
 
-// The smallest tag that a new order needs and the body lacks, and 0 where it lacks none.
-fn missing_new(q: Instrument, lens: &[u64; SLOTS]) -> u64
-    ensures { result ≡ first_unset (needed q Kind.NewOrder) lens.now }
+// The smallest tag that a new order needs and the body lacks.
+fn missing_new(q: Instrument, rows: &Rows) -> Option<u64>
+    ensures { result ≡ first_unset (needed q Kind.NewOrder) rows.now.lens }
 {
     match q {
-        Instrument::Bonds => first_unset(&[11, 21, 38, 40, 44, 47, 54, 55, 59, 60, 8060], lens),
+        Instrument::Bonds => first_unset(&[11, 21, 38, 40, 44, 47, 54, 55, 59, 60, 8060], rows),
         Instrument::Equities => first_unset(
             &[11, 21, 38, 40, 44, 47, 54, 55, 59, 60, 544, 8060],
-            lens,
+            rows,
         ),
     }
 }
 
-// The smallest tag that the type needs and the body lacks, and 0 where it lacks none.
-pub fn missing(q: Instrument, kind: Kind, lens: &[u64; SLOTS]) -> u64
-    ensures { result ≡ first_unset (needed q kind) lens.now }
+// The smallest tag that the type needs and the body lacks.
+pub fn missing(q: Instrument, kind: Kind, rows: &Rows) -> Option<u64>
+    ensures { result ≡ first_unset (needed q kind) rows.now.lens }
 {
     match kind {
-        Kind::NewOrder => missing_new(q, lens),
-        Kind::Replacement => first_unset(&[11, 21, 38, 40, 41, 44, 54, 55, 60], lens),
-        Kind::Cancel => first_unset(&[11, 41, 54, 55, 60], lens),
-        Kind::Unknown => 0,
+        Kind::NewOrder => missing_new(q, rows),
+        Kind::Replacement => first_unset(&[11, 21, 38, 40, 41, 44, 54, 55, 60], rows),
+        Kind::Cancel => first_unset(&[11, 41, 54, 55, 60], rows),
+        Kind::Unknown => None,
     }
 }

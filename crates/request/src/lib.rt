@@ -1,6 +1,9 @@
 // What a message asks of the market: garbled, a session reject, or a request.
 #![tactic(auto)]
 
+ghost use Rattle.std.specs.Prelude.{◌≡◌};
+ghost use Rattle.request.specs.Session.{number_of};
+
 pub mod asks;
 pub mod body;
 pub mod values;
@@ -8,7 +11,7 @@ pub mod values;
 use fix::frame::Part;
 
 // The types of message that the market takes, and any other.
-#[derive(Clone, Copy)]
+#[derive(Clone, Copy, PartialEq, Eq)]
 pub enum Kind {
     NewOrder,
     Replacement,
@@ -16,21 +19,44 @@ pub enum Kind {
     Unknown,
 }
 
-// What a value says as a number (a text says the place where it stands), or the reason (373) for which it fails.
-#[derive(Clone, Copy)]
-pub enum Judged {
-    Says(u64),
-    Fails(u64),
+// Why a message is rejected: SessionRejectReason (373).
+#[derive(Clone, Copy, PartialEq, Eq)]
+pub enum Reason {
+    RequiredTagMissing,
+    TagNotDefined,
+    UndefinedTag,
+    TagWithoutValue,
+    ValueIncorrect,
+    IncorrectDataFormat,
+    CompIdProblem,
+    InvalidMsgType,
 }
 
-// The first field of a body that fails, with its reason (373) and its tag (371), or that none does.
-#[derive(Clone, Copy)]
-pub enum Verdict {
-    Passes,
-    Fails { reason: u64, tag: u64 },
+impl From<Reason> for u64 {
+    ghost from_gives = { λ reason number. number ≡ number_of reason };
+
+    fn from(reason: Reason) -> u64 {
+        match reason {
+            Reason::RequiredTagMissing => 1,
+            Reason::TagNotDefined => 2,
+            Reason::UndefinedTag => 3,
+            Reason::TagWithoutValue => 4,
+            Reason::ValueIncorrect => 5,
+            Reason::IncorrectDataFormat => 6,
+            Reason::CompIdProblem => 9,
+            Reason::InvalidMsgType => 11,
+        }
+    }
 }
 
-// A session Reject: 373, 371, and of the message 34 as a number (for 45), where its 35 (for 372) and its 52 stand.
+// What is wrong with a message: the reason (373), and the tag (371).
+#[derive(Clone, Copy)]
+pub struct Fault {
+    pub reason: Reason,
+    pub tag: u64,
+}
+
+// A session Reject, with its numbers as a report has them: 373, 371, and of the message 34 as a number (for 45), where its 35 (for 372) and its 52 stand.
 #[derive(Clone, Copy)]
 pub struct Refusal {
     pub reason: u64,
@@ -40,7 +66,7 @@ pub struct Refusal {
     pub time: Part,
 }
 
-// The numbers of a new order: 38, 44 as a level, 54 (1 buys, any other sells), 59 (0 Day, 3 IOC, 4 Fill or Kill), 47 (a
+// The numbers of a new order, as the record of an order keeps them, which may hold any number there: 38, 44 as a level, 54 (1 buys, any other sells), 59 (0 Day, 3 IOC, 4 Fill or Kill), 47 (a
 // character), 8060, and 109, 110, 544 and 8214, each 0 where it has none.
 #[derive(Clone, Copy)]
 pub struct Terms {
@@ -88,7 +114,7 @@ pub struct Cancellation {
     pub side: u64,
 }
 
-// What a message asks.
+// What a message asks. Each case has what its own answer needs.
 #[derive(Clone, Copy)]
 pub enum Asked {
     Garbled,

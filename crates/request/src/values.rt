@@ -4,70 +4,62 @@ ghost use Rattle.request.specs.declared.Kind.{Kind};
 ghost use Rattle.request.specs.Gathers.{is_equities, InEach};
 ghost use Rattle.request.specs.Session.{belongs, listed, char_says, Shape, Text, Digits, Amount, Quote, Time, Among, code_shape, side_shape, cash_shape, margin_shape, shape_of, look_as, one_of};
 
-use crate::{Judged, Kind};
+use crate::{Kind, Reason};
+use decimal::Instrument;
 use decimal::read::{is_digit, read_level, read_number, time_ranged, time_shaped};
-use decimal::{Instrument, Said};
 
 // A text of 1 to `most` characters, which stands at place `at`.
-fn text(at: u64, v: &[u8], most: usize) -> Judged
+fn text(at: u64, v: &[u8], most: usize) -> Result<u64, Reason>
     ensures { result ≡ look_as at (Text most) v.now }
 {
     if (1 <= v.len()) & (v.len() <= most) {
-        Judged::Says(at)
+        Ok(at)
     } else {
-        Judged::Fails(6)
+        Err(Reason::IncorrectDataFormat)
     }
 }
 
 // 1 to `most` digits, which stand at place `at`.
-fn digits(at: u64, v: &[u8], most: usize) -> Judged
+fn digits(at: u64, v: &[u8], most: usize) -> Result<u64, Reason>
     requires { most ≤ 9 }
     ensures { result ≡ look_as at (Digits most) v.now }
 {
     match read_number(v, most) {
-        Said::Value(_) => Judged::Says(at),
-        Said::Wrong => Judged::Fails(6),
+        Some(_) => Ok(at),
+        None => Err(Reason::IncorrectDataFormat),
     }
 }
 
 // 1 to `most` digits that do not say 0.
-fn amount(at: u64, v: &[u8], most: usize) -> Judged
+fn amount(at: u64, v: &[u8], most: usize) -> Result<u64, Reason>
     requires { most ≤ 9 }
     ensures { result ≡ look_as at (Amount most) v.now }
 {
     match read_number(v, most) {
-        Said::Value(n) => {
-            if n == 0 {
-                Judged::Fails(5)
-            } else {
-                Judged::Says(n)
-            }
-        }
-        Said::Wrong => Judged::Fails(6),
+        Some(0) => Err(Reason::ValueIncorrect),
+        Some(n) => Ok(n),
+        None => Err(Reason::IncorrectDataFormat),
     }
 }
 
 // A yield or a price as a level.
-fn level(q: Instrument, at: u64, v: &[u8]) -> Judged
+fn level(q: Instrument, at: u64, v: &[u8]) -> Result<u64, Reason>
     ensures { result ≡ look_as at (Quote q) v.now }
 {
-    match read_level(q, v) {
-        Said::Value(n) => Judged::Says(n),
-        Said::Wrong => Judged::Fails(6),
-    }
+    read_level(q, v).ok_or(Reason::IncorrectDataFormat)
 }
 
 // A time, which stands at place `at`.
-fn time(at: u64, v: &[u8]) -> Judged
+fn time(at: u64, v: &[u8]) -> Result<u64, Reason>
     ensures { result ≡ look_as at Time v.now }
 {
     if !time_shaped(v) {
-        return Judged::Fails(6);
+        return Err(Reason::IncorrectDataFormat);
     }
     if !time_ranged(v) {
-        return Judged::Fails(5);
+        return Err(Reason::ValueIncorrect);
     }
-    Judged::Says(at)
+    Ok(at)
 }
 
 // The number that a character says: a digit itself, another its code.
@@ -75,9 +67,9 @@ fn char_says(c: u8) -> u64
     ensures { result ≡ char_says c }
 {
     if is_digit(c) {
-        (c - 48) as u64
+        u64::from(c - b'0')
     } else {
-        c as u64
+        u64::from(c)
     }
 }
 
@@ -85,31 +77,24 @@ fn char_says(c: u8) -> u64
 fn one_of(c: u8, cs: &[u8]) -> bool
     ensures { result ≡ one_of c cs.now }
 {
-    let mut i = 0;
-    while i < cs.len() {
-        if c == cs[i] {
-            return true;
-        }
-        i += 1;
-    }
-    false
+    cs.contains(&c)
 }
 
 // One character, of those in `cs`.
-fn among(at: u64, v: &[u8], cs: &[u8]) -> Judged
+fn among(at: u64, v: &[u8], cs: &[u8]) -> Result<u64, Reason>
     ensures { result ≡ look_as at (Among cs.now) v.now }
 {
     if v.len() != 1 {
-        return Judged::Fails(6);
+        return Err(Reason::IncorrectDataFormat);
     }
     if !one_of(v[0], cs) {
-        return Judged::Fails(5);
+        return Err(Reason::ValueIncorrect);
     }
-    Judged::Says(char_says(v[0]))
+    Ok(char_says(v[0]))
 }
 
 // The code of a bond or a share, which stands at place `at`.
-fn code(q: Instrument, at: u64, v: &[u8]) -> Judged
+fn code(q: Instrument, at: u64, v: &[u8]) -> Result<u64, Reason>
     ensures { result ≡ look_as at (code_shape q) v.now }
 {
     match q {
@@ -119,7 +104,7 @@ fn code(q: Instrument, at: u64, v: &[u8]) -> Judged
 }
 
 // One character that says the side.
-fn side(q: Instrument, at: u64, v: &[u8]) -> Judged
+fn side(q: Instrument, at: u64, v: &[u8]) -> Result<u64, Reason>
     ensures { result ≡ look_as at (side_shape q) v.now }
 {
     match q {
@@ -129,27 +114,27 @@ fn side(q: Instrument, at: u64, v: &[u8]) -> Judged
 }
 
 // CashMargin, of equities.
-fn cash(q: Instrument, at: u64, v: &[u8]) -> Judged
+fn cash(q: Instrument, at: u64, v: &[u8]) -> Result<u64, Reason>
     ensures { result ≡ look_as at (cash_shape q) v.now }
 {
     match q {
-        Instrument::Bonds => Judged::Fails(3),
+        Instrument::Bonds => Err(Reason::UndefinedTag),
         Instrument::Equities => among(at, v, b"123"),
     }
 }
 
 // MarginTransactionType, of equities.
-fn margin(q: Instrument, at: u64, v: &[u8]) -> Judged
+fn margin(q: Instrument, at: u64, v: &[u8]) -> Result<u64, Reason>
     ensures { result ≡ look_as at (margin_shape q) v.now }
 {
     match q {
-        Instrument::Bonds => Judged::Fails(3),
+        Instrument::Bonds => Err(Reason::UndefinedTag),
         Instrument::Equities => among(at, v, b"12"),
     }
 }
 
 // What the value of a tag says, where it stands at place `at`.
-pub fn look(q: Instrument, at: u64, tag: u64, v: &[u8]) -> Judged
+pub fn look(q: Instrument, at: u64, tag: u64, v: &[u8]) -> Result<u64, Reason>
     ensures { result ≡ look_as at (shape_of q tag) v.now }
 {
     match tag {
@@ -170,7 +155,7 @@ pub fn look(q: Instrument, at: u64, tag: u64, v: &[u8]) -> Judged
         8060 => among(at, v, b"13456"),
         544 => cash(q, at, v),
         8214 => margin(q, at, v),
-        _ => Judged::Fails(3),
+        _ => Err(Reason::UndefinedTag),
     }
 }
 
@@ -178,10 +163,7 @@ pub fn look(q: Instrument, at: u64, tag: u64, v: &[u8]) -> Judged
 pub fn is_equities(q: Instrument) -> bool
     ensures { result ≡ is_equities q }
 {
-    match q {
-        Instrument::Bonds => false,
-        Instrument::Equities => true,
-    }
+    matches!(q, Instrument::Equities)
 }
 
 // Whether a new order may have the tag.

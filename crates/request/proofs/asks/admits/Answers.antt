@@ -6,8 +6,8 @@ use Rattle.request.proofs.asks.admits.Goals as goal
 pub screens-requires : goal.screens-requires
 screens-requires c = (search rules, search (rules, kind_part), blank)
 
-pub returns-in-Fails : goal.returns-in-Fails
-returns-in-Fails c = search (rules, admits_refusal)
+pub returns-in-Err : goal.returns-in-Err
+returns-in-Err c = search (rules, admits_refusal)
 
-pub returns-in-Passes : goal.returns-in-Passes
-returns-in-Passes c = search (rules, admits_request)
+pub returns-in-Ok : goal.returns-in-Ok
+returns-in-Ok c = search (rules, admits_request)

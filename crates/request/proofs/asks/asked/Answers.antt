@@ -10,8 +10,8 @@ framed_in-requires c = refl
 pub admits-requires : goal.admits-requires
 admits-requires c = search (rules, asked_head)
 
-pub returns-in-Garbled : goal.returns-in-Garbled
-returns-in-Garbled c = search (rules, asked_garbled)
+pub returns-in-None : goal.returns-in-None
+returns-in-None c = search (rules, asked_garbled)
 
-pub returns-in-Good : goal.returns-in-Good
-returns-in-Good c = search (rules, asked_good)
+pub returns-in-Some : goal.returns-in-Some
+returns-in-Some c = search (rules, asked_good)

@@ -6,8 +6,8 @@ use Rattle.request.proofs.asks.decides.Goals as goal
 pub gather-requires : goal.gather-requires
 gather-requires c = search (rules, starts)
 
-pub returns-in-Fails : goal.returns-in-Fails
-returns-in-Fails c = search (rules, decides_fails)
+pub returns-in_err-gather : goal.returns-in_err-gather
+returns-in_err-gather c = search (rules, decides_fails, c.in_err-gather.was)
 
-pub returns-in-Passes : goal.returns-in-Passes
-returns-in-Passes c = search (rules, decides_passes)
+pub returns : goal.returns
+returns c = search (rules, decides_passes, c.in_ok-gather.was)

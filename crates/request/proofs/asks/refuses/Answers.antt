@@ -1,8 +1,7 @@
 -- A session Reject.
-use mathlib.Core.Path.{refl}
 use Rattle.request.specs.Asks.{refusal_of}
 use Rattle.request.proofs.asks.refuses.Goals as goal
 
 pub returns : goal.returns
 unfolding refusal_of
-returns c = refl
+returns c = rw c.from.ensures

@@ -4,8 +4,8 @@ use Prim.Native.Nat.{◌-◌}
 use Rattle.request.proofs.Gathering.{Seated}
 use Rattle.request.proofs.body.gather.Given as goal
 
-abbrev pub invariant-loop-tag : goal.invariant-loop-tag
-invariant-loop-tag l = Seated l.q l.kind l.b l.row l.from l.c.number l.says l.lens
+abbrev pub invariant-loop-f : goal.invariant-loop-f
+invariant-loop-f l = Seated l.q l.kind l.b l.row l.from l.c.number l.rows.says l.rows.lens
 
-abbrev pub decreases-loop-tag : goal.decreases-loop-tag
-decreases-loop-tag l = 341 - l.c.number
+abbrev pub decreases-loop-f : goal.decreases-loop-f
+decreases-loop-f l = 341 - l.c.number

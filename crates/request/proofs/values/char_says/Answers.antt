@@ -5,8 +5,8 @@ use Rattle.request.proofs.Judging.{char_digit, char_other}
 use borrow.Author.Rules.{rules}
 use Rattle.request.proofs.values.char_says.Goals as goal
 
-pub overflow_sub-result : goal.overflow_sub-result
-overflow_sub-result c = digit_low c.args.c (sym c.is_digit.ensures ∙ c.if-is_digit.true)
+pub overflow_sub-c : goal.overflow_sub-c
+overflow_sub-c c = digit_low c.args.c (sym c.is_digit.ensures ∙ c.if-is_digit.true)
 
 pub returns-then-is_digit : goal.returns-then-is_digit
 returns-then-is_digit c = search (rules, char_digit)

@@ -1,13 +1,7 @@
--- Whether a character is one of some. Invariant: it is, exactly if it is one from i on.
-use Rattle.request.proofs.Judging.{sought_here, sought_more, sought_none}
-use borrow.Author.Rules.{rules}
+-- One of the characters, as `contains` finds it.
+use Rattle.request.proofs.Judging.{any_one}
+use mathlib.Core.Path.{◌∙◌}
 use Rattle.request.proofs.values.one_of.Goals as goal
 
-pub returns-then-c-cs : goal.returns-then-c-cs
-returns-then-c-cs c = search (rules, sought_here)
-
-pub loop-i-preserved : goal.loop-i-preserved
-loop-i-preserved c = search (rules, sought_more)
-
 pub returns : goal.returns
-returns c = search (rules, sought_none)
+returns c = c.contains.ensures.value ∙ any_one c.args.c c.args.cs.now

@@ -1,5 +1,5 @@
 -- Where a text stands, by the rows.
-use Rattle.request.proofs.asks.text_at.Goals as goal
+use Rattle.request.proofs.body.Rows.text.Goals as goal
 
 pub returns : goal.returns
 returns c = cc

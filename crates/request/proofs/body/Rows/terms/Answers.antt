@@ -1,6 +1,6 @@
 -- The numbers of a new order, by the row.
 use Rattle.request.specs.Gathers.{terms_row}
-use Rattle.request.proofs.asks.terms_at.Goals as goal
+use Rattle.request.proofs.body.Rows.terms.Goals as goal
 
 pub returns : goal.returns
 unfolding terms_row
