@@ -1,0 +1,2 @@
+-- What the contracts of `refusals` cite; a reader believes it.
+pub mod Refusals
