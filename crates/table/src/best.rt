@@ -1,8 +1,7 @@
 // The best level of each side: worked out from the book, and written to the heading. Of a record only what decides is read.
-ghost use Rattle.std.specs.Prelude.{◌≡◌, cond, ◌+◌, ◌*◌, ◌≤◌, ◌<◌, eqb, length};
+ghost use Rattle.std.specs.Prelude.{None, ◌≡◌, cond, ◌+◌, ◌*◌, ◌≤◌, ◌<◌, eqb, length};
 ghost use Rattle.octets.specs.Octets.{put};
 ghost use Rattle.matching.specs.Matching.{open_of};
-ghost use Rattle.matching.specs.declared.Depth.TheVariants.{NoLevel};
 ghost use Rattle.matching.specs.Depth.{on_side, nearer, next, on_level, share};
 ghost use Rattle.table.specs.Places.{table_bytes};
 ghost use Rattle.table.specs.Orders.{order_at, filled, book_of};
@@ -11,28 +10,13 @@ ghost use Rattle.table.specs.Best.{in_numbers, best_on, stands_on, best_at, orde
 use crate::book::filled;
 use crate::places;
 use crate::record::{buys_at, four_at, level_at, open_at};
-use matching::ahead;
+use matching::{Level, ahead};
 
-// A level with its total open quantity and its number of orders; zeros for none.
+// One of each side.
 #[derive(Clone, Copy)]
-pub struct BestLevel {
-    pub level: u64,
-    pub total: u64,
-    pub orders: u64,
-}
-
-// A level of each side; 0 for none.
-#[derive(Clone, Copy)]
-struct Levels {
-    buy: u64,
-    sell: u64,
-}
-
-// What stands on a level of each side.
-#[derive(Clone, Copy)]
-struct Bests {
-    buy: BestLevel,
-    sell: BestLevel,
+struct Sides<T> {
+    buy: T,
+    sell: T,
 }
 
 // Whether record i is of a side, 1 the buys and any other the sells.
@@ -40,8 +24,7 @@ pub fn on_side_at(t: &[u8], i: usize, side: u64) -> bool
     requires { (length t.now ≡ table_bytes) × (i < 256) }
     ensures { result ≡ on_side side (order_at t.now i) }
 {
-    let b = buys_at(t, i);
-    if side == 1 { b } else { !b }
+    buys_at(t, i) == (side == 1)
 }
 
 // Of level c, found so far (0 for none), and that of record i, the nearer to the best.
@@ -63,19 +46,17 @@ fn nearer_at(t: &[u8], i: usize, side: u64, c: u64) -> u64
 }
 
 // The best level of each side among the n filled records; 0 if there is none.
-fn best_levels(t: &[u8], n: usize) -> Levels
+fn best_levels(t: &[u8], n: usize) -> Sides<u64>
     requires { (length t.now ≡ table_bytes) × (n ≡ filled t.now) }
     ensures { (result.buy ≡ next (book_of t.now) 1 0 n) × (result.sell ≡ next (book_of t.now) 2 0 n) }
 {
     let mut buy = 0;
     let mut sell = 0;
-    let mut i = 0;
-    while i < n {
-        i += 1;
-        buy = nearer_at(t, i, 1, buy);
-        sell = nearer_at(t, i, 2, sell);
+    for k in 0..n {
+        buy = nearer_at(t, k + 1, 1, buy);
+        sell = nearer_at(t, k + 1, 2, sell);
     }
-    Levels { buy, sell }
+    Sides { buy, sell }
 }
 
 // What is open of record i.
@@ -88,8 +69,7 @@ fn open_of_at(t: &[u8], i: usize) -> u64
     let decremented = four_at(t, b + places::DECREMENTED);
     let canceled = four_at(t, b + places::CANCELED);
     let qty = four_at(t, b + places::QTY);
-    let used = executed + decremented + canceled;
-    if used < qty { qty - used } else { 0 }
+    qty.saturating_sub(executed + decremented + canceled)
 }
 
 // What record i adds to the total of a level of a side.
@@ -107,7 +87,7 @@ fn share_at(t: &[u8], i: usize, side: u64, level: u64) -> u64
 }
 
 // A level of a side, with what record i adds to it.
-fn with_record(t: &[u8], i: usize, side: u64, b: BestLevel) -> BestLevel
+fn with_record(t: &[u8], i: usize, side: u64, b: Level) -> Level
     requires { (length t.now ≡ table_bytes) × (i < 256) × (b.total ≤ 1099511627776) × (b.orders ≤ 255) }
     ensures { (result.level ≡ b.level) × (result.total ≡ b.total + share side b.level (order_at t.now i))
         × (result.orders ≡ b.orders + cond (on_level side b.level (order_at t.now i)) 1 0) × (result.total ≤ b.total + 4294967295) }
@@ -117,19 +97,18 @@ fn with_record(t: &[u8], i: usize, side: u64, b: BestLevel) -> BestLevel
         return b;
     }
     let total = b.total + x;
-    let orders = b.orders + 1;
-    BestLevel {
-        level: b.level,
+    Level {
         total,
-        orders,
+        orders: b.orders + 1,
+        ..b
     }
 }
 
 // A level on which nothing stands yet.
-fn bare(level: u64) -> BestLevel
+fn bare(level: u64) -> Level
     ensures { (result.level ≡ level) × (result.total ≡ 0) × (result.orders ≡ 0) }
 {
-    BestLevel {
+    Level {
         level,
         total: 0,
         orders: 0,
@@ -137,38 +116,34 @@ fn bare(level: u64) -> BestLevel
 }
 
 // What stands on a level of a side, of the n filled records.
-pub fn stands_on(t: &[u8], n: usize, side: u64, level: u64) -> BestLevel
+pub fn stands_on(t: &[u8], n: usize, side: u64, level: u64) -> Level
     requires { (length t.now ≡ table_bytes) × (n ≡ filled t.now) }
     ensures { result ≡ stands_on (book_of t.now) side level }
 {
     let mut b = bare(level);
-    let mut i = 0;
-    while i < n {
-        i += 1;
-        b = with_record(t, i, side, b);
+    for k in 0..n {
+        b = with_record(t, k + 1, side, b);
     }
     b
 }
 
 // What stands on a level of the buys and on one of the sells, of the n filled records.
-fn both_stand(t: &[u8], n: usize, buy: u64, sell: u64) -> Bests
+fn both_stand(t: &[u8], n: usize, buy: u64, sell: u64) -> Sides<Level>
     requires { (length t.now ≡ table_bytes) × (n ≡ filled t.now) }
     ensures { (result.buy ≡ stands_on (book_of t.now) 1 buy) × (result.sell ≡ stands_on (book_of t.now) 2 sell) }
 {
     let mut b = bare(buy);
     let mut s = bare(sell);
-    let mut i = 0;
-    while i < n {
-        i += 1;
-        b = with_record(t, i, 1, b);
-        s = with_record(t, i, 2, s);
+    for k in 0..n {
+        b = with_record(t, k + 1, 1, b);
+        s = with_record(t, k + 1, 2, s);
     }
-    Bests { buy: b, sell: s }
+    Sides { buy: b, sell: s }
 }
 
 // What stands on a level, or zeros where that is none.
-fn or_none(b: BestLevel) -> BestLevel
-    ensures { result ≡ cond (eqb b.level 0) (in_numbers NoLevel) b }
+fn or_none(b: Level) -> Level
+    ensures { result ≡ cond (eqb b.level 0) (in_numbers None) b }
 {
     if b.level == 0 {
         return bare(0);
@@ -177,7 +152,7 @@ fn or_none(b: BestLevel) -> BestLevel
 }
 
 // The best level of each side of the book, of the n filled records.
-fn bests_of(t: &[u8], n: usize) -> Bests
+fn bests_of(t: &[u8], n: usize) -> Sides<Level>
     requires { (length t.now ≡ table_bytes) × (n ≡ filled t.now) }
     ensures { (result.buy ≡ best_on (book_of t.now) 1) × (result.sell ≡ best_on (book_of t.now) 2) }
 {
@@ -185,22 +160,22 @@ fn bests_of(t: &[u8], n: usize) -> Bests
     let b = both_stand(t, n, l.buy, l.sell);
     let buy = or_none(b.buy);
     let sell = or_none(b.sell);
-    Bests { buy, sell }
+    Sides { buy, sell }
 }
 
 // The best level of a side that the heading keeps.
-pub fn best_at(t: &[u8], side: u64) -> BestLevel
+pub fn best_at(t: &[u8], side: u64) -> Level
     requires { length t.now ≡ table_bytes }
     ensures { result ≡ best_at t.now side }
 {
     if side == 1 {
-        return BestLevel {
+        return Level {
             level: octets::le_at(t, places::BUY_LEVEL, 4),
             total: octets::le_at(t, places::BUY_TOTAL, 8),
             orders: octets::wide(t[places::BUY_ORDERS]),
         };
     }
-    BestLevel {
+    Level {
         level: octets::le_at(t, places::SELL_LEVEL, 4),
         total: octets::le_at(t, places::SELL_TOTAL, 8),
         orders: octets::wide(t[places::SELL_ORDERS]),
@@ -208,7 +183,7 @@ pub fn best_at(t: &[u8], side: u64) -> BestLevel
 }
 
 // Writes the numbers of orders from place p on.
-fn write_orders(t: &mut [u8], p: usize, buy: BestLevel, sell: BestLevel)
+fn write_orders(t: &mut [u8], p: usize, buy: Level, sell: Level)
     requires { p + 3 ≤ length t.old }
     ensures { t.new ≡ put t.old p (orders_bytes buy sell) }
 {
@@ -218,7 +193,7 @@ fn write_orders(t: &mut [u8], p: usize, buy: BestLevel, sell: BestLevel)
 }
 
 // Writes the levels from place p on.
-fn write_levels(t: &mut [u8], p: usize, buy: BestLevel, sell: BestLevel)
+fn write_levels(t: &mut [u8], p: usize, buy: Level, sell: Level)
     requires { p + 12 ≤ length t.old }
     ensures { t.new ≡ put t.old p (levels_bytes buy sell) }
 {
@@ -228,7 +203,7 @@ fn write_levels(t: &mut [u8], p: usize, buy: BestLevel, sell: BestLevel)
 }
 
 // Writes the totals from place p on.
-fn write_totals(t: &mut [u8], p: usize, buy: BestLevel, sell: BestLevel)
+fn write_totals(t: &mut [u8], p: usize, buy: Level, sell: Level)
     requires { p + 16 ≤ length t.old }
     ensures { t.new ≡ put t.old p (totals_bytes buy sell) }
 {
@@ -237,7 +212,7 @@ fn write_totals(t: &mut [u8], p: usize, buy: BestLevel, sell: BestLevel)
 }
 
 // Writes the best levels of both sides from place p on.
-pub fn write_best(t: &mut [u8], p: usize, buy: BestLevel, sell: BestLevel)
+pub fn write_best(t: &mut [u8], p: usize, buy: Level, sell: Level)
     requires { p + 31 ≤ length t.old }
     ensures { t.new ≡ put t.old p (best_row buy sell) }
 {
