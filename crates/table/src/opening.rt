@@ -13,14 +13,7 @@ use decimal::Instrument;
 pub fn all_between(s: &[u8], low: u8, high: u8) -> bool
     ensures { result ≡ every (is_between low high) s.now }
 {
-    let mut i = 0;
-    while i < s.len() {
-        if !((low <= s[i]) & (s[i] <= high)) {
-            return false;
-        }
-        i += 1;
-    }
-    true
+    s.iter().all(|b| (low <= *b) & (*b <= high))
 }
 
 // Whether a text has 1 to room characters from low to high.
@@ -56,14 +49,7 @@ fn is_new(mpids: &[u64], k: usize) -> bool
     ensures { result ≡ is_new mpids.now k }
 {
     let m = mpids[k];
-    let mut j = 0;
-    while j < k {
-        if mpids[j] == m {
-            return false;
-        }
-        j += 1;
-    }
-    true
+    !mpids[..k].contains(&m)
 }
 
 // Whether entry k is good.
@@ -84,12 +70,10 @@ fn are_given(mpids: &[u64], modes: &[u64]) -> bool
     if !((1 <= n) & (n <= places::MOST_MPIDS) & (modes.len() == n)) {
         return false;
     }
-    let mut k = 0;
-    while k < n {
+    for k in 0..n {
         if !is_given(mpids, modes, k) {
             return false;
         }
-        k += 1;
     }
     true
 }
@@ -99,10 +83,8 @@ fn put_mpids(t: &mut [u8], mpids: &[u64])
     requires { (length t.old ≡ table_bytes) × (length mpids.now ≤ 8) }
     ensures { t.new ≡ put_mpids t.old mpids.now }
 {
-    let mut k = 0;
-    while k < mpids.len() {
-        octets::put_le(t, places::MPIDS + 4 * k, 4, mpids[k]);
-        k += 1;
+    for (k, &m) in mpids.iter().enumerate() {
+        octets::put_le(t, places::MPIDS + 4 * k, 4, m);
     }
 }
 
@@ -111,10 +93,8 @@ fn put_modes(t: &mut [u8], modes: &[u64])
     requires { (length t.old ≡ table_bytes) × (length modes.now ≤ 8) × ((k : ℕ) → get_or modes.now k 0 < 256) }
     ensures { t.new ≡ put_modes t.old modes.now }
 {
-    let mut k = 0;
-    while k < modes.len() {
-        t[places::MODES + k] = modes[k] as u8;
-        k += 1;
+    for (k, &d) in modes.iter().enumerate() {
+        t[places::MODES + k] = d as u8;
     }
 }
 
