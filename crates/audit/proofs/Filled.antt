@@ -33,7 +33,7 @@ row_long row x e = ap length e ∙ length_put (replicate 64 0) 0 (replicate 32 x
 pub row_bound : (row : List ℕ) (x : ℕ) → row ≡ bounds_of x → bound row ≡ x
 row_bound row x e = ap bound e ∙ row_in x 0 (lit< tt)
 
-pub rows_are : (low span : List ℕ) (x y : ℕ) → low ≡ bounds_of x → span ≡ bounds_of y → ltb (x + y) 256 ≡ true → AreRows low span
+pub rows_are : (low span : List ℕ) (x y : ℕ) → low ≡ bounds_of x → span ≡ bounds_of y → x + y < 256 → AreRows low span
 rows_are low span x y e f l =
     let a : bound low ≡ x = row_bound low x e in
     let b : bound span ≡ y = row_bound span y f in
@@ -42,7 +42,7 @@ rows_are low span x y e f l =
       low_long = row_long low x e;
       span_is = f ∙ ap bounds_of (sym b);
       span_long = row_long span y f;
-      bytes = rw (a, b) (ltb-true (x + y) 256 l);
+      bytes = rw (a, b) l;
     }
 
 pub row_wrote : (x next : ℕ) (row : List ℕ) → Wrote (replicate 64 0) 0 (replicate 32 x) next row → row ≡ bounds_of x
@@ -50,7 +50,7 @@ unfolding bounds_of
 row_wrote x next row w = w.bytes_in
 
 -- ---- the test of one byte: by one comparison; by two rows, a character or zero
-pub span_is : (x low span r : ℕ) → low + span < 256 → r < 256 → (r + low) % 2 ^ 8 ≡ x → leb r span ≡ (leb low x && leb x (low + span))
+span_is : (x low span r : ℕ) → low + span < 256 → r < 256 → (r + low) % 2 ^ 8 ≡ x → leb r span ≡ (leb low x && leb x (low + span))
 span_is x low span r l b e =
     split (leb r span)
     (λ f.
@@ -59,6 +59,9 @@ span_is x low span r l b e =
     (λ f. rw f (sym (split (leb low x)
     (λ g. rw (g, lt-leb x (low + span) (omega (arith, leb-false r span f, leb-true low x g))))
     (λ g. rw g))))
+
+pub wrapped_is : (x low span : ℕ) → low + span < 256 → x < 256 → leb ((x + (256 - low)) % 256) span ≡ (leb low x && leb x (low + span))
+wrapped_is x low span l b = span_is x low span ((x + (256 - low)) % 256) l (omega arith) (omega arith)
 
 module _ (low span : List ℕ) (rows : AreRows low span) (k : ℕ) where
   low_in : k < 32 → get_or low k 0 ≡ bound low

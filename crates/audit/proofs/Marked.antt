@@ -1,6 +1,6 @@
 -- Marks at keys against comparing every two: keys that were passed have a mark, so one without a mark is new; and the keys
 -- of ClOrdIDs, of places and OrderIDs.
-use Rattle.std.proofs.Common.{◌≡◌, ℕ, suc, ◌+◌, ◌<◌, ◌≤◌, Bool, true, false, not, ◌&&◌, eqb, ltb, List, length, get_or, set, sym, ap, ◌∙◌, not-suc-le-zero, add-one, arith, length-set, get_or-set_other, get_or-set_same, le-ltb, lt-ltb, ne_eqb, eqb-true}
+use Rattle.std.proofs.Common.{◌≡◌, ℕ, suc, ◌+◌, ◌<◌, ◌≤◌, Bool, true, false, not, ◌&&◌, ◌||◌, eqb, ltb, List, length, get_or, set, sym, ap, ◌∙◌, not-suc-le-zero, add-one, arith, length-set, get_or-set_other, get_or-set_same, le-ltb, lt-ltb, ne_eqb, eqb-true}
 use native.Mathlib.Decide.{ℕ_discrete}
 use borrow.Author.Tests.{not-false}
 use Rattle.octets.specs.Octets.{same_bytes, Bytes}
@@ -17,8 +17,8 @@ use Rattle.table.specs.Market.{has_orders, is_fresh_id, has_ids, is_fresh, are_f
 use Rattle.table.proofs.Books.{length_book, at_book}
 use Rattle.table.proofs.Fresh.{fresh_ext}
 use Rattle.audit.specs.declared.marks.Id.{Id}
-use Rattle.audit.specs.Checking.{id_from, id_at, same_id, key_of, low_part, high_part, is_unseen, number_key, number_at}
-use Rattle.audit.proofs.Rooms.{id_is, same_id_is}
+use Rattle.audit.specs.Checking.{id_from, id_at, key_of, low_part, high_part, is_unseen, number_key, number_at}
+use Rattle.audit.proofs.Rooms.{id_is, same_ids, other_ids}
 
 -- ---- the first j keys have a mark: at the start, one more, and what a key without a mark tells
 pub record Marked (key : ℕ → ℕ) (mark : List ℕ) (j : ℕ) : Type 0 where
@@ -78,13 +78,12 @@ module _ (t : List ℕ) (long : length t ≡ 32768) (n : ℕ) (e : n ≡ filled 
       id_new j l (λ i o same. unmarked y k q (eqb-true _ 0 (not-false _ g)) i o (ap high_part same)))
 
   -- one record, compared
-  pub id_old : Bytes t → (i j : ℕ) (x y : Id) (r : Bool) → j < n → i < j → x ≡ id_at t (i + 1) → y ≡ id_at t (j + 1) → r ≡ same_id x y → r ≡ true
-      → not (same_bytes (cl_ord_id_at t (i + 1)) (cl_ord_id_at t (j + 1))) ≡ false
-  id_old b i j x y r l m p q f g = rw (← same_id_is t long n e most h b i j (omega arith) l, ← p, ← q, ← f, g)
+  module _ (b : Bytes t) (i j : ℕ) (x y : Id) (l : j < n) (m : i < j) (p : x ≡ id_at t (i + 1)) (q : y ≡ id_at t (j + 1)) where
+    pub id_old : x ≡ y → not (same_bytes (cl_ord_id_at t (i + 1)) (cl_ord_id_at t (j + 1))) ≡ false
+    id_old f = ap not (same_ids t long n e most h b i j (omega arith) l (sym p ∙ f ∙ q))
 
-  pub id_other : Bytes t → (i j : ℕ) (x y : Id) (r : Bool) → j < n → i < j → x ≡ id_at t (i + 1) → y ≡ id_at t (j + 1) → r ≡ same_id x y → r ≡ false
-      → not (same_bytes (cl_ord_id_at t (i + 1)) (cl_ord_id_at t (j + 1))) ≡ true
-  id_other b i j x y r l m p q f g = rw (← same_id_is t long n e most h b i j (omega arith) l, ← p, ← q, ← f, g)
+    pub id_other : (x ≡ y → ⊥) → not (same_bytes (cl_ord_id_at t (i + 1)) (cl_ord_id_at t (j + 1))) ≡ true
+    id_other f = ap not (other_ids t long n e most h b i j (omega arith) l (λ g. f (p ∙ g ∙ sym q)))
 
 -- ---- order k + 1 of the book is record k + 1
 pub at_record : (t : List ℕ) (n k : ℕ) → n ≡ filled t → k < n → at (book_of t) (suc k) ≡ order_at t (k + 1)
@@ -140,6 +139,14 @@ pub unseen_fresh : {f : ℕ → ℕ} {seen : List ℕ} {j : ℕ} (x : ℕ) (r : 
 unfolding is_unseen is_fresh
 unseen_fresh {f} {seen} {j} x r m e h =
     h ∙ all_ext (λ i. not (eqb (get_or seen i 0) x)) (λ i. not (eqb (f (i + 1)) (f (j + 1)))) j (λ i l. rw (m.seen_at i l, e))
+
+-- a number without a mark is new as well
+pub new_fresh : {f : ℕ → ℕ} {marks numbers : List ℕ} {j : ℕ} (x : ℕ) (r : Bool) → Marked (key_at f) marks j → Noted f numbers j → x ≡ f (j + 1)
+    → r ≡ (eqb (get_or marks (number_key x) 0) 0 || is_unseen numbers x j) → r ≡ is_fresh f j
+new_fresh {f} {marks} {numbers} {j} x r m o e h =
+    split (eqb (get_or marks (number_key x) 0) 0)
+    (λ z. rw z at h ∙ sym (number_new f j (unmarked (number_key x) m (ap number_key e) (eqb-true _ 0 z))))
+    (λ z. unseen_fresh x r o e (rw z at h))
 
 -- looked for among the first i
 pub record Unseen (seen : List ℕ) (x n : ℕ) (u : Bool) (i : ℕ) : Type 0 where

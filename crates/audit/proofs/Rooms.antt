@@ -1,6 +1,6 @@
 -- The room of a ClOrdID as four numbers: zeros stand behind the text and each of its characters is above zero, so two texts are the
 -- same exactly if their numbers are.
-use Rattle.std.proofs.Common.{◌≡◌, ℕ, zero, suc, ◌+◌, ◌-◌, ◌*◌, ◌/◌, ◌%◌, ◌^◌, ◌<◌, ◌≤◌, Bool, true, false, ◌&&◌, eqb, leb, List, [], ◌∷◌, length, get_or, sym, refl, ap, ◌∙◌, ⊎_elim, not-suc-le-zero, add-zero, arith, ext_get_or, w64, Fits, eq-eqb, ne_eqb, eqb-true, leb-true}
+use Rattle.std.proofs.Common.{◌≡◌, ℕ, zero, suc, ◌+◌, ◌-◌, ◌*◌, ◌/◌, ◌%◌, ◌^◌, ◌<◌, ◌≤◌, Bool, true, false, ◌&&◌, eqb, leb, List, [], ◌∷◌, length, get_or, sym, refl, ap, ◌∙◌, ⊎_elim, not-suc-le-zero, add-zero, arith, ext_get_or, w64, Fits, eq-eqb, eqb-true, leb-true}
 use lib.ListN.{get_or-eq_default}
 use Rattle.octets.specs.Octets.{le_at, part_at, text_at, same_bytes, Bytes}
 use Rattle.octets.proofs.Bools.{split, not_both, both_l, both_r}
@@ -13,7 +13,7 @@ use Rattle.table.specs.Orders.{cl_ord_id_at, filled}
 use Rattle.table.specs.Market.{every, is_printable, is_padded, is_text, is_record, is_order, has_orders}
 use Rattle.table.proofs.Texts.{text_high, text_every}
 use Rattle.audit.specs.declared.marks.Id.{Id}
-use Rattle.audit.specs.Checking.{id_from, id_at, same_id, key_of}
+use Rattle.audit.specs.Checking.{id_from, id_at, key_of}
 
 -- ---- numbers that are the same have the same bytes
 bytes_same : (n : ℕ) (t u : List ℕ) (p q : ℕ) → Bytes t → Bytes u → le_at n t p ≡ le_at n u q → (k : ℕ) → k < n → get_or t (p + k) 0 ≡ get_or u (q + k) 0
@@ -121,40 +121,22 @@ module _ (t : List ℕ) (p : ℕ) (long : p + 33 ≤ length t) (good : is_text i
             omega (arith, leb-true 32 (get_or (text_at t p) k 0) (both_l _ (leb (get_or (text_at t p) k 0) 126) h));
       }
 
--- ---- four numbers compared
-id_same : (x y : Id) → same_id x y ≡ true → x ≡ y
-unfolding same_id
-id_same x y h =
-    let a : (eqb x.a y.a && eqb x.b y.b && eqb x.c y.c) ≡ true = both_l _ (eqb x.d y.d) h in
-    let b : (eqb x.a y.a && eqb x.b y.b) ≡ true = both_l _ (eqb x.c y.c) a in
+-- ---- four numbers compared, by the test that the derived one makes
+pub id_same : (x y : Id) (r : Bool) → r ≡ (eqb x.a y.a && (eqb x.b y.b && (eqb x.c y.c && eqb x.d y.d))) → r ≡ true → x ≡ y
+id_same x y r e h =
+    let a : (eqb x.a y.a && (eqb x.b y.b && (eqb x.c y.c && eqb x.d y.d))) ≡ true = sym e ∙ h in
+    let b : (eqb x.b y.b && (eqb x.c y.c && eqb x.d y.d)) ≡ true = both_r (eqb x.a y.a) _ a in
+    let c : (eqb x.c y.c && eqb x.d y.d) ≡ true = both_r (eqb x.b y.b) _ b in
     λ j. record {
-      a = eqb-true x.a y.a (both_l _ (eqb x.b y.b) b) j;
-      b = eqb-true x.b y.b (both_r (eqb x.a y.a) _ b) j;
-      c = eqb-true x.c y.c (both_r (eqb x.a y.a && eqb x.b y.b) _ a) j;
-      d = eqb-true x.d y.d (both_r (eqb x.a y.a && eqb x.b y.b && eqb x.c y.c) _ h) j;
+      a = eqb-true x.a y.a (both_l _ (eqb x.b y.b && (eqb x.c y.c && eqb x.d y.d)) a) j;
+      b = eqb-true x.b y.b (both_l _ (eqb x.c y.c && eqb x.d y.d) b) j;
+      c = eqb-true x.c y.c (both_l _ (eqb x.d y.d) c) j;
+      d = eqb-true x.d y.d (both_r (eqb x.c y.c) _ c) j;
     }
 
-same_self : (x : Id) → same_id x x ≡ true
-unfolding same_id
-same_self x = rw (eq-eqb x.a x.a refl, eq-eqb x.b x.b refl, eq-eqb x.c x.c refl, eq-eqb x.d x.d refl)
-
--- by the tests that the code makes of them
-module _ (x y : Id) where
-  pub id_other_a : (x.a ≡ y.a → ⊥) → false ≡ same_id x y
-  unfolding same_id
-  id_other_a h = rw (ne_eqb x.a y.a h)
-
-  pub id_other_b : x.a ≡ y.a → (x.b ≡ y.b → ⊥) → false ≡ same_id x y
-  unfolding same_id
-  id_other_b e h = rw (eq-eqb x.a y.a e, ne_eqb x.b y.b h)
-
-  pub id_other_c : x.a ≡ y.a → x.b ≡ y.b → (x.c ≡ y.c → ⊥) → false ≡ same_id x y
-  unfolding same_id
-  id_other_c e f h = rw (eq-eqb x.a y.a e, eq-eqb x.b y.b f, ne_eqb x.c y.c h)
-
-  pub id_last : x.a ≡ y.a → x.b ≡ y.b → x.c ≡ y.c → eqb x.d y.d ≡ same_id x y
-  unfolding same_id
-  id_last e f g = rw (eq-eqb x.a y.a e, eq-eqb x.b y.b f, eq-eqb x.c y.c g)
+pub id_differs : (x y : Id) (r : Bool) → r ≡ (eqb x.a y.a && (eqb x.b y.b && (eqb x.c y.c && eqb x.d y.d))) → r ≡ false → x ≡ y → ⊥
+id_differs x y r e h same =
+    not_both (e ∙ rw (same, eq-eqb y.a y.a refl, eq-eqb y.b y.b refl, eq-eqb y.c y.c refl, eq-eqb y.d y.d refl)) h
 
 -- ---- the ClOrdIDs of orders
 module _ (t : List ℕ) (long : length t ≡ 32768) (n : ℕ) (e : n ≡ filled t) (most : n ≤ 255) (h : has_orders t ≡ true) where
@@ -167,21 +149,22 @@ module _ (t : List ℕ) (long : length t ≡ 32768) (n : ℕ) (e : n ≡ filled 
   pub id_is : (k : ℕ) → k < n → id_at t (k + 1) ≡ id_from (cl_ord_id_at t (k + 1)) 0
   id_is k l = room_id t (record_at (k + 1)) (omega arith) (good_id k l)
 
-  pub same_id_is : Bytes t → (i j : ℕ) → i < n → j < n → same_id (id_at t (i + 1)) (id_at t (j + 1)) ≡ same_bytes (cl_ord_id_at t (i + 1)) (cl_ord_id_at t (j + 1))
-  same_id_is b i j l m =
-      let xs : List ℕ = cl_ord_id_at t (i + 1) in
-      let ys : List ℕ = cl_ord_id_at t (j + 1) in
-      let g : Printable xs = printable t (record_at (i + 1)) (omega arith) (good_id i l) b in
-      let o : Printable ys = printable t (record_at (j + 1)) (omega arith) (good_id j m) b in
-      split (same_bytes xs ys)
-      (λ v.
-      let z : id_at t (i + 1) ≡ id_at t (j + 1) = id_is i l ∙ ap (λ (zs : List ℕ). id_from zs 0) (same_is xs ys v) ∙ sym (id_is j m) in
-      rw (v, z) (same_self (id_at t (j + 1))))
-      (λ v. split (same_id (id_at t (i + 1)) (id_at t (j + 1)))
-      (λ u.
-      let z = id_text xs ys g o (sym (id_is i l) ∙ id_same (id_at t (i + 1)) (id_at t (j + 1)) u ∙ id_is j m) in
-      absurd (not_both (rw (← z) (is_same xs)) v))
-      (λ u. rw (u, v)))
+  module _ (b : Bytes t) (i j : ℕ) (l : i < n) (m : j < n) where
+    pub same_ids : id_at t (i + 1) ≡ id_at t (j + 1) → same_bytes (cl_ord_id_at t (i + 1)) (cl_ord_id_at t (j + 1)) ≡ true
+    same_ids d =
+        let xs : List ℕ = cl_ord_id_at t (i + 1) in
+        let ys : List ℕ = cl_ord_id_at t (j + 1) in
+        let g : Printable xs = printable t (record_at (i + 1)) (omega arith) (good_id i l) b in
+        let o : Printable ys = printable t (record_at (j + 1)) (omega arith) (good_id j m) b in
+        rw (id_text xs ys g o (sym (id_is i l) ∙ d ∙ id_is j m)) (is_same ys)
+
+    pub other_ids : (id_at t (i + 1) ≡ id_at t (j + 1) → ⊥) → same_bytes (cl_ord_id_at t (i + 1)) (cl_ord_id_at t (j + 1)) ≡ false
+    other_ids d =
+        let xs : List ℕ = cl_ord_id_at t (i + 1) in
+        let ys : List ℕ = cl_ord_id_at t (j + 1) in
+        split (same_bytes xs ys)
+        (λ v. absurd (d (id_is i l ∙ ap (λ (zs : List ℕ). id_from zs 0) (same_is xs ys v) ∙ sym (id_is j m))))
+        (λ v. v)
 
 -- ---- the numbers read, and the key
 pub id_read : (t : List ℕ) (i a b c d : ℕ) → a ≡ le_at 8 t (128 * i + 1) → b ≡ le_at 8 t (128 * i + 1 + 8) → c ≡ le_at 8 t (128 * i + 1 + 16) → d ≡ le_at 8 t (128 * i + 1 + 24)

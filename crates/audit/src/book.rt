@@ -10,7 +10,7 @@ ghost use Rattle.audit.specs.Widths.{Narrow, Roomy, RoomySides};
 ghost use Rattle.audit.specs.Checking.{with_open, with_order, sides_of, row_of};
 
 use crate::marks::has_places;
-use crate::sound::{has_open, used};
+use crate::sound::{has_open, order_at, used};
 use matching::{Level, Order, ahead};
 use table::best::write_best;
 use table::places;
@@ -82,7 +82,7 @@ fn with_record(t: &[u8], k: usize, w: usize, s: Sides) -> Sides
     if k == w {
         return s;
     }
-    with_order(s, load(t, k))
+    with_order(s, order_at(t, k))
 }
 
 // Both sides of the n filled records, apart from order w.
@@ -100,10 +100,8 @@ fn both_sides(t: &[u8], n: usize, w: usize) -> Sides
         sell: none,
         done: true,
     };
-    let mut k = 0;
-    while k < n {
+    for k in 0..n {
         s = with_record(t, k + 1, w, s);
-        k += 1;
     }
     s
 }
@@ -126,10 +124,8 @@ pub fn opposed_to(t: &[u8], n: usize, o: Order) -> u64
     ensures { (result ≡ count_of (opposed o) (book_of t.now) n) × (result ≤ n) }
 {
     let mut c: u64 = 0;
-    let mut k = 0;
-    while k < n {
-        c = count_with(c, o, load(t, k + 1));
-        k += 1;
+    for k in 0..n {
+        c = count_with(c, o, order_at(t, k + 1));
     }
     c
 }
@@ -145,7 +141,7 @@ fn has_numbers(t: &[u8], n: usize, w: usize, next: u64) -> bool
     if n < w {
         return true;
     }
-    let o = load(t, w);
+    let o = order_at(t, w);
     if !has_open(o) {
         return true;
     }
@@ -174,7 +170,7 @@ fn has_best(t: &[u8], w: usize, s: Sides) -> bool
     ensures { result ≡ same_bytes (part_at t.now best_byte best_bytes) (row_of w s) }
 {
     let kept = octets::part_at(t, places::BEST, places::BEST_BYTES);
-    let mut row = [0u8; 31];
+    let mut row = [0u8; places::BEST_BYTES];
     if w != 0 {
         return octets::same(kept, &row);
     }

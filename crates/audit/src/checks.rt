@@ -1,73 +1,18 @@
 // Whether a table is a market: texts, and the clauses on the heading.
-ghost use Rattle.std.specs.Prelude.{◌≡◌, ◌+◌, ◌-◌, ◌<◌, ◌≤◌, not, ◌&&◌, length, ◌==◌, nat_le};
+ghost use Rattle.std.specs.Prelude.{◌≡◌, ◌+◌, ◌<◌, ◌≤◌, not, length, ◌==◌};
 ghost use Rattle.octets.specs.Octets.{all_zero, part_at};
 ghost use Rattle.octets.specs.Tests.{all_up_to};
 ghost use Rattle.table.specs.Places.{table_bytes, code_byte, code_room};
 ghost use Rattle.table.specs.Heading.{instrument_of, mpid_at, entries};
 ghost use Rattle.table.specs.Orders.{filled};
-ghost use Rattle.audit.specs.Rows.{bounds_of, AreRows, between, is_filled, list_ends};
+ghost use Rattle.audit.specs.Rows.{list_ends};
 ghost use Rattle.table.specs.Market.{is_code_character, is_text, has_names, is_entry, has_list, has_settings, has_next, has_stamp, has_work, has_kind};
 
+use crate::characters::Characters;
 use decimal::Instrument;
 use table::entries::{mode_at, mpid_at};
 use table::heading::{next, stamp, work};
 use table::places;
-
-// A row of bounds: x 32 times, and 32 zeros.
-pub fn bounds_of(x: u8) -> [u8; 64]
-    ensures { result ≡ bounds_of x }
-{
-    let bounds = [x; 32];
-    let mut row = [0u8; 64];
-    octets::copy_into(&mut row, 0, &bounds);
-    row
-}
-
-// Whether x is low or one of the span bytes above it. What is below low wraps and is above any span, so that one comparison tells.
-fn is_in(x: u8, low: u8, span: u8) -> bool
-    requires { low + span < 256 }
-    ensures { result ≡ (nat_le low x && nat_le x (low + span)) }
-{
-    std::num::wrapping_sub_u8(x, low) <= span
-}
-
-// Whether of the room bytes from place p on n are within the bounds of two rows, and zeros stand behind them. There is no way out of the
-// loop but its end, so that many bytes are taken a turn.
-fn is_filled(low: &[u8], span: &[u8], t: &[u8], p: usize, n: usize, room: usize) -> bool
-    requires { (p + room ≤ length t.now) × (n ≤ room) × (room ≤ 32) × AreRows low.now span.now }
-    ensures { result ≡ is_filled low.now span.now room t.now p n }
-{
-    let e = 32 - n;
-    let mut good = true;
-    let mut i = 0;
-    while i < room {
-        good = good & is_in(t[p + i], low[e + i], span[e + i]);
-        i += 1;
-    }
-    good
-}
-
-// The room that a text of n bytes leaves free.
-pub fn room_left(room: usize, n: usize) -> usize
-    ensures { result ≡ room - n }
-{
-    if n < room { room - n } else { 0 }
-}
-
-// Whether a text of least to room bytes, each within the bounds of two rows, stands at place p, and zeros behind it.
-pub fn is_text(low: &[u8], span: &[u8], t: &[u8], p: usize, least: usize, room: usize) -> bool
-    requires { (p + 1 + room ≤ length t.now) × (room ≤ 32) × AreRows low.now span.now }
-    ensures { result ≡ is_text (between low.now span.now) least room t.now p }
-{
-    let n = octets::wide(t[p]) as usize;
-    if n < least {
-        return false;
-    }
-    if room < n {
-        return false;
-    }
-    is_filled(low, span, t, p + 1, n, room)
-}
 
 // Whether the n bytes from place p on are zero, as one number.
 pub fn zeros_at(t: &[u8], p: usize, n: usize) -> bool
@@ -83,16 +28,18 @@ fn has_code(q: Instrument, t: &[u8]) -> bool
     ensures { result ≡ is_text (is_code_character q) 1 code_room t.now code_byte }
 {
     match q {
-        Instrument::Bonds => {
-            let low = bounds_of(48);
-            let span = bounds_of(9);
-            is_text(&low, &span, t, places::CODE, 1, places::CODE_ROOM)
-        }
-        Instrument::Equities => {
-            let low = bounds_of(33);
-            let span = bounds_of(93);
-            is_text(&low, &span, t, places::CODE, 1, places::CODE_ROOM)
-        }
+        Instrument::Bonds => Characters::between(b'0', b'9').is_text(
+            t,
+            places::CODE,
+            1,
+            places::CODE_ROOM,
+        ),
+        Instrument::Equities => Characters::between(b'!', b'~').is_text(
+            t,
+            places::CODE,
+            1,
+            places::CODE_ROOM,
+        ),
     }
 }
 
@@ -101,10 +48,9 @@ fn has_names(q: Instrument, t: &[u8]) -> bool
     requires { (length t.now ≡ table_bytes) × (q ≡ instrument_of t.now) }
     ensures { result ≡ has_names t.now }
 {
-    let low = bounds_of(33);
-    let span = bounds_of(93);
-    is_text(&low, &span, t, places::VENUE, 1, places::ID_ROOM)
-        & is_text(&low, &span, t, places::PORT, 1, places::ID_ROOM)
+    let characters = Characters::between(b'!', b'~');
+    characters.is_text(t, places::VENUE, 1, places::ID_ROOM)
+        & characters.is_text(t, places::PORT, 1, places::ID_ROOM)
         & has_code(q, t)
 }
 
@@ -114,12 +60,10 @@ fn is_fresh_mpid(t: &[u8], k: usize) -> bool
     ensures { result ≡ all_up_to (λ j. not (mpid_at t.now j == mpid_at t.now k)) k }
 {
     let m = mpid_at(t, k);
-    let mut j = 0;
-    while j < k {
+    for j in 0..k {
         if mpid_at(t, j) == m {
             return false;
         }
-        j += 1;
     }
     true
 }
@@ -138,12 +82,10 @@ fn are_entries(t: &[u8], n: usize) -> bool
     requires { (length t.now ≡ table_bytes) × (n ≤ 8) }
     ensures { result ≡ all_up_to (is_entry t.now) n }
 {
-    let mut k = 0;
-    while k < n {
+    for k in 0..n {
         if !is_entry(t, k) {
             return false;
         }
-        k += 1;
     }
     true
 }
@@ -153,12 +95,10 @@ fn ends_list(t: &[u8], n: usize) -> bool
     requires { (length t.now ≡ table_bytes) × (n ≤ 8) }
     ensures { result ≡ list_ends t.now n }
 {
-    let mut k = n;
-    while k < places::MOST_MPIDS {
+    for k in n..places::MOST_MPIDS {
         if mpid_at(t, k) + mode_at(t, k) != 0 {
             return false;
         }
-        k += 1;
     }
     true
 }
@@ -196,12 +136,12 @@ pub fn has_stamp(t: &[u8]) -> bool
     if work(t) == 0 {
         return octets::all_zero(octets::part_at(t, places::STAMP, places::STAMP_BYTES));
     }
-    let m = octets::wide(t[places::STAMP]) as usize;
+    let m = usize::from(t[places::STAMP]);
     decimal::read::is_time(stamp(t))
         & octets::all_zero(octets::part_at(
             t,
             places::STAMP_TEXT + m,
-            room_left(places::STAMP_ROOM, m),
+            places::STAMP_ROOM.saturating_sub(m),
         ))
 }
 
@@ -218,5 +158,5 @@ pub fn has_kind(t: &[u8]) -> bool
     requires { length t.now ≡ table_bytes }
     ensures { result ≡ has_kind t.now }
 {
-    octets::wide(t[places::KIND]) <= 1
+    t[places::KIND] <= 1
 }

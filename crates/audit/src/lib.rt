@@ -2,6 +2,7 @@
 #![tactic(auto)]
 
 pub mod book;
+pub mod characters;
 pub mod checks;
 pub mod marks;
 pub mod rank;

@@ -1,18 +1,18 @@
 // Whether ClOrdIDs, places and OrderIDs are distinct: marks for the keys seen, and a comparison with all before only where the
 // marks of a key are there already.
-ghost use Rattle.std.specs.Prelude.{◌≡◌, ◌+◌, ◌<◌, ◌≤◌, true, length};
+ghost use Rattle.std.specs.Prelude.{◌≡◌, ◌+◌, ◌<◌, ◌≤◌, true, not, ◌&&◌, ◌||◌, ◌==◌, length, IfSome, set, slice_index};
 ghost use Rattle.table.specs.Places.{table_bytes};
 ghost use Rattle.table.specs.Orders.{filled, book_of};
 ghost use Rattle.table.specs.Market.{has_orders, is_fresh_id, has_ids, are_fresh, has_places, has_order_ids};
-ghost use Rattle.audit.specs.Checking.{id_at, same_id, key_of, settled, is_unseen, number_at};
+ghost use Rattle.audit.specs.Checking.{id_at, key_of, low_part, high_part, is_unseen, number_key, number_at};
 
-use crate::rank::{Ranking, are_ranked};
+use crate::rank::are_ranked;
 use table::heading::next;
 use table::places;
 use table::record::{eight_at, four_at};
 
 // The 32 bytes that a ClOrdID has room for, as four numbers.
-#[derive(Clone, Copy)]
+#[derive(Clone, Copy, PartialEq, Eq)]
 pub struct Id {
     pub a: u64,
     pub b: u64,
@@ -38,26 +38,47 @@ pub fn id_at(t: &[u8], i: usize) -> Id
 fn key_of(x: Id) -> usize
     ensures { result ≡ key_of x }
 {
-    let first = std::num::wrapping_add_u64(x.a, x.b);
-    let last = std::num::wrapping_add_u64(x.c, x.d);
-    let s = std::num::wrapping_add_u64(first, last);
+    let first = x.a.wrapping_add(x.b);
+    let last = x.c.wrapping_add(x.d);
+    let s = first.wrapping_add(last);
     (s % 4294967296 * 1865102357 + s / 4294967296 * 1300110261) as usize
 }
 
-// Whether two ClOrdIDs are the same.
-pub fn same_id(x: Id, y: Id) -> bool
-    ensures { result ≡ same_id x y }
+// A mark for each value of either part of the keys seen.
+#[derive(Drop)]
+struct Marks {
+    low: [u8; 2048],
+    high: [u8; 2048],
+}
+
+// Where the marks of a key stand: the place of either part.
+fn low_part(key: usize) -> usize
+    ensures { (result ≡ low_part key) × (result < 2048) }
 {
-    if x.a != y.a {
-        return false;
+    key / 16777216 % 2048
+}
+
+fn high_part(key: usize) -> usize
+    ensures { (result ≡ high_part key) × (result < 2048) }
+{
+    key / 34359738368 % 2048
+}
+
+impl Marks {
+    // Whether both marks of a key are there.
+    fn are_there(&self, key: usize) -> bool
+        ensures { result ≡ (not (slice_index self.now.low (low_part key) == 0) && not (slice_index self.now.high (high_part key) == 0)) }
+    {
+        (self.low[low_part(key)] != 0) & (self.high[high_part(key)] != 0)
     }
-    if x.b != y.b {
-        return false;
+
+    // Puts them there.
+    fn put(&mut self, key: usize)
+        ensures { (self.new.low ≡ set self.old.low (low_part key) 1) × (self.new.high ≡ set self.old.high (high_part key) 1) }
+    {
+        self.low[low_part(key)] = 1;
+        self.high[high_part(key)] = 1;
     }
-    if x.c != y.c {
-        return false;
-    }
-    x.d == y.d
 }
 
 // Whether the ClOrdID of record j + 1 is that of no record before it, j of n that are filled with orders.
@@ -66,24 +87,22 @@ fn is_fresh_id(t: &[u8], n: usize, j: usize) -> bool
     ensures { result ≡ is_fresh_id t.now j }
 {
     let x = id_at(t, j + 1);
-    let mut i = 0;
-    while i < j {
-        if same_id(id_at(t, i + 1), x) {
+    for i in 0..j {
+        if id_at(t, i + 1) == x {
             return false;
         }
-        i += 1;
     }
     true
 }
 
-// What the ClOrdIDs of the n filled records, which are orders, show in their order; that is looked at once, when the marks of 16 were there already,
-// for only chosen ones have so many.
-fn are_chosen(t: &[u8], n: usize, old: u64) -> Ranking
+// Whether the ClOrdIDs of the n filled records, which are orders, are distinct, where their order shows it; that is looked at once, when the marks of
+// 16 were there already, for only chosen ones have so many.
+fn are_chosen(t: &[u8], n: usize, old: u64) -> Option<bool>
     requires { (length t.now ≡ table_bytes) × (n ≡ filled t.now) × (n ≤ 255) × (has_orders t.now ≡ true) × (0 < n) }
-    ensures { settled result (has_ids t.now) ≡ has_ids t.now }
+    ensures { IfSome result (λ distinct. distinct ≡ has_ids t.now) }
 {
     if old != 16 {
-        return Ranking::Unclear;
+        return None;
     }
     are_ranked(t, n)
 }
@@ -96,28 +115,23 @@ pub fn has_ids(t: &[u8], n: usize) -> bool
     if n == 0 {
         return true;
     }
-    let mut low = [0u8; 2048];
-    let mut high = [0u8; 2048];
+    let mut marks = Marks {
+        low: [0; 2048],
+        high: [0; 2048],
+    };
     let mut old: u64 = 0;
-    let mut j = 0;
-    while j < n {
+    for j in 0..n {
         let key = key_of(id_at(t, j + 1));
-        let a = key / 16777216 % 2048;
-        let b = key / 34359738368 % 2048;
-        if (low[a] != 0) & (high[b] != 0) {
-            old = std::num::wrapping_add_u64(old, 1);
-            match are_chosen(t, n, old) {
-                Ranking::Distinct => return true,
-                Ranking::Twice => return false,
-                Ranking::Unclear => {}
+        if marks.are_there(key) {
+            old = old.wrapping_add(1);
+            if let Some(distinct) = are_chosen(t, n, old) {
+                return distinct;
             }
             if !is_fresh_id(t, n, j) {
                 return false;
             }
         }
-        low[a] = 1;
-        high[b] = 1;
-        j += 1;
+        marks.put(key);
     }
     true
 }
@@ -128,12 +142,36 @@ fn is_unseen(seen: &[u32; 256], n: usize, x: u32) -> bool
     ensures { result ≡ is_unseen seen.now x n }
 {
     let mut unseen = true;
-    let mut i = 0;
-    while i < n {
+    for i in 0..n {
         unseen = unseen & (seen[i] != x);
-        i += 1;
     }
     unseen
+}
+
+// Numbers seen, and a mark for each value of their key.
+#[derive(Drop)]
+struct Seen {
+    marks: [u8; 2048],
+    numbers: [u32; 256],
+}
+
+impl Seen {
+    // Whether x is none of the first n numbers; they are looked through only where the mark of its key is there.
+    fn is_new(&self, n: usize, x: u64) -> bool
+        requires { (n ≤ 255) × (x < 4294967296) }
+        ensures { result ≡ (slice_index self.now.marks (number_key x) == 0 || is_unseen self.now.numbers x n) }
+    {
+        (self.marks[(x % 2048) as usize] == 0) || is_unseen(&self.numbers, n, x as u32)
+    }
+
+    // Adds x as number n.
+    fn add(&mut self, n: usize, x: u64)
+        requires { (n ≤ 255) × (x < 4294967296) }
+        ensures { (self.new.marks ≡ set self.old.marks (number_key x) 1) × (self.new.numbers ≡ set self.old.numbers n x) }
+    {
+        self.marks[(x % 2048) as usize] = 1;
+        self.numbers[n] = x as u32;
+    }
 }
 
 // Whether the numbers at byte p of the first n records are distinct and below the next number.
@@ -144,23 +182,19 @@ fn are_fresh(t: &[u8], p: usize, n: usize, next: u64) -> bool
     if n == 0 {
         return true;
     }
-    let mut mark = [0u8; 2048];
-    let mut seen = [0u32; 256];
-    let mut j = 0;
-    while j < n {
+    let mut seen = Seen {
+        marks: [0; 2048],
+        numbers: [0; 256],
+    };
+    for j in 0..n {
         let x = four_at(t, places::RECORD * (j + 1) + p);
         if next <= x {
             return false;
         }
-        let key = (x % 2048) as usize;
-        if mark[key] != 0 {
-            if !is_unseen(&seen, j, x as u32) {
-                return false;
-            }
+        if !seen.is_new(j, x) {
+            return false;
         }
-        mark[key] = 1;
-        seen[j] = x as u32;
-        j += 1;
+        seen.add(j, x);
     }
     true
 }

@@ -8,17 +8,33 @@ ghost use Rattle.matching.specs.Matching.{is_open, is_side_of, is_immediate};
 ghost use Rattle.matching.specs.Held.{may_minimum};
 ghost use Rattle.table.specs.Places.{table_bytes};
 ghost use Rattle.table.specs.Heading.{instrument_of, entries};
-ghost use Rattle.table.specs.Orders.{cash_at, margin_at, marks_at, filled};
+ghost use Rattle.table.specs.Orders.{cash_at, margin_at, marks_at, order_at, filled};
 ghost use Rattle.audit.specs.Widths.{Narrow};
-ghost use Rattle.audit.specs.Rows.{bounds_of, AreRows, between};
+ghost use Rattle.audit.specs.Rows.{bounds_of, between};
 ghost use Rattle.table.specs.Market.{is_text, is_cash, is_marked, is_record, is_ranged, is_known, is_within, is_shut, is_priced, is_order, has_orders};
 
-use crate::checks::{bounds_of, is_text, zeros_at};
+use crate::characters::Characters;
+use crate::checks::zeros_at;
 use decimal::Instrument;
 use matching::Order;
 use table::entries::mpid_at;
 use table::places;
 use table::record::{capacity, classification, four_at, load, order_id};
+
+// The records of a table, with what an order is checked against: what the market trades, the characters of texts, and the number of MPIDs.
+#[derive(Drop)]
+struct Records<'a> {
+    table: &'a [u8],
+    instrument: Instrument,
+    characters: Characters,
+    mpids: usize,
+    ghost long: { length table.now ≡ table_bytes },
+    ghost traded: { instrument ≡ instrument_of table.now },
+    ghost low: { characters.low ≡ bounds_of 32 },
+    ghost span: { characters.span ≡ bounds_of 94 },
+    ghost listed: { mpids ≡ entries table.now },
+    ghost few: { mpids ≤ 8 },
+}
 
 // Whether the ten bytes of an account's room, from place p on, are zero.
 fn is_empty(t: &[u8], p: usize) -> bool
@@ -31,15 +47,15 @@ fn is_empty(t: &[u8], p: usize) -> bool
     zeros_at(t, p + 8, 2)
 }
 
-// Whether an account or none stands at place p, by rows of bounds. Most orders have none, and then all its room is zeros.
-fn is_account(low: &[u8], span: &[u8], t: &[u8], p: usize) -> bool
-    requires { (p + 11 ≤ length t.now) × AreRows low.now span.now }
-    ensures { result ≡ is_text (between low.now span.now) 0 10 t.now p }
+// Whether an account of such characters or none stands at place p. Most orders have none, and then all its room is zeros.
+fn is_account(characters: &Characters, t: &[u8], p: usize) -> bool
+    requires { p + 11 ≤ length t.now }
+    ensures { result ≡ is_text (between characters.now.low characters.now.span) 0 10 t.now p }
 {
-    if octets::wide(t[p]) == 0 {
+    if t[p] == 0 {
         return is_empty(t, p + 1);
     }
-    is_text(low, span, t, p, 0, places::ACCOUNT_ROOM)
+    characters.is_text(t, p, 0, places::ACCOUNT_ROOM)
 }
 
 // Whether the 34 bytes at the end of a record that nothing uses, from place p on, are zero.
@@ -89,28 +105,6 @@ fn is_marked(q: Instrument, t: &[u8], i: usize) -> bool
     has_cash(q, t, i)
 }
 
-// Whether the texts, the marks, the OrderID and the unused bytes of record i are in order; low and span are the rows of the bounds of
-// its texts.
-fn is_record(q: Instrument, low: &[u8], span: &[u8], t: &[u8], i: usize) -> bool
-    requires { (length t.now ≡ table_bytes) × (q ≡ instrument_of t.now) × (low.now ≡ bounds_of 32) × (span.now ≡ bounds_of 94) × (i < 256) }
-    ensures { result ≡ is_record t.now i }
-{
-    let b = places::RECORD * i;
-    if !is_text(low, span, t, b, 1, places::CL_ORD_ID_ROOM) {
-        return false;
-    }
-    if !is_account(low, span, t, b + places::ACCOUNT) {
-        return false;
-    }
-    if !is_marked(q, t, i) {
-        return false;
-    }
-    if order_id(t, i) == 0 {
-        return false;
-    }
-    is_unused(t, b + places::RECORD_END)
-}
-
 // Whether the time in force is one, and MinQty one that it allows.
 fn is_timed(o: Order) -> bool
     ensures { result ≡ ((o.tif == 0 || is_immediate o) && may_minimum o) }
@@ -147,9 +141,8 @@ fn highest(q: Instrument) -> u64
     }
 }
 
-// Whether each number of an order is in its range; top is the market's highest level.
-fn is_ranged(q: Instrument, top: u64, o: Order) -> bool
-    requires { top ≡ highest q }
+// Whether each number of an order is in its range.
+fn is_ranged(q: Instrument, o: Order) -> bool
     ensures { result ≡ is_ranged q o }
 {
     if !is_side(q, o.side) {
@@ -158,7 +151,7 @@ fn is_ranged(q: Instrument, top: u64, o: Order) -> bool
     if !is_timed(o) {
         return false;
     }
-    (1 <= o.level) & (o.level <= top) & (1 <= o.qty) & (o.qty <= 999999999) & (1 <= o.place)
+    (1 <= o.level) & (o.level <= highest(q)) & (1 <= o.qty) & (o.qty <= 999999999) & (1 <= o.place)
 }
 
 // Whether an MPID is none, or one of the n that are listed. All places of the list are looked at, so that no way out depends on where it
@@ -168,12 +161,18 @@ fn is_known(t: &[u8], n: usize, m: u64) -> bool
     ensures { result ≡ is_known t.now m }
 {
     let mut found = m == 0;
-    let mut k = 0;
-    while k < places::MOST_MPIDS {
+    for k in 0..places::MOST_MPIDS {
         found = found | ((mpid_at(t, k) == m) & (k < n));
-        k += 1;
     }
     found
+}
+
+// Record i as an order. Whatever its bytes are, each number fits those that it has.
+pub fn order_at(t: &[u8], i: usize) -> Order
+    requires { (length t.now ≡ table_bytes) × (i < 256) }
+    ensures { (result ≡ order_at t.now i) × Narrow result }
+{
+    load(t, i)
 }
 
 // What is executed, decremented and canceled.
@@ -208,53 +207,77 @@ fn is_shut(o: Order) -> bool
     (o.canceled == 0) | (o.qty <= used(o))
 }
 
-// Whether the sum is what the executed quantity can come to at levels up to top, the market's highest.
-fn is_priced(q: Instrument, top: u64, o: Order) -> bool
-    requires { Narrow o × (top ≡ highest q) }
+// Whether the sum is what the executed quantity can come to at levels up to the market's highest.
+fn is_priced(q: Instrument, o: Order) -> bool
+    requires { Narrow o }
     ensures { result ≡ is_priced q o }
 {
-    (o.executed <= o.sum) & (o.sum <= o.executed * top)
+    (o.executed <= o.sum) & (o.sum <= o.executed * highest(q))
 }
 
-// Whether record i is an order; q is what the market trades, low and span are the rows of the bounds of its texts, top its highest level,
-// n the number of MPIDs.
-fn is_order(q: Instrument, low: &[u8], span: &[u8], top: u64, t: &[u8], n: usize, i: usize) -> bool
-    requires { (length t.now ≡ table_bytes) × (q ≡ instrument_of t.now) × (low.now ≡ bounds_of 32) × (span.now ≡ bounds_of 94) × (top ≡ highest q) × (n ≡ entries t.now) × (n ≤ 8) × (i < 256) }
-    ensures { result ≡ is_order t.now i }
-{
-    if !is_record(q, low, span, t, i) {
-        return false;
+impl Records<'_> {
+    // Whether the texts, the marks, the OrderID and the unused bytes of record i are in order.
+    fn is_record(&self, i: usize) -> bool
+        requires { i < 256 }
+        ensures { result ≡ is_record self.now.table.now i }
+    {
+        let t = self.table;
+        let b = places::RECORD * i;
+        if !self.characters.is_text(t, b, 1, places::CL_ORD_ID_ROOM) {
+            return false;
+        }
+        if !is_account(&self.characters, t, b + places::ACCOUNT) {
+            return false;
+        }
+        if !is_marked(self.instrument, t, i) {
+            return false;
+        }
+        if order_id(t, i) == 0 {
+            return false;
+        }
+        is_unused(t, b + places::RECORD_END)
     }
-    let o = load(t, i);
-    if !is_within(o) {
-        return false;
+
+    // Whether record i is an order.
+    fn is_order(&self, i: usize) -> bool
+        requires { i < 256 }
+        ensures { result ≡ is_order self.now.table.now i }
+    {
+        if !self.is_record(i) {
+            return false;
+        }
+        let o = order_at(self.table, i);
+        if !is_within(o) {
+            return false;
+        }
+        if !is_shut(o) {
+            return false;
+        }
+        if !is_priced(self.instrument, o) {
+            return false;
+        }
+        if !is_ranged(self.instrument, o) {
+            return false;
+        }
+        is_known(self.table, self.mpids, o.mpid)
     }
-    if !is_shut(o) {
-        return false;
-    }
-    if !is_priced(q, top, o) {
-        return false;
-    }
-    if !is_ranged(q, top, o) {
-        return false;
-    }
-    is_known(t, n, o.mpid)
 }
 
-// Whether each of the m filled records is; q is what the market trades, n the number of MPIDs.
+// Whether each of the m filled records is an order; q is what the market trades, n the number of MPIDs.
 pub fn has_orders(q: Instrument, t: &[u8], n: usize, m: usize) -> bool
     requires { (length t.now ≡ table_bytes) × (q ≡ instrument_of t.now) × (n ≡ entries t.now) × (n ≤ 8) × (m ≡ filled t.now) × (m ≤ 255) }
     ensures { result ≡ has_orders t.now }
 {
-    let top = highest(q);
-    let low = bounds_of(32);
-    let span = bounds_of(94);
-    let mut k = 0;
-    while k < m {
-        if !is_order(q, &low, &span, top, t, n, k + 1) {
+    let records = Records {
+        table: t,
+        instrument: q,
+        characters: Characters::between(b' ', b'~'),
+        mpids: n,
+    };
+    for k in 0..m {
+        if !records.is_order(k + 1) {
             return false;
         }
-        k += 1;
     }
     true
 }

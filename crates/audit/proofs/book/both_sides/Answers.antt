@@ -6,17 +6,8 @@ use Rattle.audit.proofs.book.both_sides.Goals as goal
 pub loop-k-init : goal.loop-k-init
 loop-k-init c = swept_none
 
-pub overflow_add-k : goal.overflow_add-k
-overflow_add-k c = omega arith
-
 pub with_record-s-requires : goal.with_record-s-requires
 with_record-s-requires c = (c.requires.0, omega arith, swept_roomy c.loop-k.invariant (λ j. (c.type_inv.t j).fits) c.loop-k-test.true c.requires.2)
-
-pub overflow_add-k-in-loop-k : goal.overflow_add-k-in-loop-k
-overflow_add-k-in-loop-k c = omega arith
-
-pub loop-k-smaller : goal.loop-k-smaller
-loop-k-smaller c = omega arith
 
 pub loop-k-preserved : goal.loop-k-preserved
 loop-k-preserved c = swept_more _ c.loop-k.invariant c.requires.1 c.loop-k-test.true c.with_record-s.ensures

@@ -1,5 +1,4 @@
 -- `audit::has_numbers` meets its contract.
-use Rattle.audit.proofs.Amounts.{narrow_load}
 use Rattle.audit.proofs.Walked.{numbers_none, numbers_past, numbers_shut, numbers_is}
 use Rattle.audit.proofs.book.has_numbers.Goals as goal
 
@@ -9,11 +8,8 @@ returns-then-w-eq0 c = numbers_none _ _ _ _ c.requires.1 c.if-w-eq0.true
 pub returns-then-n-w : goal.returns-then-n-w
 returns-then-n-w c = numbers_past _ _ _ _ c.requires.1 c.if-n-w.true
 
-pub has_open-requires : goal.has_open-requires
-has_open-requires c = narrow_load _ _ (λ j. (c.type_inv.t j).fits) c.load-o.ensures
-
 pub returns-then-not-has_open : goal.returns-then-not-has_open
-returns-then-not-has_open c = numbers_shut _ _ _ _ c.requires.1 _ _ c.if-w-eq0.false c.if-n-w.false c.load-o.ensures c.has_open.ensures (c.if-not-has_open.true)
+returns-then-not-has_open c = numbers_shut _ _ _ _ c.requires.1 _ _ c.if-w-eq0.false c.if-n-w.false c.order_at-o.ensures.0 c.has_open.ensures (c.if-not-has_open.true)
 
 pub returns : goal.returns
-returns c = numbers_is _ _ _ _ c.requires.1 _ _ _ c.if-w-eq0.false c.if-n-w.false c.load-o.ensures c.has_open.ensures (c.if-not-has_open.false) c.opposed_to.ensures.0
+returns c = numbers_is _ _ _ _ c.requires.1 _ _ _ c.if-w-eq0.false c.if-n-w.false c.order_at-o.ensures.0 c.has_open.ensures (c.if-not-has_open.false) c.opposed_to.ensures.0

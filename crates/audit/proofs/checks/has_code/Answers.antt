@@ -1,14 +1,7 @@
 -- `audit::has_code` meets its contract.
-use Rattle.audit.proofs.Filled.{rows_are}
 use Rattle.audit.proofs.Checked.{code_digits, code_graphic}
 use Rattle.std.proofs.Common.{rules}
 use Rattle.audit.proofs.checks.has_code.Goals as goal
-
-pub is_text-requires : goal.is_text-requires
-is_text-requires c = search (rules, rows_are)
-
-pub is_text-requires-in-Equities : goal.is_text-requires-in-Equities
-is_text-requires-in-Equities c = search (rules, rows_are)
 
 pub returns-in-Bonds : goal.returns-in-Bonds
 returns-in-Bonds c = search (rules, code_digits)

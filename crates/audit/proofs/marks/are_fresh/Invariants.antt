@@ -1,12 +1,8 @@
 -- `audit::are_fresh` meets its contract: the numbers passed are distinct and below the next number, are noted, and their keys have marks.
-use Rattle.std.proofs.Common.{◌-◌}
 use Rattle.octets.proofs.Ranges.{Passed}
 use Rattle.audit.specs.Checking.{number_at}
 use Rattle.audit.proofs.Marked.{Marked, Noted, key_at, fresh}
 use Rattle.audit.proofs.marks.are_fresh.Given as goal
 
 abbrev pub invariant-loop-j : goal.invariant-loop-j
-invariant-loop-j l = Passed (fresh (number_at l.t l.p) l.next) l.n l.j × Marked (key_at (number_at l.t l.p)) l.mark l.j × Noted (number_at l.t l.p) l.seen l.j
-
-abbrev pub decreases-loop-j : goal.decreases-loop-j
-decreases-loop-j l = l.n - l.j
+invariant-loop-j l = Passed (fresh (number_at l.t l.p) l.next) l.n l.j × Marked (key_at (number_at l.t l.p)) l.seen.marks l.j × Noted (number_at l.t l.p) l.seen.numbers l.j

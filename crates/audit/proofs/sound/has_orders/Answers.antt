@@ -1,5 +1,5 @@
 -- `audit::has_orders` meets its contract: the records passed are orders.
-use Rattle.std.proofs.Common.{sym, ◌∙◌, arith}
+use Rattle.std.proofs.Common.{sym, ◌∙◌}
 use Rattle.octets.proofs.Ranges.{passed_none, passed_more, passed_stop, passed_end}
 use Rattle.table.specs.Market.{has_orders}
 use Rattle.audit.proofs.sound.has_orders.Goals as goal
@@ -7,20 +7,11 @@ use Rattle.audit.proofs.sound.has_orders.Goals as goal
 pub loop-k-init : goal.loop-k-init
 loop-k-init c = passed_none
 
-pub overflow_add-k : goal.overflow_add-k
-overflow_add-k c = omega arith
-
 pub returns-then-not-is_order : goal.returns-then-not-is_order
 unfolding has_orders
 returns-then-not-is_order c =
     rw (← c.requires.4)
     (sym (passed_stop c.loop-k.invariant c.loop-k-test.true (sym c.is_order.ensures ∙ c.if-not-is_order.true)))
-
-pub overflow_add-k-in-loop-k : goal.overflow_add-k-in-loop-k
-overflow_add-k-in-loop-k c = omega arith
-
-pub loop-k-smaller : goal.loop-k-smaller
-loop-k-smaller c = omega arith
 
 pub loop-k-preserved : goal.loop-k-preserved
 loop-k-preserved c = passed_more c.loop-k.invariant c.loop-k-test.true (sym c.is_order.ensures ∙ c.if-not-is_order.false)

@@ -1,7 +1,7 @@
 -- `audit::is_text` meets its contract.
 use Rattle.audit.proofs.Checked.{text_short, text_long, text_whole}
 use Rattle.std.proofs.Common.{rules}
-use Rattle.audit.proofs.checks.is_text.Goals as goal
+use Rattle.audit.proofs.characters.Characters.is_text.Goals as goal
 
 pub returns-then-n-least : goal.returns-then-n-least
 returns-then-n-least c = search (rules, text_short)
