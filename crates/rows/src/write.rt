@@ -1,4 +1,5 @@
-// The bytes of an execution report's row, part by part. Each function answers the place behind what it wrote.
+// The bytes of an execution report's row, part by part. Each function answers the place behind what it wrote. The bytes of the message
+// (`sent`) and of the table (`stored`) stay two parameters: report::write takes two, so that a struct would be taken apart at each call.
 ghost use Rattle.octets.specs.Written.{Room, Wrote};
 ghost use Rattle.matching.specs.Held.{Covered, Sound};
 ghost use Rattle.report.specs.Fields.{value_bytes, written, field_bytes, row_bytes};
@@ -73,18 +74,17 @@ fn put_first(out: &mut [u8], at: usize, s: Stamp, o: Shown, sent: &[u8], stored:
 fn put_fill(
     out: &mut [u8],
     at: usize,
-    trade: bool,
     q: Instrument,
-    f: Fill,
+    fill: Option<Fill>,
     sent: &[u8],
     stored: &[u8],
 ) -> usize
-    requires { Room out.old at (row_bytes sent.now stored.now (fill_part trade q f)) }
-    ensures { Wrote out.old at (row_bytes sent.now stored.now (fill_part trade q f)) result out.new }
+    requires { Room out.old at (row_bytes sent.now stored.now (fill_part q fill)) }
+    ensures { Wrote out.old at (row_bytes sent.now stored.now (fill_part q fill)) result out.new }
 {
-    if !trade {
+    let Some(f) = fill else {
         return at;
-    }
+    };
     let a = put_price(out, at, 31, q, f.level);
     put_number(out, a, 32, f.quantity)
 }
@@ -145,18 +145,17 @@ fn put_state(out: &mut [u8], at: usize, o: Shown, kind: u8, sent: &[u8], stored:
 fn put_others(
     out: &mut [u8],
     at: usize,
-    trade: bool,
     q: Instrument,
-    f: Fill,
+    fill: Option<Fill>,
     sent: &[u8],
     stored: &[u8],
 ) -> usize
-    requires { Room out.old at (row_bytes sent.now stored.now (others_part trade q f)) }
-    ensures { Wrote out.old at (row_bytes sent.now stored.now (others_part trade q f)) result out.new }
+    requires { Room out.old at (row_bytes sent.now stored.now (others_part q fill)) }
+    ensures { Wrote out.old at (row_bytes sent.now stored.now (others_part q fill)) result out.new }
 {
-    if !trade {
+    let Some(f) = fill else {
         return at;
-    }
+    };
     match q {
         Instrument::Bonds => {
             let a = put_number(out, at, 375, f.other);
@@ -178,20 +177,13 @@ fn put_own(out: &mut [u8], at: usize, q: Instrument, o: Shown, sent: &[u8], stor
 }
 
 // 851 and 880 of a trade.
-fn put_liquidity(
-    out: &mut [u8],
-    at: usize,
-    trade: bool,
-    f: Fill,
-    sent: &[u8],
-    stored: &[u8],
-) -> usize
-    requires { Room out.old at (row_bytes sent.now stored.now (liquidity_part trade f)) }
-    ensures { Wrote out.old at (row_bytes sent.now stored.now (liquidity_part trade f)) result out.new }
+fn put_liquidity(out: &mut [u8], at: usize, fill: Option<Fill>, sent: &[u8], stored: &[u8]) -> usize
+    requires { Room out.old at (row_bytes sent.now stored.now (liquidity_part fill)) }
+    ensures { Wrote out.old at (row_bytes sent.now stored.now (liquidity_part fill)) result out.new }
 {
-    if !trade {
+    let Some(f) = fill else {
         return at;
-    }
+    };
     let a = put_number(out, at, 851, f.liquidity);
     put_number(out, a, 880, f.first)
 }
@@ -264,7 +256,7 @@ fn put_upper(
     let orig = v.orig;
     let a = put_header(out, at, b'8', s, sent, stored);
     let b = put_first(out, a, s, o, sent, stored);
-    let c = put_fill(out, b, v.trade, q, fill, sent, stored);
+    let c = put_fill(out, b, q, fill, sent, stored);
     put_terms(out, c, q, o, v.status, orig, sent, stored)
 }
 
@@ -287,9 +279,9 @@ fn put_lower(
     let reason = v.reason;
     let a = put_details(out, at, s, o, sent, stored);
     let b = put_state(out, a, o, v.kind, sent, stored);
-    let c = put_others(out, b, v.trade, q, fill, sent, stored);
+    let c = put_others(out, b, q, fill, sent, stored);
     let d = put_reason(out, c, q, o, reason, sent, stored);
-    let e = put_liquidity(out, d, v.trade, fill, sent, stored);
+    let e = put_liquidity(out, d, fill, sent, stored);
     put_last(out, e, q, o, sent, stored)
 }
 

@@ -4,18 +4,11 @@ use Rattle.octets.proofs.Runs.{wrote_length}
 use Rattle.report.specs.Fields.{field_bytes}
 use Rattle.rows.specs.Rows.{digit}
 use Rattle.rows.specs.Parts.{details_part}
-use native.Mathlib.Omega.{arith}
 use Rattle.rows.proofs.write.put_details.Goals as goal
 
 pub put_char-a-requires : goal.put_char-a-requires
 unfolding details_part digit field_bytes
 put_char-a-requires c = ahead_room _ _ (ahead_all c.requires)
-
-pub overflow_cast-x : goal.overflow_cast-x
-overflow_cast-x c = omega arith
-
-pub overflow_add-x : goal.overflow_add-x
-overflow_add-x c = omega arith
 
 pub put_char-b-requires : goal.put_char-b-requires
 unfolding details_part digit field_bytes
@@ -24,12 +17,6 @@ put_char-b-requires c = ahead_room _ _ (ahead_more _ _ (ahead_all c.requires) c.
 pub put_as-c-requires : goal.put_as-c-requires
 unfolding details_part digit field_bytes
 put_as-c-requires c = ahead_room _ _ (ahead_more _ _ (ahead_more _ _ (ahead_all c.requires) c.put_char-a.ensures) c.put_char-b.ensures)
-
-pub overflow_cast-x-2 : goal.overflow_cast-x-2
-overflow_cast-x-2 c = omega arith
-
-pub overflow_add-x-2 : goal.overflow_add-x-2
-overflow_add-x-2 c = omega arith
 
 pub put_char-d-requires : goal.put_char-d-requires
 unfolding details_part digit field_bytes

@@ -4,14 +4,7 @@ use Rattle.octets.proofs.Runs.{wrote_length}
 use Rattle.report.specs.Fields.{field_bytes}
 use Rattle.rows.specs.Rows.{digit}
 use Rattle.rows.specs.Parts.{last_part}
-use native.Mathlib.Omega.{arith}
 use Rattle.rows.proofs.write.put_last.Goals as goal
-
-pub overflow_cast-o : goal.overflow_cast-o
-overflow_cast-o c = omega arith
-
-pub overflow_add-o : goal.overflow_add-o
-overflow_add-o c = omega arith
 
 pub put_char-a-requires : goal.put_char-a-requires
 unfolding last_part digit field_bytes

@@ -3,18 +3,11 @@ use Rattle.octets.proofs.Runs.{wrote_none, wrote_length}
 use borrow.Author.Tests.{eq-eqb, ne_eqb}
 use Rattle.report.specs.Fields.{field_bytes}
 use Rattle.rows.specs.Rows.{digit, or_digit, last_field}
-use native.Mathlib.Omega.{arith}
 use Rattle.rows.proofs.write.put_margin.Goals as goal
 
 pub returns-then-o-eq0 : goal.returns-then-o-eq0
 unfolding last_field or_digit digit field_bytes
 returns-then-o-eq0 c = rw c.in-Equities.is (rw (eq-eqb _ 0 c.if-o-eq0.true) (wrote_none _ _))
-
-pub overflow_cast-o : goal.overflow_cast-o
-overflow_cast-o c = omega arith
-
-pub overflow_add-o : goal.overflow_add-o
-overflow_add-o c = omega arith
 
 pub put_char-requires : goal.put_char-requires
 unfolding last_field or_digit digit field_bytes

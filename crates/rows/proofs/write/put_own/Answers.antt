@@ -2,18 +2,11 @@
 use Rattle.octets.proofs.Runs.{wrote_length}
 use Rattle.report.specs.Fields.{field_bytes}
 use Rattle.rows.specs.Rows.{digit, own_field}
-use native.Mathlib.Omega.{arith}
 use Rattle.rows.proofs.write.put_own.Goals as goal
 
 pub put_number-requires : goal.put_number-requires
 unfolding own_field field_bytes
 put_number-requires c = rw c.in-Bonds.is at c.requires
-
-pub overflow_cast-o : goal.overflow_cast-o
-overflow_cast-o c = omega arith
-
-pub overflow_add-o : goal.overflow_add-o
-overflow_add-o c = omega arith
 
 pub put_char-requires : goal.put_char-requires
 unfolding own_field digit field_bytes
