@@ -1,5 +1,6 @@
 // The bytes of an execution report's row, part by part. Each function answers the place behind what it wrote. The bytes of the message
 // (`sent`) and of the table (`stored`) stay two parameters: report::write takes two, so that a struct would be taken apart at each call.
+ghost use Rattle.std.specs.Prelude.{[], ◌∷◌, ◌+◌, ◌%◌};
 ghost use Rattle.octets.specs.Written.{Room, Wrote};
 ghost use Rattle.matching.specs.Held.{Covered, Sound};
 ghost use Rattle.report.specs.Fields.{value_bytes, written, field_bytes, row_bytes};
@@ -38,6 +39,14 @@ fn put_header(out: &mut [u8], at: usize, kind: u8, s: Stamp, sent: &[u8], stored
     let d = put_group(out, c, q, sent, stored);
     let e = put_as(out, d, 52, time, sent, stored);
     put_as(out, e, 56, port, sent, stored)
+}
+
+// A number of one digit.
+fn put_digit(out: &mut [u8], at: usize, tag: u64, n: u64) -> usize
+    requires { Room out.old at (written tag ((48 + n % 10) ∷ [])) }
+    ensures { Wrote out.old at (written tag ((48 + n % 10) ∷ [])) result out.new }
+{
+    put_char(out, at, tag, b'0' + (n % 10) as u8)
 }
 
 // A number, or nothing where it is 0.
@@ -121,9 +130,9 @@ fn put_details(out: &mut [u8], at: usize, s: Stamp, o: Shown, sent: &[u8], store
     let code = o.code;
     let time = s.time;
     let a = put_char(out, at, 47, o.capacity);
-    let b = put_char(out, a, 54, 48 + (x.side % 10) as u8);
+    let b = put_digit(out, a, 54, x.side);
     let c = put_as(out, b, 55, code, sent, stored);
-    let d = put_char(out, c, 59, 48 + (x.tif % 10) as u8);
+    let d = put_digit(out, c, 59, x.tif);
     let e = put_as(out, d, 60, time, sent, stored);
     let f = put_or_number(out, e, 109, x.mpid, sent, stored);
     put_or_number(out, f, 110, x.minqty, sent, stored)
@@ -172,7 +181,7 @@ fn put_own(out: &mut [u8], at: usize, q: Instrument, o: Shown, sent: &[u8], stor
 {
     match q {
         Instrument::Bonds => put_number(out, at, 423, 9),
-        Instrument::Equities => put_char(out, at, 544, 48 + (o.cash % 10) as u8),
+        Instrument::Equities => put_digit(out, at, 544, o.cash),
     }
 }
 
@@ -206,7 +215,7 @@ fn put_margin(
             if o.margin == 0 {
                 return at;
             }
-            put_char(out, at, 8214, 48 + (o.margin % 10) as u8)
+            put_digit(out, at, 8214, o.margin)
         }
     }
 }
@@ -233,7 +242,7 @@ fn put_last(out: &mut [u8], at: usize, q: Instrument, o: Shown, sent: &[u8], sto
     requires { Room out.old at (row_bytes sent.now stored.now (last_part q o)) }
     ensures { Wrote out.old at (row_bytes sent.now stored.now (last_part q o)) result out.new }
 {
-    let a = put_char(out, at, 8060, 48 + (o.class % 10) as u8);
+    let a = put_digit(out, at, 8060, o.class);
     put_margin(out, a, q, o, sent, stored)
 }
 
