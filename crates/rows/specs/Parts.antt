@@ -1,7 +1,7 @@
 -- The four kinds of execution report as one row, in the parts that are written one after another: a field that a kind has not is
 -- absent, or stands in a part that is left out. Nothing here need be believed: proofs/Executions shows that the bytes are those of the rows
 -- of each kind.
-use Rattle.std.specs.Prelude.{Bool, true, false, cond, List, [], ◌∷◌, ◌++◌, ℕ, ◌+◌, ◌%◌}
+use Rattle.std.specs.Prelude.{Option, Some, None, List, [], ◌∷◌, ◌++◌, ℕ, ◌+◌, ◌%◌}
 use Rattle.octets.specs.Characters.{byte}
 use Rattle.decimal.specs.declared.Instrument.{Instrument}
 use Rattle.matching.specs.Matching.{open_of}
@@ -27,8 +27,9 @@ first_part s o =
     ∷ 20 is char "0"
     ∷ []
 
-unfoldable pub fill_part : Bool → Instrument → Fill → List Field
-fill_part trade q f = cond trade (31 is Level q f.level ∷ 32 is Number f.quantity ∷ []) []
+unfoldable pub fill_part : Instrument → Option Fill → List Field
+fill_part q (Some f) = 31 is Level q f.level ∷ 32 is Number f.quantity ∷ []
+fill_part q None = []
 
 unfoldable pub terms_part : Instrument → Shown → ℕ → Value → List Field
 terms_part q o status orig =
@@ -54,14 +55,16 @@ details_part s o =
 unfoldable pub state_part : Shown → ℕ → List Field
 state_part o kind = 150 is Char kind ∷ 151 is Number (open_of o.order) ∷ []
 
-unfoldable pub others_part : Bool → Instrument → Fill → List Field
-others_part trade q f = cond trade (other_field q f ∷ count_field q ∷ []) []
+unfoldable pub others_part : Instrument → Option Fill → List Field
+others_part q (Some f) = other_field q f ∷ count_field q ∷ []
+others_part q None = []
 
 unfoldable pub reason_part : Instrument → Shown → Value → List Field
 reason_part q o reason = 378 is reason ∷ own_field q o ∷ []
 
-unfoldable pub liquidity_part : Bool → Fill → List Field
-liquidity_part trade f = cond trade (851 is Number f.liquidity ∷ 880 is Number f.first ∷ []) []
+unfoldable pub liquidity_part : Option Fill → List Field
+liquidity_part (Some f) = 851 is Number f.liquidity ∷ 880 is Number f.first ∷ []
+liquidity_part None = []
 
 unfoldable pub last_part : Instrument → Shown → List Field
 last_part q o = 8060 is digit o.class ∷ last_field q o ∷ []
@@ -71,47 +74,42 @@ last_part q o = 8060 is digit o.class ∷ last_field q o ∷ []
 unfoldable pub upper_part : Stamp → Shown → Told → List Field
 upper_part s o v =
     header (byte "8") s
-    ++ (first_part s o ++ (fill_part v.trade s.of v.fill ++ terms_part s.of o v.status v.orig))
+    ++ (first_part s o ++ (fill_part s.of v.fill ++ terms_part s.of o v.status v.orig))
 
 unfoldable pub lower_part : Stamp → Shown → Told → List Field
 lower_part s o v =
     details_part s o
     ++ (state_part o v.kind
-    ++ (others_part v.trade s.of v.fill
-    ++ (reason_part s.of o v.reason ++ (liquidity_part v.trade v.fill ++ last_part s.of o))))
+    ++ (others_part s.of v.fill
+    ++ (reason_part s.of o v.reason ++ (liquidity_part v.fill ++ last_part s.of o))))
 
 unfoldable pub execution_fields : Stamp → Shown → Told → List Field
 execution_fields s o v = upper_part s o v ++ lower_part s o v
 
 -- ---- the kinds
 
-abbrev pub no_fill : Fill
-no_fill = record { quantity = 0; level = 0; other = 0; first = 0; liquidity = 0 }
-
 abbrev pub accepted_told : Told
-accepted_told = record { trade = false; status = byte "0"; kind = byte "0"; orig = Absent; reason = Absent; fill = no_fill }
+accepted_told = record { status = byte "0"; kind = byte "0"; orig = Absent; reason = Absent; fill = None }
 
 abbrev pub replaced_told : Shown → Ground → Told
 replaced_told o w =
     record {
-      trade = false;
       status = byte "0" + replaced_status o.order % 10;
       kind = byte "5";
       orig = w.orig;
       reason = w.reason;
-      fill = no_fill;
+      fill = None;
     }
 
 abbrev pub canceled_told : Ground → Told
-canceled_told w = record { trade = false; status = byte "4"; kind = byte "4"; orig = w.orig; reason = w.reason; fill = no_fill }
+canceled_told w = record { status = byte "4"; kind = byte "4"; orig = w.orig; reason = w.reason; fill = None }
 
 abbrev pub traded_told : Shown → Fill → Told
 traded_told o f =
     record {
-      trade = true;
       status = byte "0" + trade_status o.order % 10;
       kind = byte "0" + trade_status o.order % 10;
       orig = Absent;
       reason = Absent;
-      fill = f;
+      fill = Some f;
     }

@@ -106,15 +106,24 @@ pub struct Faulty {
     pub reason: u64,
 }
 
-// What makes an execution report the kind it is: its 39 and 150, its 41 and 378, or none, and the fill of a trade.
+// What makes an execution report the kind it is: its 39 and 150, its 41 and 378, or none, and of a Trade its fill.
 #[derive(Clone, Copy)]
 pub struct Told {
-    pub trade: bool,
     pub status: u8,
     pub kind: u8,
     pub orig: Value,
     pub reason: Value,
-    pub fill: Fill,
+    pub fill: Option<Fill>,
+}
+
+// A field of a row: its tag and its value.
+macro_rules! field {
+    ($tag:expr, $value:expr) => {
+        Field {
+            tag: $tag,
+            value: $value,
+        }
+    };
 }
 
 // The text at a place.
@@ -133,7 +142,7 @@ pub fn text(p: Place) -> Value
     }
 }
 
-// A number, or no value where it is 0.
+// A number, or no value where it is 0: an order is shown as its record keeps it, and a record keeps 0 for none.
 fn or_number(n: u64) -> Value
     ensures { result ≡ or_number n }
 {
@@ -337,146 +346,61 @@ fn figures_of(q: Instrument, o: Shown) -> Figures
     }
 }
 
+// The rows stand as tables, so that each can be held beside its table in specs/Rows. Each is 36 fields long, which is what
+// report::write takes; behind its own are fields of no value.
+
 // The row of Accepted.
 pub fn accepted_row(s: Stamp, o: Shown) -> [Field; 36]
     requires { Sound o.order }
     ensures { result ≡ padded (accepted_row s o) }
 {
-    let none = Field {
-        tag: 0,
-        value: Value::Absent,
-    };
+    let none = field!(0, Value::Absent);
     let x = o.order;
     let q = s.of;
     let group = group_of(q);
-    let time = s.time;
-    let venue = s.venue;
-    let port = s.port;
-    let code = o.code;
-    let id = o.id;
-    let account = o.account;
     let g = figures_of(q, o);
-    let own = g.own;
-    let last = g.last;
-    let client = g.client;
-    let least = g.least;
-    let side = g.side;
-    let tif = g.tif;
-    let class = g.class;
     [
-        Field {
-            tag: 35,
-            value: Value::Char(b'8'),
-        },
-        Field {
-            tag: 34,
-            value: Value::Number(s.number),
-        },
-        Field {
-            tag: 49,
-            value: venue,
-        },
-        Field {
-            tag: 50,
-            value: group,
-        },
-        Field {
-            tag: 52,
-            value: time,
-        },
-        Field {
-            tag: 56,
-            value: port,
-        },
-        Field {
-            tag: 1,
-            value: account,
-        },
-        Field {
-            tag: 6,
-            value: Value::Mean {
+        field!(35, Value::Char(b'8')),
+        field!(34, Value::Number(s.number)),
+        field!(49, s.venue),
+        field!(50, group),
+        field!(52, s.time),
+        field!(56, s.port),
+        field!(1, o.account),
+        field!(
+            6,
+            Value::Mean {
                 of: q,
-                mean: g.mean,
-            },
-        },
-        Field { tag: 11, value: id },
-        Field {
-            tag: 14,
-            value: Value::Number(x.executed),
-        },
-        Field {
-            tag: 17,
-            value: Value::Number(s.number),
-        },
-        Field {
-            tag: 20,
-            value: Value::Char(b'0'),
-        },
-        Field {
-            tag: 37,
-            value: Value::Number(o.orderid),
-        },
-        Field {
-            tag: 38,
-            value: Value::Number(x.qty),
-        },
-        Field {
-            tag: 39,
-            value: Value::Char(b'0'),
-        },
-        Field {
-            tag: 40,
-            value: Value::Char(b'2'),
-        },
-        Field {
-            tag: 44,
-            value: Value::Level {
+                mean: g.mean
+            }
+        ),
+        field!(11, o.id),
+        field!(14, Value::Number(x.executed)),
+        field!(17, Value::Number(s.number)),
+        field!(20, Value::Char(b'0')),
+        field!(37, Value::Number(o.orderid)),
+        field!(38, Value::Number(x.qty)),
+        field!(39, Value::Char(b'0')),
+        field!(40, Value::Char(b'2')),
+        field!(
+            44,
+            Value::Level {
                 of: q,
-                level: x.level,
-            },
-        },
-        Field {
-            tag: 47,
-            value: Value::Char(o.capacity),
-        },
-        Field {
-            tag: 54,
-            value: side,
-        },
-        Field {
-            tag: 55,
-            value: code,
-        },
-        Field {
-            tag: 59,
-            value: tif,
-        },
-        Field {
-            tag: 60,
-            value: time,
-        },
-        Field {
-            tag: 109,
-            value: client,
-        },
-        Field {
-            tag: 110,
-            value: least,
-        },
-        Field {
-            tag: 150,
-            value: Value::Char(b'0'),
-        },
-        Field {
-            tag: 151,
-            value: Value::Number(g.left),
-        },
-        own,
-        Field {
-            tag: 8060,
-            value: class,
-        },
-        last,
+                level: x.level
+            }
+        ),
+        field!(47, Value::Char(o.capacity)),
+        field!(54, g.side),
+        field!(55, o.code),
+        field!(59, g.tif),
+        field!(60, s.time),
+        field!(109, g.client),
+        field!(110, g.least),
+        field!(150, Value::Char(b'0')),
+        field!(151, Value::Number(g.left)),
+        g.own,
+        field!(8060, g.class),
+        g.last,
         none,
         none,
         none,
@@ -492,152 +416,55 @@ pub fn replaced_row(s: Stamp, o: Shown, w: Ground) -> [Field; 36]
     requires { Sound o.order }
     ensures { result ≡ padded (replaced_row s o w) }
 {
-    let none = Field {
-        tag: 0,
-        value: Value::Absent,
-    };
+    let none = field!(0, Value::Absent);
     let x = o.order;
     let q = s.of;
     let group = group_of(q);
-    let time = s.time;
-    let venue = s.venue;
-    let port = s.port;
-    let code = o.code;
-    let id = o.id;
-    let account = o.account;
-    let orig = w.orig;
-    let reason = w.reason;
     let g = figures_of(q, o);
-    let own = g.own;
-    let last = g.last;
-    let client = g.client;
-    let least = g.least;
-    let side = g.side;
-    let tif = g.tif;
-    let class = g.class;
-    let status = g.replaced;
     [
-        Field {
-            tag: 35,
-            value: Value::Char(b'8'),
-        },
-        Field {
-            tag: 34,
-            value: Value::Number(s.number),
-        },
-        Field {
-            tag: 49,
-            value: venue,
-        },
-        Field {
-            tag: 50,
-            value: group,
-        },
-        Field {
-            tag: 52,
-            value: time,
-        },
-        Field {
-            tag: 56,
-            value: port,
-        },
-        Field {
-            tag: 1,
-            value: account,
-        },
-        Field {
-            tag: 6,
-            value: Value::Mean {
+        field!(35, Value::Char(b'8')),
+        field!(34, Value::Number(s.number)),
+        field!(49, s.venue),
+        field!(50, group),
+        field!(52, s.time),
+        field!(56, s.port),
+        field!(1, o.account),
+        field!(
+            6,
+            Value::Mean {
                 of: q,
-                mean: g.mean,
-            },
-        },
-        Field { tag: 11, value: id },
-        Field {
-            tag: 14,
-            value: Value::Number(x.executed),
-        },
-        Field {
-            tag: 17,
-            value: Value::Number(s.number),
-        },
-        Field {
-            tag: 20,
-            value: Value::Char(b'0'),
-        },
-        Field {
-            tag: 37,
-            value: Value::Number(o.orderid),
-        },
-        Field {
-            tag: 38,
-            value: Value::Number(x.qty),
-        },
-        Field {
-            tag: 39,
-            value: status,
-        },
-        Field {
-            tag: 40,
-            value: Value::Char(b'2'),
-        },
-        Field {
-            tag: 41,
-            value: orig,
-        },
-        Field {
-            tag: 44,
-            value: Value::Level {
+                mean: g.mean
+            }
+        ),
+        field!(11, o.id),
+        field!(14, Value::Number(x.executed)),
+        field!(17, Value::Number(s.number)),
+        field!(20, Value::Char(b'0')),
+        field!(37, Value::Number(o.orderid)),
+        field!(38, Value::Number(x.qty)),
+        field!(39, g.replaced),
+        field!(40, Value::Char(b'2')),
+        field!(41, w.orig),
+        field!(
+            44,
+            Value::Level {
                 of: q,
-                level: x.level,
-            },
-        },
-        Field {
-            tag: 47,
-            value: Value::Char(o.capacity),
-        },
-        Field {
-            tag: 54,
-            value: side,
-        },
-        Field {
-            tag: 55,
-            value: code,
-        },
-        Field {
-            tag: 59,
-            value: tif,
-        },
-        Field {
-            tag: 60,
-            value: time,
-        },
-        Field {
-            tag: 109,
-            value: client,
-        },
-        Field {
-            tag: 110,
-            value: least,
-        },
-        Field {
-            tag: 150,
-            value: Value::Char(b'5'),
-        },
-        Field {
-            tag: 151,
-            value: Value::Number(g.left),
-        },
-        Field {
-            tag: 378,
-            value: reason,
-        },
-        own,
-        Field {
-            tag: 8060,
-            value: class,
-        },
-        last,
+                level: x.level
+            }
+        ),
+        field!(47, Value::Char(o.capacity)),
+        field!(54, g.side),
+        field!(55, o.code),
+        field!(59, g.tif),
+        field!(60, s.time),
+        field!(109, g.client),
+        field!(110, g.least),
+        field!(150, Value::Char(b'5')),
+        field!(151, Value::Number(g.left)),
+        field!(378, w.reason),
+        g.own,
+        field!(8060, g.class),
+        g.last,
         none,
         none,
         none,
@@ -651,151 +478,55 @@ pub fn canceled_row(s: Stamp, o: Shown, w: Ground) -> [Field; 36]
     requires { Sound o.order }
     ensures { result ≡ padded (canceled_row s o w) }
 {
-    let none = Field {
-        tag: 0,
-        value: Value::Absent,
-    };
+    let none = field!(0, Value::Absent);
     let x = o.order;
     let q = s.of;
     let group = group_of(q);
-    let time = s.time;
-    let venue = s.venue;
-    let port = s.port;
-    let code = o.code;
-    let id = o.id;
-    let account = o.account;
-    let orig = w.orig;
-    let reason = w.reason;
     let g = figures_of(q, o);
-    let own = g.own;
-    let last = g.last;
-    let client = g.client;
-    let least = g.least;
-    let side = g.side;
-    let tif = g.tif;
-    let class = g.class;
     [
-        Field {
-            tag: 35,
-            value: Value::Char(b'8'),
-        },
-        Field {
-            tag: 34,
-            value: Value::Number(s.number),
-        },
-        Field {
-            tag: 49,
-            value: venue,
-        },
-        Field {
-            tag: 50,
-            value: group,
-        },
-        Field {
-            tag: 52,
-            value: time,
-        },
-        Field {
-            tag: 56,
-            value: port,
-        },
-        Field {
-            tag: 1,
-            value: account,
-        },
-        Field {
-            tag: 6,
-            value: Value::Mean {
+        field!(35, Value::Char(b'8')),
+        field!(34, Value::Number(s.number)),
+        field!(49, s.venue),
+        field!(50, group),
+        field!(52, s.time),
+        field!(56, s.port),
+        field!(1, o.account),
+        field!(
+            6,
+            Value::Mean {
                 of: q,
-                mean: g.mean,
-            },
-        },
-        Field { tag: 11, value: id },
-        Field {
-            tag: 14,
-            value: Value::Number(x.executed),
-        },
-        Field {
-            tag: 17,
-            value: Value::Number(s.number),
-        },
-        Field {
-            tag: 20,
-            value: Value::Char(b'0'),
-        },
-        Field {
-            tag: 37,
-            value: Value::Number(o.orderid),
-        },
-        Field {
-            tag: 38,
-            value: Value::Number(x.qty),
-        },
-        Field {
-            tag: 39,
-            value: Value::Char(b'4'),
-        },
-        Field {
-            tag: 40,
-            value: Value::Char(b'2'),
-        },
-        Field {
-            tag: 41,
-            value: orig,
-        },
-        Field {
-            tag: 44,
-            value: Value::Level {
+                mean: g.mean
+            }
+        ),
+        field!(11, o.id),
+        field!(14, Value::Number(x.executed)),
+        field!(17, Value::Number(s.number)),
+        field!(20, Value::Char(b'0')),
+        field!(37, Value::Number(o.orderid)),
+        field!(38, Value::Number(x.qty)),
+        field!(39, Value::Char(b'4')),
+        field!(40, Value::Char(b'2')),
+        field!(41, w.orig),
+        field!(
+            44,
+            Value::Level {
                 of: q,
-                level: x.level,
-            },
-        },
-        Field {
-            tag: 47,
-            value: Value::Char(o.capacity),
-        },
-        Field {
-            tag: 54,
-            value: side,
-        },
-        Field {
-            tag: 55,
-            value: code,
-        },
-        Field {
-            tag: 59,
-            value: tif,
-        },
-        Field {
-            tag: 60,
-            value: time,
-        },
-        Field {
-            tag: 109,
-            value: client,
-        },
-        Field {
-            tag: 110,
-            value: least,
-        },
-        Field {
-            tag: 150,
-            value: Value::Char(b'4'),
-        },
-        Field {
-            tag: 151,
-            value: Value::Number(g.left),
-        },
-        Field {
-            tag: 378,
-            value: reason,
-        },
-        own,
-        Field {
-            tag: 8060,
-            value: class,
-        },
-        last,
+                level: x.level
+            }
+        ),
+        field!(47, Value::Char(o.capacity)),
+        field!(54, g.side),
+        field!(55, o.code),
+        field!(59, g.tif),
+        field!(60, s.time),
+        field!(109, g.client),
+        field!(110, g.least),
+        field!(150, Value::Char(b'4')),
+        field!(151, Value::Number(g.left)),
+        field!(378, w.reason),
+        g.own,
+        field!(8060, g.class),
+        g.last,
         none,
         none,
         none,
@@ -809,165 +540,67 @@ pub fn trade_row(s: Stamp, o: Shown, f: Fill) -> [Field; 36]
     requires { Sound o.order }
     ensures { result ≡ padded (trade_row s o f) }
 {
-    let none = Field {
-        tag: 0,
-        value: Value::Absent,
-    };
+    let none = field!(0, Value::Absent);
     let x = o.order;
     let q = s.of;
     let group = group_of(q);
-    let time = s.time;
-    let venue = s.venue;
-    let port = s.port;
-    let code = o.code;
-    let id = o.id;
-    let account = o.account;
     let g = figures_of(q, o);
-    let own = g.own;
-    let last = g.last;
-    let client = g.client;
-    let least = g.least;
-    let side = g.side;
-    let tif = g.tif;
-    let class = g.class;
-    let status = g.traded;
     let other = other_field(q, f);
     let count = count_field(q);
     [
-        Field {
-            tag: 35,
-            value: Value::Char(b'8'),
-        },
-        Field {
-            tag: 34,
-            value: Value::Number(s.number),
-        },
-        Field {
-            tag: 49,
-            value: venue,
-        },
-        Field {
-            tag: 50,
-            value: group,
-        },
-        Field {
-            tag: 52,
-            value: time,
-        },
-        Field {
-            tag: 56,
-            value: port,
-        },
-        Field {
-            tag: 1,
-            value: account,
-        },
-        Field {
-            tag: 6,
-            value: Value::Mean {
+        field!(35, Value::Char(b'8')),
+        field!(34, Value::Number(s.number)),
+        field!(49, s.venue),
+        field!(50, group),
+        field!(52, s.time),
+        field!(56, s.port),
+        field!(1, o.account),
+        field!(
+            6,
+            Value::Mean {
                 of: q,
-                mean: g.mean,
-            },
-        },
-        Field { tag: 11, value: id },
-        Field {
-            tag: 14,
-            value: Value::Number(x.executed),
-        },
-        Field {
-            tag: 17,
-            value: Value::Number(s.number),
-        },
-        Field {
-            tag: 20,
-            value: Value::Char(b'0'),
-        },
-        Field {
-            tag: 31,
-            value: Value::Level {
+                mean: g.mean
+            }
+        ),
+        field!(11, o.id),
+        field!(14, Value::Number(x.executed)),
+        field!(17, Value::Number(s.number)),
+        field!(20, Value::Char(b'0')),
+        field!(
+            31,
+            Value::Level {
                 of: q,
-                level: f.level,
-            },
-        },
-        Field {
-            tag: 32,
-            value: Value::Number(f.quantity),
-        },
-        Field {
-            tag: 37,
-            value: Value::Number(o.orderid),
-        },
-        Field {
-            tag: 38,
-            value: Value::Number(x.qty),
-        },
-        Field {
-            tag: 39,
-            value: status,
-        },
-        Field {
-            tag: 40,
-            value: Value::Char(b'2'),
-        },
-        Field {
-            tag: 44,
-            value: Value::Level {
+                level: f.level
+            }
+        ),
+        field!(32, Value::Number(f.quantity)),
+        field!(37, Value::Number(o.orderid)),
+        field!(38, Value::Number(x.qty)),
+        field!(39, g.traded),
+        field!(40, Value::Char(b'2')),
+        field!(
+            44,
+            Value::Level {
                 of: q,
-                level: x.level,
-            },
-        },
-        Field {
-            tag: 47,
-            value: Value::Char(o.capacity),
-        },
-        Field {
-            tag: 54,
-            value: side,
-        },
-        Field {
-            tag: 55,
-            value: code,
-        },
-        Field {
-            tag: 59,
-            value: tif,
-        },
-        Field {
-            tag: 60,
-            value: time,
-        },
-        Field {
-            tag: 109,
-            value: client,
-        },
-        Field {
-            tag: 110,
-            value: least,
-        },
-        Field {
-            tag: 150,
-            value: status,
-        },
-        Field {
-            tag: 151,
-            value: Value::Number(g.left),
-        },
+                level: x.level
+            }
+        ),
+        field!(47, Value::Char(o.capacity)),
+        field!(54, g.side),
+        field!(55, o.code),
+        field!(59, g.tif),
+        field!(60, s.time),
+        field!(109, g.client),
+        field!(110, g.least),
+        field!(150, g.traded),
+        field!(151, Value::Number(g.left)),
         other,
         count,
-        own,
-        Field {
-            tag: 851,
-            value: Value::Number(f.liquidity),
-        },
-        Field {
-            tag: 880,
-            value: Value::Number(f.first),
-        },
-        Field {
-            tag: 8060,
-            value: class,
-        },
-        last,
+        g.own,
+        field!(851, Value::Number(f.liquidity)),
+        field!(880, Value::Number(f.first)),
+        field!(8060, g.class),
+        g.last,
         none,
     ]
 }
@@ -976,100 +609,46 @@ pub fn trade_row(s: Stamp, o: Shown, f: Fill) -> [Field; 36]
 pub fn rejected_row(s: Stamp, r: Refused) -> [Field; 36]
     ensures { result ≡ padded (rejected_row s r) }
 {
-    let none = Field {
-        tag: 0,
-        value: Value::Absent,
-    };
+    let none = field!(0, Value::Absent);
     let q = s.of;
     let group = group_of(q);
-    let time = s.time;
-    let venue = s.venue;
-    let port = s.port;
     let id = text(r.id);
     let code = text(r.code);
     let side = digit(r.side);
     [
-        Field {
-            tag: 35,
-            value: Value::Char(b'8'),
-        },
-        Field {
-            tag: 34,
-            value: Value::Number(s.number),
-        },
-        Field {
-            tag: 49,
-            value: venue,
-        },
-        Field {
-            tag: 50,
-            value: group,
-        },
-        Field {
-            tag: 52,
-            value: time,
-        },
-        Field {
-            tag: 56,
-            value: port,
-        },
-        Field {
-            tag: 6,
-            value: Value::Mean {
+        field!(35, Value::Char(b'8')),
+        field!(34, Value::Number(s.number)),
+        field!(49, s.venue),
+        field!(50, group),
+        field!(52, s.time),
+        field!(56, s.port),
+        field!(
+            6,
+            Value::Mean {
                 of: q,
-                mean: 1_000_000_000_000,
-            },
-        },
-        Field { tag: 11, value: id },
-        Field {
-            tag: 14,
-            value: Value::Number(0),
-        },
-        Field {
-            tag: 17,
-            value: Value::Number(s.number),
-        },
-        Field {
-            tag: 20,
-            value: Value::Char(b'0'),
-        },
-        Field {
-            tag: 37,
-            value: Value::Word {
+                mean: 1_000_000_000_000
+            }
+        ),
+        field!(11, id),
+        field!(14, Value::Number(0)),
+        field!(17, Value::Number(s.number)),
+        field!(20, Value::Char(b'0')),
+        field!(
+            37,
+            Value::Word {
                 w: b'N',
                 x: b'O',
                 y: b'N',
-                z: b'E',
-            },
-        },
-        Field {
-            tag: 38,
-            value: Value::Number(r.quantity),
-        },
-        Field {
-            tag: 39,
-            value: Value::Char(b'8'),
-        },
-        Field {
-            tag: 54,
-            value: side,
-        },
-        Field {
-            tag: 55,
-            value: code,
-        },
-        Field {
-            tag: 103,
-            value: Value::Number(r.reason),
-        },
-        Field {
-            tag: 150,
-            value: Value::Char(b'8'),
-        },
-        Field {
-            tag: 151,
-            value: Value::Number(0),
-        },
+                z: b'E'
+            }
+        ),
+        field!(38, Value::Number(r.quantity)),
+        field!(39, Value::Char(b'8')),
+        field!(54, side),
+        field!(55, code),
+        field!(103, Value::Number(r.reason)),
+        field!(150, Value::Char(b'8')),
+        field!(151, Value::Number(0)),
         none,
         none,
         none,
@@ -1094,65 +673,26 @@ pub fn rejected_row(s: Stamp, r: Refused) -> [Field; 36]
 pub fn cancel_reject_row(s: Stamp, u: Unchanged) -> [Field; 36]
     ensures { result ≡ padded (cancel_reject_row s u) }
 {
-    let none = Field {
-        tag: 0,
-        value: Value::Absent,
-    };
+    let none = field!(0, Value::Absent);
     let q = s.of;
     let group = group_of(q);
-    let time = s.time;
-    let venue = s.venue;
-    let port = s.port;
     let id = text(u.id);
     let order = or_nobody(u.orderid);
     let status = digit(u.status);
     let orig = text(u.orig);
     [
-        Field {
-            tag: 35,
-            value: Value::Char(b'9'),
-        },
-        Field {
-            tag: 34,
-            value: Value::Number(s.number),
-        },
-        Field {
-            tag: 49,
-            value: venue,
-        },
-        Field {
-            tag: 50,
-            value: group,
-        },
-        Field {
-            tag: 52,
-            value: time,
-        },
-        Field {
-            tag: 56,
-            value: port,
-        },
-        Field { tag: 11, value: id },
-        Field {
-            tag: 37,
-            value: order,
-        },
-        Field {
-            tag: 39,
-            value: status,
-        },
-        Field {
-            tag: 41,
-            value: orig,
-        },
-        Field {
-            tag: 102,
-            value: Value::Number(u.reason),
-        },
-        Field {
-            tag: 434,
-            value: Value::Number(u.response),
-        },
+        field!(35, Value::Char(b'9')),
+        field!(34, Value::Number(s.number)),
+        field!(49, s.venue),
+        field!(50, group),
+        field!(52, s.time),
+        field!(56, s.port),
+        field!(11, id),
+        field!(37, order),
+        field!(39, status),
+        field!(41, orig),
+        field!(102, Value::Number(u.reason)),
+        field!(434, Value::Number(u.response)),
         none,
         none,
         none,
@@ -1184,57 +724,21 @@ pub fn cancel_reject_row(s: Stamp, u: Unchanged) -> [Field; 36]
 pub fn session_reject_row(s: Stamp, f: Faulty) -> [Field; 36]
     ensures { result ≡ padded (session_reject_row s f) }
 {
-    let none = Field {
-        tag: 0,
-        value: Value::Absent,
-    };
+    let none = field!(0, Value::Absent);
     let q = s.of;
     let group = group_of(q);
-    let time = s.time;
-    let venue = s.venue;
-    let port = s.port;
     let kind = text(f.kind);
     [
-        Field {
-            tag: 35,
-            value: Value::Char(b'3'),
-        },
-        Field {
-            tag: 34,
-            value: Value::Number(s.number),
-        },
-        Field {
-            tag: 49,
-            value: venue,
-        },
-        Field {
-            tag: 50,
-            value: group,
-        },
-        Field {
-            tag: 52,
-            value: time,
-        },
-        Field {
-            tag: 56,
-            value: port,
-        },
-        Field {
-            tag: 45,
-            value: Value::Number(f.sequence),
-        },
-        Field {
-            tag: 371,
-            value: Value::Number(f.tag),
-        },
-        Field {
-            tag: 372,
-            value: kind,
-        },
-        Field {
-            tag: 373,
-            value: Value::Number(f.reason),
-        },
+        field!(35, Value::Char(b'3')),
+        field!(34, Value::Number(s.number)),
+        field!(49, s.venue),
+        field!(50, group),
+        field!(52, s.time),
+        field!(56, s.port),
+        field!(45, Value::Number(f.sequence)),
+        field!(371, Value::Number(f.tag)),
+        field!(372, kind),
+        field!(373, Value::Number(f.reason)),
         none,
         none,
         none,

@@ -1,36 +1,21 @@
 // What makes an execution report an Accepted, a Replaced, a Canceled or a Trade.
 ghost use Rattle.std.specs.Prelude.{◌≡◌};
 ghost use Rattle.matching.specs.Held.{Covered};
-ghost use Rattle.rows.specs.Parts.{no_fill, accepted_told, replaced_told, canceled_told, traded_told};
+ghost use Rattle.rows.specs.Parts.{accepted_told, replaced_told, canceled_told, traded_told};
 
 use crate::{Fill, Ground, Shown, Told, replaced_status, trade_status};
 use report::Value;
-
-// No fill.
-fn no_fill() -> Fill
-    ensures { result ≡ no_fill }
-{
-    Fill {
-        quantity: 0,
-        level: 0,
-        other: 0,
-        first: 0,
-        liquidity: 0,
-    }
-}
 
 // Accepted.
 pub fn accepted() -> Told
     ensures { result ≡ accepted_told }
 {
-    let fill = no_fill();
     Told {
-        trade: false,
         status: b'0',
         kind: b'0',
         orig: Value::Absent,
         reason: Value::Absent,
-        fill,
+        fill: None,
     }
 }
 
@@ -40,15 +25,13 @@ pub fn replaced(o: Shown, w: Ground) -> Told
 {
     let orig = w.orig;
     let reason = w.reason;
-    let fill = no_fill();
     let x = o.order;
     Told {
-        trade: false,
         status: 48 + (replaced_status(x) % 10) as u8,
         kind: b'5',
         orig,
         reason,
-        fill,
+        fill: None,
     }
 }
 
@@ -58,14 +41,12 @@ pub fn canceled(w: Ground) -> Told
 {
     let orig = w.orig;
     let reason = w.reason;
-    let fill = no_fill();
     Told {
-        trade: false,
         status: b'4',
         kind: b'4',
         orig,
         reason,
-        fill,
+        fill: None,
     }
 }
 
@@ -77,11 +58,10 @@ pub fn traded(o: Shown, f: Fill) -> Told
     let x = o.order;
     let status = 48 + (trade_status(x) % 10) as u8;
     Told {
-        trade: true,
         status,
         kind: status,
         orig: Value::Absent,
         reason: Value::Absent,
-        fill: f,
+        fill: Some(f),
     }
 }

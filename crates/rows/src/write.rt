@@ -1,4 +1,6 @@
-// The bytes of an execution report's row, part by part. Each function answers the place behind what it wrote.
+// The bytes of an execution report's row, part by part. Each function answers the place behind what it wrote. The bytes of the message
+// (`sent`) and of the table (`stored`) stay two parameters: report::write takes two, so that a struct would be taken apart at each call.
+ghost use Rattle.std.specs.Prelude.{[], ◌∷◌, ◌+◌, ◌%◌};
 ghost use Rattle.octets.specs.Written.{Room, Wrote};
 ghost use Rattle.matching.specs.Held.{Covered, Sound};
 ghost use Rattle.report.specs.Fields.{value_bytes, written, field_bytes, row_bytes};
@@ -39,6 +41,14 @@ fn put_header(out: &mut [u8], at: usize, kind: u8, s: Stamp, sent: &[u8], stored
     put_as(out, e, 56, port, sent, stored)
 }
 
+// A number of one digit.
+fn put_digit(out: &mut [u8], at: usize, tag: u64, n: u64) -> usize
+    requires { Room out.old at (written tag ((48 + n % 10) ∷ [])) }
+    ensures { Wrote out.old at (written tag ((48 + n % 10) ∷ [])) result out.new }
+{
+    put_char(out, at, tag, b'0' + (n % 10) as u8)
+}
+
 // A number, or nothing where it is 0.
 fn put_or_number(out: &mut [u8], at: usize, tag: u64, n: u64, sent: &[u8], stored: &[u8]) -> usize
     requires { Room out.old at (field_bytes sent.now stored.now (tag is or_number n)) }
@@ -73,18 +83,17 @@ fn put_first(out: &mut [u8], at: usize, s: Stamp, o: Shown, sent: &[u8], stored:
 fn put_fill(
     out: &mut [u8],
     at: usize,
-    trade: bool,
     q: Instrument,
-    f: Fill,
+    fill: Option<Fill>,
     sent: &[u8],
     stored: &[u8],
 ) -> usize
-    requires { Room out.old at (row_bytes sent.now stored.now (fill_part trade q f)) }
-    ensures { Wrote out.old at (row_bytes sent.now stored.now (fill_part trade q f)) result out.new }
+    requires { Room out.old at (row_bytes sent.now stored.now (fill_part q fill)) }
+    ensures { Wrote out.old at (row_bytes sent.now stored.now (fill_part q fill)) result out.new }
 {
-    if !trade {
+    let Some(f) = fill else {
         return at;
-    }
+    };
     let a = put_price(out, at, 31, q, f.level);
     put_number(out, a, 32, f.quantity)
 }
@@ -121,9 +130,9 @@ fn put_details(out: &mut [u8], at: usize, s: Stamp, o: Shown, sent: &[u8], store
     let code = o.code;
     let time = s.time;
     let a = put_char(out, at, 47, o.capacity);
-    let b = put_char(out, a, 54, 48 + (x.side % 10) as u8);
+    let b = put_digit(out, a, 54, x.side);
     let c = put_as(out, b, 55, code, sent, stored);
-    let d = put_char(out, c, 59, 48 + (x.tif % 10) as u8);
+    let d = put_digit(out, c, 59, x.tif);
     let e = put_as(out, d, 60, time, sent, stored);
     let f = put_or_number(out, e, 109, x.mpid, sent, stored);
     put_or_number(out, f, 110, x.minqty, sent, stored)
@@ -145,18 +154,17 @@ fn put_state(out: &mut [u8], at: usize, o: Shown, kind: u8, sent: &[u8], stored:
 fn put_others(
     out: &mut [u8],
     at: usize,
-    trade: bool,
     q: Instrument,
-    f: Fill,
+    fill: Option<Fill>,
     sent: &[u8],
     stored: &[u8],
 ) -> usize
-    requires { Room out.old at (row_bytes sent.now stored.now (others_part trade q f)) }
-    ensures { Wrote out.old at (row_bytes sent.now stored.now (others_part trade q f)) result out.new }
+    requires { Room out.old at (row_bytes sent.now stored.now (others_part q fill)) }
+    ensures { Wrote out.old at (row_bytes sent.now stored.now (others_part q fill)) result out.new }
 {
-    if !trade {
+    let Some(f) = fill else {
         return at;
-    }
+    };
     match q {
         Instrument::Bonds => {
             let a = put_number(out, at, 375, f.other);
@@ -173,25 +181,18 @@ fn put_own(out: &mut [u8], at: usize, q: Instrument, o: Shown, sent: &[u8], stor
 {
     match q {
         Instrument::Bonds => put_number(out, at, 423, 9),
-        Instrument::Equities => put_char(out, at, 544, 48 + (o.cash % 10) as u8),
+        Instrument::Equities => put_digit(out, at, 544, o.cash),
     }
 }
 
 // 851 and 880 of a trade.
-fn put_liquidity(
-    out: &mut [u8],
-    at: usize,
-    trade: bool,
-    f: Fill,
-    sent: &[u8],
-    stored: &[u8],
-) -> usize
-    requires { Room out.old at (row_bytes sent.now stored.now (liquidity_part trade f)) }
-    ensures { Wrote out.old at (row_bytes sent.now stored.now (liquidity_part trade f)) result out.new }
+fn put_liquidity(out: &mut [u8], at: usize, fill: Option<Fill>, sent: &[u8], stored: &[u8]) -> usize
+    requires { Room out.old at (row_bytes sent.now stored.now (liquidity_part fill)) }
+    ensures { Wrote out.old at (row_bytes sent.now stored.now (liquidity_part fill)) result out.new }
 {
-    if !trade {
+    let Some(f) = fill else {
         return at;
-    }
+    };
     let a = put_number(out, at, 851, f.liquidity);
     put_number(out, a, 880, f.first)
 }
@@ -214,7 +215,7 @@ fn put_margin(
             if o.margin == 0 {
                 return at;
             }
-            put_char(out, at, 8214, 48 + (o.margin % 10) as u8)
+            put_digit(out, at, 8214, o.margin)
         }
     }
 }
@@ -241,7 +242,7 @@ fn put_last(out: &mut [u8], at: usize, q: Instrument, o: Shown, sent: &[u8], sto
     requires { Room out.old at (row_bytes sent.now stored.now (last_part q o)) }
     ensures { Wrote out.old at (row_bytes sent.now stored.now (last_part q o)) result out.new }
 {
-    let a = put_char(out, at, 8060, 48 + (o.class % 10) as u8);
+    let a = put_digit(out, at, 8060, o.class);
     put_margin(out, a, q, o, sent, stored)
 }
 
@@ -264,7 +265,7 @@ fn put_upper(
     let orig = v.orig;
     let a = put_header(out, at, b'8', s, sent, stored);
     let b = put_first(out, a, s, o, sent, stored);
-    let c = put_fill(out, b, v.trade, q, fill, sent, stored);
+    let c = put_fill(out, b, q, fill, sent, stored);
     put_terms(out, c, q, o, v.status, orig, sent, stored)
 }
 
@@ -287,9 +288,9 @@ fn put_lower(
     let reason = v.reason;
     let a = put_details(out, at, s, o, sent, stored);
     let b = put_state(out, a, o, v.kind, sent, stored);
-    let c = put_others(out, b, v.trade, q, fill, sent, stored);
+    let c = put_others(out, b, q, fill, sent, stored);
     let d = put_reason(out, c, q, o, reason, sent, stored);
-    let e = put_liquidity(out, d, v.trade, fill, sent, stored);
+    let e = put_liquidity(out, d, fill, sent, stored);
     put_last(out, e, q, o, sent, stored)
 }
 

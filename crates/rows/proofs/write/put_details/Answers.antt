@@ -4,52 +4,39 @@ use Rattle.octets.proofs.Runs.{wrote_length}
 use Rattle.report.specs.Fields.{field_bytes}
 use Rattle.rows.specs.Rows.{digit}
 use Rattle.rows.specs.Parts.{details_part}
-use native.Mathlib.Omega.{arith}
 use Rattle.rows.proofs.write.put_details.Goals as goal
 
 pub put_char-a-requires : goal.put_char-a-requires
 unfolding details_part digit field_bytes
 put_char-a-requires c = ahead_room _ _ (ahead_all c.requires)
 
-pub overflow_cast-x : goal.overflow_cast-x
-overflow_cast-x c = omega arith
-
-pub overflow_add-x : goal.overflow_add-x
-overflow_add-x c = omega arith
-
-pub put_char-b-requires : goal.put_char-b-requires
+pub put_digit-b-requires : goal.put_digit-b-requires
 unfolding details_part digit field_bytes
-put_char-b-requires c = ahead_room _ _ (ahead_more _ _ (ahead_all c.requires) c.put_char-a.ensures)
+put_digit-b-requires c = ahead_room _ _ (ahead_more _ _ (ahead_all c.requires) c.put_char-a.ensures)
 
 pub put_as-c-requires : goal.put_as-c-requires
 unfolding details_part digit field_bytes
-put_as-c-requires c = ahead_room _ _ (ahead_more _ _ (ahead_more _ _ (ahead_all c.requires) c.put_char-a.ensures) c.put_char-b.ensures)
+put_as-c-requires c = ahead_room _ _ (ahead_more _ _ (ahead_more _ _ (ahead_all c.requires) c.put_char-a.ensures) c.put_digit-b.ensures)
 
-pub overflow_cast-x-2 : goal.overflow_cast-x-2
-overflow_cast-x-2 c = omega arith
-
-pub overflow_add-x-2 : goal.overflow_add-x-2
-overflow_add-x-2 c = omega arith
-
-pub put_char-d-requires : goal.put_char-d-requires
+pub put_digit-d-requires : goal.put_digit-d-requires
 unfolding details_part digit field_bytes
-put_char-d-requires c = ahead_room _ _ (ahead_more _ _ (ahead_more _ _ (ahead_more _ _ (ahead_all c.requires) c.put_char-a.ensures) c.put_char-b.ensures) c.put_as-c.ensures)
+put_digit-d-requires c = ahead_room _ _ (ahead_more _ _ (ahead_more _ _ (ahead_more _ _ (ahead_all c.requires) c.put_char-a.ensures) c.put_digit-b.ensures) c.put_as-c.ensures)
 
 pub put_as-e-requires : goal.put_as-e-requires
 unfolding details_part digit field_bytes
-put_as-e-requires c = ahead_room _ _ (ahead_more _ _ (ahead_more _ _ (ahead_more _ _ (ahead_more _ _ (ahead_all c.requires) c.put_char-a.ensures) c.put_char-b.ensures) c.put_as-c.ensures) c.put_char-d.ensures)
+put_as-e-requires c = ahead_room _ _ (ahead_more _ _ (ahead_more _ _ (ahead_more _ _ (ahead_more _ _ (ahead_all c.requires) c.put_char-a.ensures) c.put_digit-b.ensures) c.put_as-c.ensures) c.put_digit-d.ensures)
 
 pub put_or_number-f-requires : goal.put_or_number-f-requires
 unfolding details_part digit field_bytes
-put_or_number-f-requires c = ahead_room _ _ (ahead_more _ _ (ahead_more _ _ (ahead_more _ _ (ahead_more _ _ (ahead_more _ _ (ahead_all c.requires) c.put_char-a.ensures) c.put_char-b.ensures) c.put_as-c.ensures) c.put_char-d.ensures) c.put_as-e.ensures)
+put_or_number-f-requires c = ahead_room _ _ (ahead_more _ _ (ahead_more _ _ (ahead_more _ _ (ahead_more _ _ (ahead_more _ _ (ahead_all c.requires) c.put_char-a.ensures) c.put_digit-b.ensures) c.put_as-c.ensures) c.put_digit-d.ensures) c.put_as-e.ensures)
 
 pub put_or_number-requires : goal.put_or_number-requires
 unfolding details_part digit field_bytes
-put_or_number-requires c = ahead_room _ _ (ahead_more _ _ (ahead_more _ _ (ahead_more _ _ (ahead_more _ _ (ahead_more _ _ (ahead_more _ _ (ahead_all c.requires) c.put_char-a.ensures) c.put_char-b.ensures) c.put_as-c.ensures) c.put_char-d.ensures) c.put_as-e.ensures) c.put_or_number-f.ensures)
+put_or_number-requires c = ahead_room _ _ (ahead_more _ _ (ahead_more _ _ (ahead_more _ _ (ahead_more _ _ (ahead_more _ _ (ahead_more _ _ (ahead_all c.requires) c.put_char-a.ensures) c.put_digit-b.ensures) c.put_as-c.ensures) c.put_digit-d.ensures) c.put_as-e.ensures) c.put_or_number-f.ensures)
 
 pub returns : goal.returns
 unfolding details_part digit field_bytes
-returns c = ahead_none (ahead_more _ _ (ahead_more _ _ (ahead_more _ _ (ahead_more _ _ (ahead_more _ _ (ahead_more _ _ (ahead_more _ _ (ahead_all c.requires) c.put_char-a.ensures) c.put_char-b.ensures) c.put_as-c.ensures) c.put_char-d.ensures) c.put_as-e.ensures) c.put_or_number-f.ensures) c.put_or_number.ensures)
+returns c = ahead_none (ahead_more _ _ (ahead_more _ _ (ahead_more _ _ (ahead_more _ _ (ahead_more _ _ (ahead_more _ _ (ahead_more _ _ (ahead_all c.requires) c.put_char-a.ensures) c.put_digit-b.ensures) c.put_as-c.ensures) c.put_digit-d.ensures) c.put_as-e.ensures) c.put_or_number-f.ensures) c.put_or_number.ensures)
 
 pub shape_of-out : goal.shape_of-out
 shape_of-out c = wrote_length (returns c)

@@ -5,21 +5,21 @@ use Rattle.report.specs.Fields.{field_bytes}
 use Rattle.rows.specs.Parts.{liquidity_part}
 use Rattle.rows.proofs.write.put_liquidity.Goals as goal
 
-pub returns-then-not-trade : goal.returns-then-not-trade
+pub returns-in_default : goal.returns-in_default
 unfolding liquidity_part
-returns-then-not-trade c = rw (c.if-not-trade.true) (wrote_none _ _)
+returns-in_default c = rw c.in_default.is (wrote_none _ _)
 
 pub put_number-a-requires : goal.put_number-a-requires
 unfolding liquidity_part field_bytes
-put_number-a-requires c = ahead_room _ _ (ahead_all (rw (c.if-not-trade.false) at c.requires))
+put_number-a-requires c = ahead_room _ _ (ahead_all (rw c.in-Some.is at c.requires))
 
 pub put_number-requires : goal.put_number-requires
 unfolding liquidity_part field_bytes
-put_number-requires c = ahead_room _ _ (ahead_more _ _ (ahead_all (rw (c.if-not-trade.false) at c.requires)) c.put_number-a.ensures)
+put_number-requires c = ahead_room _ _ (ahead_more _ _ (ahead_all (rw c.in-Some.is at c.requires)) c.put_number-a.ensures)
 
 pub returns : goal.returns
 unfolding liquidity_part field_bytes
-returns c = rw (c.if-not-trade.false) (ahead_none (ahead_more _ _ (ahead_more _ _ (ahead_all (rw (c.if-not-trade.false) at c.requires)) c.put_number-a.ensures) c.put_number.ensures))
+returns c = rw c.in-Some.is (ahead_none (ahead_more _ _ (ahead_more _ _ (ahead_all (rw c.in-Some.is at c.requires)) c.put_number-a.ensures) c.put_number.ensures))
 
 pub shape_of-out : goal.shape_of-out
 shape_of-out c = wrote_length (returns c)

@@ -2,22 +2,15 @@
 use Rattle.octets.proofs.Runs.{wrote_length}
 use Rattle.report.specs.Fields.{field_bytes}
 use Rattle.rows.specs.Rows.{digit, own_field}
-use native.Mathlib.Omega.{arith}
 use Rattle.rows.proofs.write.put_own.Goals as goal
 
 pub put_number-requires : goal.put_number-requires
 unfolding own_field field_bytes
 put_number-requires c = rw c.in-Bonds.is at c.requires
 
-pub overflow_cast-o : goal.overflow_cast-o
-overflow_cast-o c = omega arith
-
-pub overflow_add-o : goal.overflow_add-o
-overflow_add-o c = omega arith
-
-pub put_char-requires : goal.put_char-requires
+pub put_digit-requires : goal.put_digit-requires
 unfolding own_field digit field_bytes
-put_char-requires c = rw c.in-Equities.is at c.requires
+put_digit-requires c = rw c.in-Equities.is at c.requires
 
 pub returns-in-Bonds : goal.returns-in-Bonds
 unfolding own_field field_bytes
@@ -28,7 +21,7 @@ shape_of-out-in-Bonds c = wrote_length (returns-in-Bonds c)
 
 pub returns-in-Equities : goal.returns-in-Equities
 unfolding own_field digit field_bytes
-returns-in-Equities c = rw c.in-Equities.is c.put_char.ensures
+returns-in-Equities c = rw c.in-Equities.is c.put_digit.ensures
 
 pub shape_of-out-in-Equities : goal.shape_of-out-in-Equities
 shape_of-out-in-Equities c = wrote_length (returns-in-Equities c)

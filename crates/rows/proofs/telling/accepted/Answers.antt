@@ -1,5 +1,0 @@
--- `telling::accepted` meets its contract: field by field.
-use Rattle.rows.proofs.telling.accepted.Goals as goal
-
-pub returns : goal.returns
-returns c = rw c.no_fill-fill.ensures
