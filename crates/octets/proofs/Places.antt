@@ -1,7 +1,7 @@
 -- Numbers and runs of bytes at places: what was put is read back, places apart do not disturb each other, lengths stay,
 -- putting what stands there changes nothing. One set of laws, over the width and the place, in the order of the definitions.
 use mathlib.Core.Path.{◌≡◌, refl, sym, ap, ◌∙◌}
-use mathlib.Core.List.{List, [], ◌∷◌, ◌++◌, append-nil}
+use mathlib.Core.List.{List, [], ◌∷◌, ◌++◌, append-nil, append_assoc}
 use mathlib.Core.Logic.{◌⊎◌, inl, inr}
 use Prim.Native.Nat.{ℕ, zero, suc, ◌+◌, ◌*◌, ◌/◌, ◌%◌, ◌^◌, ◌-◌, ◌≤◌, ◌<◌}
 use native.Mathlib.Decide.{dec_lt}
@@ -11,6 +11,9 @@ use native.Mathlib.Omega.{arith}
 use lib.Dec.{lit<}
 use lib.ListN.{length, get_or, set, take, drop, length-set, length-drop, drop_of_length-le, take-append-drop}
 use lib.Seq.{sets, length-sets, get_or-set_same, get_or-set_other, set-get_or, get_or-drop, get_or-take, take_all, set_comm, length-take-le}
+use borrow.Rule.Slice.PartMut.{put_mid}
+use Rattle.std.proofs.lemmas.List.{drop-drop}
+use Rattle.std.proofs.lemmas.List.Edits.{sets-eq}
 use Rattle.octets.specs.Octets.{le_at, bytes_of, put, Bytes}
 
 -- two numbers: the one is below, or the other is not above
@@ -99,6 +102,11 @@ part_back t p vs h =
     (sym (put_past (take p t) (drop p t) 0 vs)
     ∙ ap (λ (d : List ℕ). put d (length (take p t) + 0) vs) (take-append-drop p t)
     ∙ ap (λ (k : ℕ). put t k vs) (add-zero (length (take p t)) ∙ length-take-le p t h)))
+
+-- a part written over, as `&mut t[p..p + k]` gives it back, is put
+pub put_over : (t : List ℕ) (p k : ℕ) {ys : List ℕ} (vs : List ℕ) → ys ≡ vs → k ≡ length vs → p + length vs ≤ length t → put_mid p k t ys ≡ put t p vs
+unfolding put
+put_over t p k {ys} vs e l h = rw (e, l, drop-drop) (sym (append_assoc (take p t) vs (drop (p + length vs) t)) ∙ sym (sets-eq vs t p h))
 
 -- ---- le_at: a number is its bytes
 pub le_at_ext : (n : ℕ) (t u : List ℕ) (p q : ℕ) → ((k : ℕ) → k < n → get_or t (p + k) 0 ≡ get_or u (q + k) 0) → le_at n t p ≡ le_at n u q

@@ -7,7 +7,7 @@ use native.Mathlib.Nat.{add-zero}
 use native.Mathlib.Omega.{arith}
 use native.Mathlib.Numerals.{add-one}
 use lib.ListN.{length, length-append, take, drop, set, get_or, replicate}
-use lib.Seq.{sets-eq, take-suc, take_at, length-take-le}
+use lib.Seq.{sets-eq, take-suc, take_at}
 use Rattle.octets.specs.Octets.{put, put_text}
 use Rattle.octets.specs.Written.{Room, Wrote}
 use Rattle.octets.proofs.Places.{length_put, put_put, part_back}
@@ -63,11 +63,7 @@ wrote_front {area} {xs} {after} {next} p h =
     let e : next ≡ length xs = omega (arith, p.place) in
     rw (e, wrote_split h p) (take_at xs (drop (0 + length xs) area) (length xs) refl)
 
--- ---- a text copied byte by byte: after j bytes there is a place for the next, and its store is one more
-pub copy_place : {area : List ℕ} (text : List ℕ) {after : List ℕ} {at next : ℕ} (j : ℕ)
-    → Room area at text → j < length text → Wrote area at (take j text) next after → next < length after
-copy_place text j h l p = omega (arith, h.fits, l, p.place, wrote_length p, length-take-le j text (omega (arith, l)))
-
+-- ---- a text copied byte by byte: a byte more
 pub copy_more : {area : List ℕ} (text : List ℕ) {after : List ℕ} {at next : ℕ} (j : ℕ)
     → j < length text → Wrote area at (take j text) next after → Wrote area at (take (j + 1) text) (next + 1) (set after next (get_or text j 0))
 copy_more text {after} {next = next} j l p = rw (add-one j, take-suc text j 0) (then p (wrote_one after next (get_or text j 0)))

@@ -1,16 +1,16 @@
--- Zero bytes: "every byte is zero" against the single bytes and in a row of lists; the loop that tests it; zeros written.
+-- Zero bytes: "every byte is zero" against the single bytes and in a row of lists; the loops that test it; zeros written.
 use mathlib.Core.Path.{◌≡◌, refl, sym, ap, ◌∙◌}
-use mathlib.Core.Bool.{Bool, true, false, ◌&&◌, and_assoc, and_comm, and-true}
-use mathlib.Core.List.{List, [], ◌∷◌, ◌++◌, append-nil}
-use Prim.Native.Nat.{ℕ, zero, suc, ◌+◌, ◌*◌, ◌-◌, ◌≤◌, ◌<◌, zero-le}
+use mathlib.Core.Bool.{Bool, true, ◌&&◌, and_assoc, and_comm, and-true}
+use mathlib.Core.List.{List, [], ◌∷◌, ◌++◌}
+use Prim.Native.Nat.{ℕ, zero, suc, max, ◌+◌, ◌*◌, ◌-◌, ◌≤◌, ◌<◌, zero-le}
 use native.Mathlib.Numerals.{add-one}
 use native.Mathlib.Omega.{arith}
-use borrow.Author.Tests.{eq-eqb, ne_eqb, eqb-true}
+use borrow.Author.Tests.{eq-eqb, ne_eqb, eqb-true, eqb-false}
 use lib.Dec.{eqb}
-use lib.ListN.{length, get_or, set, take, drop, replicate, length-replicate, length-drop, drop_of_length-le}
-use lib.Seq.{drop-cons, drop-length, sets-eq, take_all}
+use lib.ListN.{length, get_or, set, take, drop, replicate, length-drop, drop_of_length-le}
+use lib.Seq.{drop-cons, drop-length, take_all}
 use Rattle.octets.specs.Octets.{put, all_zero}
-use Rattle.octets.proofs.Bools.{both_i, both_l, both_r, both_not_r, split}
+use Rattle.octets.proofs.Bools.{both_i, both_l, both_r, split}
 
 -- against the single bytes, and as one list
 pub zero_at : (xs : List ℕ) → all_zero xs ≡ true → (k : ℕ) → get_or xs k 0 ≡ 0
@@ -75,12 +75,12 @@ gathered_end {t} {zero} {i} g l =
     let z : all_zero (drop i t) ≡ true = rw e (zero_none t) in
     sym (and-true zero) ∙ rw z at g.left
 
--- ---- a loop that keeps the greatest of the bytes: the greater of two, a byte kept in place k, one turn on
-pub greater_first : (x y : ℕ) → y ≤ x → eqb x 0 ≡ (eqb x 0 && eqb y 0)
-greater_first x y l = split (eqb x 0) (λ e. rw (e, eq-eqb y 0 (omega (arith, eqb-true x 0 e)))) (λ e. rw e)
-
-pub greater_second : (x y : ℕ) → x < y → eqb y 0 ≡ (eqb x 0 && eqb y 0)
-greater_second x y l = rw (ne_eqb y 0 (λ e. omega arith)) (sym (both_not_r (eqb x 0) false refl))
+-- ---- a loop that keeps the greatest of the bytes: the greater of two is zero exactly if both are, a byte kept in place k, one turn on
+pub greatest : (x y : ℕ) → eqb (max x y) 0 ≡ (eqb x 0 && eqb y 0)
+greatest x y =
+    split (eqb x 0)
+    (λ e. let z : x ≡ 0 = eqb-true x 0 e in let m : max x y ≡ y = omega arith in rw (e, m))
+    (λ e. rw e (ne_eqb (max x y) 0 (λ z. eqb-false x 0 e (omega arith))))
 
 zero_set : (xs : List ℕ) (k v x : ℕ) → k < length xs → eqb v 0 ≡ (eqb (get_or xs k 0) 0 && eqb x 0) → all_zero (set xs k v) ≡ (all_zero xs && eqb x 0)
 unfolding all_zero
@@ -113,7 +113,7 @@ kept_end t most p i j n a b h l m e f g =
     let q : p + 256 * j ≡ i = omega arith in
     rw (f, g, zero_lent t i) (rw q at h)
 
--- ---- zeros written: a turn of the loop, and a whole list
+-- ---- zeros written: a turn of the loop
 pub put_zero_more : (n k : ℕ) (t : List ℕ) (p : ℕ) → k < n
     → put (set t (p + k) 0) (p + (k + 1)) (replicate (n - (k + 1)) 0) ≡ put t (p + k) (replicate (n - k) 0)
 unfolding put
@@ -121,10 +121,3 @@ put_zero_more n k t p h =
     let e : n - k ≡ suc (n - (k + 1)) = omega arith in
     let q : p + (k + 1) ≡ suc (p + k) = omega arith in
     rw (e, q)
-
-pub put_zero_all : (t : List ℕ) → put t 0 (replicate (length t) 0) ≡ replicate (length t) 0
-unfolding put
-put_zero_all t =
-    let z : List ℕ = replicate (length t) 0 in
-    let n : length z ≡ length t = length-replicate (length t) 0 in
-    sets-eq z t 0 (omega arith) ∙ ap (λ (l : List ℕ). z ++ l) (drop_of_length-le t {i = 0 + length z} (omega arith)) ∙ append-nil z

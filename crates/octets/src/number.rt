@@ -6,7 +6,7 @@ ghost use Rattle.octets.specs.Octets.{le_at, bytes_of, put};
 pub fn wide(x: u8) -> u64
     ensures { (result ≡ x) × (result < 256) }
 {
-    x as u64
+    u64::from(x)
 }
 
 // The number whose n bytes start at place p.
@@ -14,11 +14,9 @@ pub fn le_at(t: &[u8], p: usize, n: usize) -> u64
     requires { (p + n ≤ length t.now) × (n ≤ 8) }
     ensures { (result ≡ le_at n t.now p) × (result < 256 ^ n) }
 {
-    let mut r: u64 = 0;
-    let mut k = n;
-    while 0 < k {
-        k -= 1;
-        r = (t[p + k] as u64) + 256 * r;
+    let mut r = 0;
+    for k in (0..n).rev() {
+        r = u64::from(t[p + k]) + 256 * r;
     }
     r
 }
@@ -29,10 +27,8 @@ pub fn put_le(t: &mut [u8], p: usize, n: usize, v: u64)
     ensures { t.new ≡ put t.old p (bytes_of n v) }
 {
     let mut w = v;
-    let mut k = 0;
-    while k < n {
+    for k in 0..n {
         t[p + k] = (w % 256) as u8;
-        w = w / 256;
-        k += 1;
+        w /= 256;
     }
 }

@@ -23,13 +23,8 @@ pub fn copy_into(out: &mut [u8], at: usize, from: &[u8]) -> usize
     requires { Room out.old at from.now }
     ensures { Wrote out.old at from.now result out.new }
 {
-    let mut next = at;
-    let mut j = 0;
-    while j < from.len() {
-        out[next] = from[j];
-        next += 1;
-        j += 1;
-    }
+    let next = at + from.len();
+    out[at..next].copy_from_slice(from);
     next
 }
 
@@ -37,15 +32,5 @@ pub fn copy_into(out: &mut [u8], at: usize, from: &[u8]) -> usize
 pub fn same(a: &[u8], b: &[u8]) -> bool
     ensures { result ≡ same_bytes a.now b.now }
 {
-    if a.len() != b.len() {
-        return false;
-    }
-    let mut i = 0;
-    while i < a.len() {
-        if a[i] != b[i] {
-            return false;
-        }
-        i += 1;
-    }
-    true
+    a == b
 }

@@ -7,19 +7,10 @@ pub fn all_zero(t: &[u8]) -> bool
     ensures { result ≡ all_zero t.now }
 {
     let mut zero = true;
-    let mut i = 0;
-    while i < t.len() {
-        zero = zero & (t[i] == 0);
-        i += 1;
+    for x in t {
+        zero = zero & (*x == 0);
     }
     zero
-}
-
-// The greater of two bytes: zero exactly if both are.
-fn greater(x: u8, y: u8) -> u8
-    ensures { eqb result 0 ≡ (eqb x 0 && eqb y 0) }
-{
-    if x < y { y } else { x }
 }
 
 // Leaves in each byte of most the greater of it and the one of t that stands as far behind place p: all of most is zero then exactly if
@@ -28,10 +19,8 @@ fn gather(most: &mut [u8], t: &[u8], p: usize)
     requires { p + length most.old ≤ length t.now }
     ensures { (all_zero most.new && all_zero (drop (p + length most.old) t.now)) ≡ (all_zero most.old && all_zero (drop p t.now)) }
 {
-    let mut k = 0;
-    while k < most.len() {
-        most[k] = greater(most[k], t[p + k]);
-        k += 1;
+    for k in 0..most.len() {
+        most[k] = most[k].max(t[p + k]);
     }
 }
 
@@ -45,25 +34,21 @@ pub fn rest_zero(t: &[u8], p: usize) -> bool
     }
     let mut most = [0u8; 128];
     let n = (t.len() - p) / 256;
-    let mut j = 0;
-    while j < n {
+    for j in 0..n {
         gather(&mut most, t, p + 256 * j);
         gather(&mut most, t, p + 256 * j + 128);
-        j += 1;
     }
     let i = p + 256 * n;
     all_zero(&most) & all_zero(&t[i..])
 }
 
-// Writes n zeros from place p on.
+// Writes n zeros from place p on, by a loop: `fill` stores the last byte apart, and most runs are short.
 pub fn put_zeros(t: &mut [u8], p: usize, n: usize)
     requires { p + n ≤ length t.old }
     ensures { t.new ≡ put t.old p (replicate n 0) }
 {
-    let mut k = 0;
-    while k < n {
+    for k in 0..n {
         t[p + k] = 0;
-        k += 1;
     }
 }
 
@@ -71,6 +56,5 @@ pub fn put_zeros(t: &mut [u8], p: usize, n: usize)
 pub fn clear(t: &mut [u8])
     ensures { t.new ≡ replicate (length t.old) 0 }
 {
-    let n = t.len();
-    put_zeros(t, 0, n);
+    t.fill(0);
 }

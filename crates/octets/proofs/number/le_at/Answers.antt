@@ -11,18 +11,6 @@ use Rattle.octets.proofs.number.le_at.Goals as goal
 pub loop-k-init : goal.loop-k-init
 loop-k-init c = (sym (le_at_none _ _ _), le_refl _, rw sub_self (omega arith))
 
-pub overflow_sub-k : goal.overflow_sub-k
-overflow_sub-k c = omega arith
-
-pub overflow_add-r : goal.overflow_add-r
-overflow_add-r c = omega arith
-
-pub bounds-t-p : goal.bounds-t-p
-bounds-t-p c = omega arith
-
-pub overflow_cast-r : goal.overflow_cast-r
-overflow_cast-r c = omega (arith, c.type_inv.t (c.args.p + (c.loop-k.k - 1)))
-
 pub overflow_mul-r : goal.overflow_mul-r
 overflow_mul-r c =
     let a = c.args in
@@ -30,15 +18,12 @@ overflow_mul-r c =
     let b : Bytes a.t.now = λ k. (c.type_inv.t k).fits in
     record { fits = lt_of_le_of_lt (le-add_left _ _) (le_at_room (a.n - l.k) l.r _ (omega arith) l.invariant.2 (b (a.p + (l.k - 1)))) }
 
-pub overflow_add-r-in-loop-k : goal.overflow_add-r-in-loop-k
-overflow_add-r-in-loop-k c =
+pub overflow_add-r : goal.overflow_add-r
+overflow_add-r c =
     let a = c.args in
     let l = c.loop-k in
     let b : Bytes a.t.now = λ k. (c.type_inv.t k).fits in
-    record { fits = le_at_room (a.n - l.k) l.r _ (omega arith) l.invariant.2 (b _) }
-
-pub loop-k-smaller : goal.loop-k-smaller
-loop-k-smaller c = omega arith
+    record { fits = rw c.from.ensures (le_at_room (a.n - l.k) l.r _ (omega arith) l.invariant.2 (b _)) }
 
 pub loop-k-preserved : goal.loop-k-preserved
 loop-k-preserved c =
@@ -46,8 +31,9 @@ loop-k-preserved c =
     let l = c.loop-k in
     let b : Bytes a.t.now = λ k. (c.type_inv.t k).fits in
     let e =
-    ap (λ (x : ℕ). get_or a.t.now (a.p + (l.k - 1)) 0 + 256 * x) l.invariant.0
-    ∙ le_at_back _ _ _ _ c.loop-k-test.true l.invariant.1 in
+    ap (λ (x : ℕ). x + 256 * l.r) c.from.ensures
+    ∙ ap (λ (x : ℕ). get_or a.t.now (a.p + (l.k - 1)) 0 + 256 * x) l.invariant.0
+    ∙ le_at_back a.n l.k a.t.now a.p (omega arith) l.invariant.1 in
     (e, omega arith, rw e (le_at_lt _ _ _ b))
 
 pub returns : goal.returns

@@ -6,6 +6,3 @@ use Rattle.octets.proofs.number.le_at.Given as goal
 
 abbrev pub invariant-loop-k : goal.invariant-loop-k
 invariant-loop-k l = (l.r ≡ le_at (l.n - l.k) l.t (l.p + l.k)) × (l.k ≤ l.n) × (l.r < 256 ^ (l.n - l.k))
-
-abbrev pub decreases-loop-k : goal.decreases-loop-k
-decreases-loop-k l = l.k
