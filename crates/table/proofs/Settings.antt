@@ -17,13 +17,15 @@ use Rattle.octets.specs.Octets.{bytes_of, put, put_text}
 use Rattle.octets.specs.Tests.{all_up_to}
 use Rattle.octets.proofs.Bools.{both_l, both_r, both_not_r}
 use Rattle.octets.proofs.Ranges.{all_at}
+use Rattle.std.specs.Prelude.{Ok, Err}
+use Rattle.refusals.specs.declared.Refusal.TheVariants.{BadSetting}
 use Rattle.decimal.specs.declared.Instrument.{Instrument}
 use Rattle.decimal.specs.declared.Instrument.TheVariants.{Bonds, Equities}
 use Rattle.decimal.specs.Reading.{is_digit}
 use Rattle.octets.proofs.Places.{put_put, length_put, length_bytes_of, below_or}
 use Rattle.table.specs.Heading.{mpid_bytes, put_kind, put_next, put_mpids, put_modes}
 use Rattle.table.specs.Market.{every, is_between, is_graphic, is_code_character}
-use Rattle.table.specs.Opened.{is_name, is_new, is_given, are_given, are_names, are_settings, named_table, fresh_table, is_opening, opened, open_number}
+use Rattle.table.specs.Opened.{is_name, is_new, is_given, are_given, are_names, are_settings, named_table, fresh_table, is_opening, opened, open_answer}
 
 -- ---- std's tests of a whole list
 pub every_is : (f : ℕ → Bool) (s : List ℕ) → list_all f s ≡ every f s
@@ -255,24 +257,24 @@ modes_few mpids modes h = omega (arith, given_few mpids modes h, given_same mpid
 -- ---- the answer and the table afterwards
 
 module _ (q : Instrument) (t venue port code : List ℕ) (first : ℕ) (mpids modes : List ℕ) where
-  pub answer_short : (length t ≡ 32768 → ⊥) → 9 ≡ open_number q t venue port code first mpids modes
-  unfolding open_number is_opening
+  pub answer_short : (length t ≡ 32768 → ⊥) → Err BadSetting ≡ open_answer q t venue port code first mpids modes
+  unfolding open_answer is_opening
   answer_short n = rw (ne_eqb (length t) 32768 n)
 
   pub table_short : (length t ≡ 32768 → ⊥) → t ≡ opened q t venue port code first mpids modes
   unfolding opened is_opening
   table_short n = rw (ne_eqb (length t) 32768 n)
 
-  pub answer_wrong : (a : Bool) → a ≡ are_settings q venue port code first mpids modes → a ≡ false → 9 ≡ open_number q t venue port code first mpids modes
-  unfolding open_number is_opening
+  pub answer_wrong : (a : Bool) → a ≡ are_settings q venue port code first mpids modes → a ≡ false → Err BadSetting ≡ open_answer q t venue port code first mpids modes
+  unfolding open_answer is_opening
   answer_wrong a x z = rw (both_not_r (eqb (length t) 32768) (are_settings q venue port code first mpids modes) (sym x ∙ z))
 
   pub table_wrong : (a : Bool) → a ≡ are_settings q venue port code first mpids modes → a ≡ false → t ≡ opened q t venue port code first mpids modes
   unfolding opened is_opening
   table_wrong a x z = rw (both_not_r (eqb (length t) 32768) (are_settings q venue port code first mpids modes) (sym x ∙ z))
 
-  pub answer_right : length t ≡ 32768 → are_settings q venue port code first mpids modes ≡ true → 0 ≡ open_number q t venue port code first mpids modes
-  unfolding open_number is_opening
+  pub answer_right : length t ≡ 32768 → are_settings q venue port code first mpids modes ≡ true → Ok tt ≡ open_answer q t venue port code first mpids modes
+  unfolding open_answer is_opening
   answer_right l z = rw (eq-eqb (length t) 32768 l, z)
 
   pub table_right : (u : List ℕ) → length t ≡ 32768 → are_settings q venue port code first mpids modes ≡ true
