@@ -16,8 +16,9 @@ ghost use Rattle.feed.specs.Copies.{fed, copy_number, copy_length, copy_next, re
 ghost use Rattle.kamurjesh.specs.Numbers.{level_in, quote_of};
 
 use crate::numbers::{
-    copy_length, copy_next, copy_number, has_level, kind_number, level_in, open_number, orders_of, quote_of, read_number, run_bytes, run_number, run_reports, run_steps,
-    submit_length, submit_number, total_of,
+    copy_length, copy_next, copy_number, has_level, kind_number, level_in, open_number, orders_of,
+    quote_of, read_number, run_bytes, run_number, run_reports, run_steps, submit_length,
+    submit_number, total_of,
 };
 use decimal::Instrument;
 use feed::{copy, read_copy};
