@@ -11,14 +11,14 @@ use Rattle.matching.specs.Matching.{Book, none, at, put, open_of, is_open, is_bu
 use Rattle.matching.specs.Depth.{stands, behind, nearer, next, level_at, on_level, share, total, orders, depth}
 use Rattle.matching.proofs.Books.{at_put_same, at_put_other, sum_most}
 use Rattle.matching.proofs.Levels.{next_first}
-use Rattle.table.specs.declared.best.BestLevel.{BestLevel}
+use Rattle.matching.specs.declared.Level.{Level}
 use Rattle.table.specs.Best.{best_on}
 use Rattle.table.specs.Market.{is_done, is_clear, no_cross}
 use Rattle.audit.specs.declared.book.Sides.{Sides}
 use Rattle.audit.specs.Checking.{with_open, with_order, sides_of, apart}
 
 -- ---- an order on a level, by the tests that the code makes of it
-module _ (side : ℕ) (c : BestLevel) (level x : ℕ) (a : Bool) (e : a ≡ ahead (buys side) level c.level) where
+module _ (side : ℕ) (c : Level) (level x : ℕ) (a : Bool) (e : a ≡ ahead (buys side) level c.level) where
   pub open_new : (eqb c.level 0 || a) ≡ true → record { level = level; total = x; orders = 1 } ≡ with_open side c level x
   unfolding with_open
   open_new h = rw (rw e at h)
@@ -32,12 +32,12 @@ module _ (side : ℕ) (c : BestLevel) (level x : ℕ) (a : Bool) (e : a ≡ ahea
   open_worse h f = rw (rw e at h, ne_eqb level c.level f)
 
 -- ---- the best level of side s among the first n orders, with what stands on it
-unfoldable pub standing : Book → ℕ → ℕ → BestLevel
+unfoldable pub standing : Book → ℕ → ℕ → Level
 standing b s n =
     let l = next b s 0 n in
     record { level = l; total = sum_over (share s l) b n; orders = count_of (on_level s l) b n }
 
-three : {l m t u n o : ℕ} → l ≡ m → t ≡ u → n ≡ o → ◌≡◌ {A = BestLevel} (record { level = l; total = t; orders = n }) (record { level = m; total = u; orders = o })
+three : {l m t u n o : ℕ} → l ≡ m → t ≡ u → n ≡ o → ◌≡◌ {A = Level} (record { level = l; total = t; orders = n }) (record { level = m; total = u; orders = o })
 three p q r = λ j. record { level = p j; total = q j; orders = r j }
 
 module _ (b : Book) (s : ℕ) (high : (k : ℕ) → stands s (at b k) ≡ true → 0 < (at b k).level) where
@@ -74,7 +74,7 @@ module _ (b : Book) (s : ℕ) (high : (k : ℕ) → stands s (at b k) ≡ true �
   unfolding standing count_of sum_over
   standing_is n m x y e f g =
       subst
-      (λ (k : ℕ). ◌≡◌ {A = BestLevel}
+      (λ (k : ℕ). ◌≡◌ {A = Level}
       (record { level = k; total = sum_over (share s k) b (suc n); orders = count_of (on_level s k) b (suc n) })
       (record { level = m; total = x; orders = y }))
       (sym e) (three refl (sym f) (sym g))
@@ -324,8 +324,8 @@ module _ (b : Book) (w : ℕ) (within : w ≤ length b) (high : (k : ℕ) → is
   pub uncrossed_is : (n : ℕ) → n ≡ length b → apart (sides_of b w n) ≡ no_cross b w
   unfolding no_cross
   uncrossed_is n e =
-      let x : (sides_of b w n).buy.level ≡ low n = ap (λ (c : BestLevel). c.level) (sides_buy n) ∙ unfold standing low in refl in
-      let y : (sides_of b w n).sell.level ≡ top n = ap (λ (c : BestLevel). c.level) (sides_sell n) ∙ unfold standing top in refl in
+      let x : (sides_of b w n).buy.level ≡ low n = ap (λ (c : Level). c.level) (sides_buy n) ∙ unfold standing low in refl in
+      let y : (sides_of b w n).sell.level ≡ top n = ap (λ (c : Level). c.level) (sides_sell n) ∙ unfold standing top in refl in
       rw (x, y) (rw (← e)
       (split (eqb (low n) 0 || ltb (top n) (low n))
       (λ t. rw t (sym (all_from (λ i. all_up_to (pair i) n) n (λ i l. all_from (pair i) n (λ j m. pair_clear n i j l m t)))))
@@ -360,14 +360,14 @@ sides_done b w (suc n) =
     (λ e. rw e (with_done (sides_of b w n) (at b (suc n)) ∙ ap (λ (x : Bool). x && is_done (at b (suc n))) (sides_done b w n)))
 
 -- ---- what they come to fits
-pub record Upto (n : ℕ) (c : BestLevel) : Type 0 where
+pub record Upto (n : ℕ) (c : Level) : Type 0 where
   pub total : c.total ≤ n * 4294967296
   pub orders : c.orders ≤ n
 
-upto_more : {n : ℕ} {c : BestLevel} → Upto n c → Upto (suc n) c
+upto_more : {n : ℕ} {c : Level} → Upto n c → Upto (suc n) c
 upto_more {n} {c} h = record { total = omega (arith, h.total); orders = omega (arith, h.orders) }
 
-upto_open : (n s l x : ℕ) (c : BestLevel) → x < 4294967296 → Upto n c → Upto (suc n) (with_open s c l x)
+upto_open : (n s l x : ℕ) (c : Level) → x < 4294967296 → Upto n c → Upto (suc n) (with_open s c l x)
 unfolding with_open
 upto_open n s l x c small h =
     split (eqb c.level 0 || ahead (buys s) l c.level)

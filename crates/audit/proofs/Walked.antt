@@ -12,7 +12,7 @@ use Rattle.matching.specs.declared.Order.{Order}
 use Rattle.matching.specs.Matching.{none, at, open_of, is_open, is_immediate, minimum_of, opposite, opposed, opposed_to, sum_over, count_of}
 use Rattle.matching.proofs.Books.{open_in}
 use Rattle.table.specs.Heading.{next_of, work_of, kind_number, decided_of}
-use Rattle.table.specs.declared.best.BestLevel.{BestLevel}
+use Rattle.matching.specs.declared.Level.{Level}
 use Rattle.table.specs.Orders.{order_at, filled, book_of}
 use Rattle.table.specs.Best.{best_row, book_row, best_due}
 use Rattle.table.specs.Market.{has_length, has_settings, has_next, has_work, has_kind, rest_zero, is_ranged, is_order, has_orders, has_ids, has_order_ids, has_places, no_ioc, no_cross, has_numbers, is_book, has_decision, has_best, is_market, is_of, is_market_of}
@@ -36,12 +36,12 @@ module _ (s : Sides) (o : Order) (u : ℕ) (e : u ≡ o.executed + o.decremented
   unfolding open_of
   open_is h = lt-ltb 0 (o.qty - (o.executed + o.decremented + o.canceled)) (omega (arith, e))
 
-  pub order_buys : (i : Bool) (m : BestLevel) → u < o.qty → i ≡ is_immediate o → o.side ≡ 1 → m ≡ with_open 1 s.buy o.level (o.qty - u)
+  pub order_buys : (i : Bool) (m : Level) → u < o.qty → i ≡ is_immediate o → o.side ≡ 1 → m ≡ with_open 1 s.buy o.level (o.qty - u)
       → record { buy = m; sell = s.sell; done = s.done && not i } ≡ with_order s o
   unfolding with_order open_of
   order_buys i m h f g k = rw (open_is h, eq-eqb o.side 1 g, k, e, f)
 
-  pub order_sells : (i : Bool) (m : BestLevel) → u < o.qty → i ≡ is_immediate o → (o.side ≡ 1 → ⊥) → m ≡ with_open 2 s.sell o.level (o.qty - u)
+  pub order_sells : (i : Bool) (m : Level) → u < o.qty → i ≡ is_immediate o → (o.side ≡ 1 → ⊥) → m ≡ with_open 2 s.sell o.level (o.qty - u)
       → record { buy = s.buy; sell = m; done = s.done && not i } ≡ with_order s o
   unfolding with_order open_of
   order_sells i m h f g k = rw (open_is h, ne_eqb o.side 1 g, k, e, f)

@@ -1,7 +1,7 @@
 -- The widths of an order's numbers in a record, what any record read gives; and of what 255 orders come to. Assumes nothing.
 use Rattle.std.specs.Prelude.{◌<◌}
 use Rattle.matching.specs.declared.Order.{Order}
-use Rattle.table.specs.declared.best.BestLevel.{BestLevel}
+use Rattle.matching.specs.declared.Level.{Level}
 use Rattle.audit.specs.declared.book.Sides.{Sides}
 
 -- each number fits the bytes that it has
@@ -18,7 +18,7 @@ pub record Narrow (o : Order) : Type 0 where
   pub minqty : o.minqty < 4294967296
 
 -- there is room for one order more
-pub record Roomy (c : BestLevel) : Type 0 where
+pub record Roomy (c : Level) : Type 0 where
   pub total : c.total < 1099511627776
   pub orders : c.orders < 256
 

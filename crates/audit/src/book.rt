@@ -11,33 +11,33 @@ ghost use Rattle.audit.specs.Checking.{with_open, with_order, sides_of, row_of};
 
 use crate::marks::has_places;
 use crate::sound::{has_open, order_at, used};
-use matching::{Order, ahead};
-use table::best::{BestLevel, write_best};
+use matching::{Level, Order, ahead};
+use table::best::write_best;
 use table::places;
 use table::record::load;
 
 // The best level of each side, and whether no IOC and no Fill or Kill is open.
 #[derive(Clone, Copy)]
 pub struct Sides {
-    pub buy: BestLevel,
-    pub sell: BestLevel,
+    pub buy: Level,
+    pub sell: Level,
     pub done: bool,
 }
 
 // The best level of a side so far, c, with an order on a level of it of which x is open.
-fn with_open(side: u64, c: BestLevel, level: u64, x: u64) -> BestLevel
+fn with_open(side: u64, c: Level, level: u64, x: u64) -> Level
     requires { Roomy c × (x < 4294967296) }
     ensures { result ≡ with_open side c level x }
 {
     if (c.level == 0) | ahead(side, level, c.level) {
-        return BestLevel {
+        return Level {
             level,
             total: x,
             orders: 1,
         };
     }
     if level == c.level {
-        return BestLevel {
+        return Level {
             level,
             total: c.total + x,
             orders: c.orders + 1,
@@ -90,7 +90,7 @@ fn both_sides(t: &[u8], n: usize, w: usize) -> Sides
     requires { (length t.now ≡ table_bytes) × (n ≡ filled t.now) × (n ≤ 255) }
     ensures { result ≡ sides_of (book_of t.now) w n }
 {
-    let none = BestLevel {
+    let none = Level {
         level: 0,
         total: 0,
         orders: 0,

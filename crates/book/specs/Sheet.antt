@@ -1,13 +1,12 @@
 -- What is printed for a table (document 01, "Rehearsed books", the program `book`; document 02, T-08): a heading, then a line for each
 -- level of the buys, then one for each level of the sells, whatever their side, the best first. A table that is no market of bonds where
 -- bonds are to be printed, or none of equities where those are, or has an order in work, has the heading alone. Assumes nothing.
-use Rattle.std.specs.Prelude.{cond, ◌&&◌, List, [], ◌∷◌, ◌++◌, ℕ, zero, suc, eqb, length}
+use Rattle.std.specs.Prelude.{cond, ◌&&◌, List, [], ◌∷◌, ◌++◌, ℕ, zero, suc, eqb, length, Option, Some, None}
 use Rattle.octets.specs.Characters.{byte, bytes}
 use Rattle.decimal.specs.declared.Instrument.{Instrument}
 use Rattle.decimal.specs.declared.Instrument.TheVariants.{Bonds, Equities}
 use Rattle.decimal.specs.Writing.{decimal, level_text}
-use Rattle.matching.specs.declared.Depth.{Depth}
-use Rattle.matching.specs.declared.Depth.TheVariants.{Level, NoLevel}
+use Rattle.matching.specs.declared.Level.{Level}
 use Rattle.matching.specs.Matching.{Book}
 use Rattle.matching.specs.Depth.{depth}
 use Rattle.table.specs.Heading.{work_of}
@@ -35,9 +34,9 @@ level_line q side level total orders =
     figure side space ++ level_text q level ++ (space ∷ []) ++ figure total space ++ figure orders line_end
 
 -- where there is no level there is no line
-abbrev pub line_of : Instrument → ℕ → Depth → List ℕ
-line_of q side (Level level total orders) = level_line q side level total orders
-line_of q side NoLevel = []
+abbrev pub line_of : Instrument → ℕ → Option Level → List ℕ
+line_of q side (Some l) = level_line q side l.level l.total l.orders
+line_of q side None = []
 
 -- the lines of the first n levels of a side, the best first
 unfoldable pub lines : Instrument → Book → ℕ → ℕ → List ℕ

@@ -11,27 +11,25 @@ use lib.ListN.{length}
 use mir.Syntax.{w64}
 use mir.Val.{SFits, to_z, of_z}
 use mir.Facts.{to_z-of_z}
+use Rattle.std.specs.Prelude.{Option, Some, None, Ok, Err}
 use Rattle.octets.proofs.Bools.{split, both_l, both_r, or_r}
 use Rattle.decimal.specs.declared.Instrument.{Instrument}
 use Rattle.decimal.specs.declared.Instrument.TheVariants.{Bonds, Equities}
 use Rattle.decimal.specs.Instruments.{highest}
-use Rattle.matching.specs.declared.Depth.{Depth}
-use Rattle.matching.specs.declared.Depth.TheVariants.{Level, NoLevel}
+use Rattle.refusals.specs.declared.Refusal.TheVariants.{NoMarket, InWork, BadSide}
+use Rattle.matching.specs.declared.Level.{Level}
 use Rattle.matching.specs.Matching.{Book, at, ahead, buys}
 use Rattle.matching.specs.Held.{Sound, In}
 use Rattle.matching.proofs.Quoting.{highest_most}
 use Rattle.matching.specs.Depth.{stands, behind, nearer, next, level_at, depth}
 use Rattle.table.specs.Heading.{work_of}
 use Rattle.table.specs.Orders.{book_of}
-use Rattle.table.specs.declared.best.BestLevel.{BestLevel}
 use Rattle.table.specs.Best.{best_at, in_words}
 use Rattle.table.specs.Market.{has_length, is_market_of}
 use Rattle.table.specs.Facts.{Market}
 use Rattle.table.proofs.Facts.{market_facts}
 use Rattle.table.proofs.Instruments.{of_market}
-use Rattle.market.specs.declared.DepthAnswer.{DepthAnswer}
-use Rattle.market.specs.declared.DepthAnswer.TheVariants.{NoMarket, InWork, BadSide, Found}
-use Rattle.market.specs.Depth.{is_side, depth_answer, level_is}
+use Rattle.market.specs.Depth.{DepthAnswer, is_side, depth_answer, level_is}
 use Rattle.market.specs.Top.{is_none, is_best, has_levels, has_heading, top_answer}
 use Rattle.kamurjesh.specs.Numbers.{level_in, signed_of, quote_of}
 
@@ -83,10 +81,10 @@ module _ (l : ℕ) (h : l ≤ 1_999_999_999) where
   signed_kept q z p = rw p (to_z-of_z {w = w64} {z = signed_of q l} (signed_fits q))
 
 -- a yield or a price that is handed on as the bits of a signed number
-pub handed : (q : Instrument) (d : Depth) (z : ℤ) → level_is d ≤ 1_999_999_999 → z ≡ quote_of q d → to_z w64 (of_z w64 z) ≡ quote_of q d
+pub handed : (q : Instrument) (d : Option Level) (z : ℤ) → level_is d ≤ 1_999_999_999 → z ≡ quote_of q d → to_z w64 (of_z w64 z) ≡ quote_of q d
 unfolding quote_of
-handed q (Level l t n) z h p = signed_kept l h q z p
-handed q NoLevel z h p = rw p refl
+handed q (Some l) z h p = signed_kept l.level h q z p
+handed q None z h p = rw p refl
 
 -- ---- the levels
 
@@ -106,16 +104,16 @@ module _ (b : Book) (s : ℕ) (sound : (k : ℕ) → In b k → Sound (at b k)) 
   level_low zero = next_low 0 (length b) (omega arith)
   level_low (suc k) = one_of (eqb (level_at b s k) 0) _ _ _ (omega arith) (next_low (level_at b s k) (length b) (omega arith))
 
-there : (e : Bool) (l t n m : ℕ) → l ≤ m → level_is (cond e NoLevel (Level l t n)) ≤ m
-there true l t n m h = omega arith
-there false l t n m h = h
+there : (e : Bool) (l : Level) (m : ℕ) → l.level ≤ m → level_is (cond e None (Some l)) ≤ m
+there true l m h = omega arith
+there false l m h = h
 
 depth_low : (t : List ℕ) (side k : ℕ) → Market t → level_is (depth (book_of t) side k) ≤ 1_999_999_999
 unfolding depth
-depth_low t side k m = there (eqb (level_at (book_of t) side k) 0) _ _ _ _ (level_low (book_of t) side m.held.sound k)
+depth_low t side k m = there (eqb (level_at (book_of t) side k) 0) _ _ (level_low (book_of t) side m.held.sound k)
 
-chosen : (m w s : Bool) (d : Depth) (most : ℕ) → (m ≡ true → w ≡ false → s ≡ false → level_is d ≤ most)
-    → level_is (level_in (cond (not m) NoMarket (cond w InWork (cond s BadSide (Found d))))) ≤ most
+chosen : (m w s : Bool) (d : Option Level) (most : ℕ) → (m ≡ true → w ≡ false → s ≡ false → level_is d ≤ most)
+    → level_is (level_in (cond (not m) (Err NoMarket) (cond w (Err InWork) (cond s (Err BadSide) (Ok d))))) ≤ most
 chosen true true s d most f = omega arith
 chosen true false true d most f = omega arith
 chosen true false false d most f = f refl refl refl
@@ -126,13 +124,12 @@ unfolding depth_answer
 answer_low q t side k =
     chosen (is_market_of q t) (not (eqb (work_of t) 0)) (not (is_side side)) _ _ (λ e w s. depth_low t side k (market_facts t (of_market q t e)))
 
-pub found_low : (q : Instrument) (t : List ℕ) (side k : ℕ) (a : DepthAnswer) (d : Depth) → a ≡ depth_answer q t side k → d ≡ level_in a
-    → level_is d ≤ 1_999_999_999
-found_low q t side k a d p e = rw (e, p) (answer_low q t side k)
+pub found_low : (q : Instrument) (t : List ℕ) (side k : ℕ) (a : DepthAnswer) → a ≡ depth_answer q t side k → level_is (level_in a) ≤ 1_999_999_999
+found_low q t side k a p = rw p (answer_low q t side k)
 
 -- ---- the best level of a heading in its ranges
 
-best_low : (q : Instrument) (b : BestLevel) → is_best q b ≡ true → b.level ≤ 1_999_999_999
+best_low : (q : Instrument) (b : Level) → is_best q b ≡ true → b.level ≤ 1_999_999_999
 unfolding is_best is_none
 best_low q b h =
     split (is_none b)
@@ -141,9 +138,9 @@ best_low q b h =
     let r = or_r (is_none b) _ h n in
     omega (arith, highest_most q, leb-true b.level (highest q) (search (both_l, both_r))))
 
-words_low : (q : Instrument) (b : BestLevel) → is_best q b ≡ true → level_is (in_words b) ≤ 1_999_999_999
+words_low : (q : Instrument) (b : Level) → is_best q b ≡ true → level_is (in_words b) ≤ 1_999_999_999
 unfolding in_words
-words_low q b h = there (eqb b.orders 0) _ _ _ _ (best_low q b h)
+words_low q b h = there (eqb b.orders 0) _ _ (best_low q b h)
 
 heading_levels : (q : Instrument) (t : List ℕ) → has_heading q t ≡ true → has_levels q t ≡ true
 unfolding has_heading
@@ -164,5 +161,5 @@ top_answer_low q t side =
     (λ e. rw e (chosen (has_heading q t) (not (eqb (work_of t) 0)) (not (is_side side)) _ _ (λ h w s. heading_low q t side h (not-false _ w) (not-false _ s))))
     (λ e. rw e (omega arith))
 
-pub top_low : (q : Instrument) (t : List ℕ) (side : ℕ) (a : DepthAnswer) (d : Depth) → a ≡ top_answer q t side → d ≡ level_in a → level_is d ≤ 1_999_999_999
-top_low q t side a d p e = rw (e, p) (top_answer_low q t side)
+pub top_low : (q : Instrument) (t : List ℕ) (side : ℕ) (a : DepthAnswer) → a ≡ top_answer q t side → level_is (level_in a) ≤ 1_999_999_999
+top_low q t side a p = rw p (top_answer_low q t side)

@@ -1,14 +1,12 @@
 -- The numbers that the C interface gives for a level that Depth finds, for the place of a field and for the bad block of an image, each 0
 -- where there is nothing to say (document 01, "The table and its calls"; document 02, T-08 and T-12). The yield is signed, in thousandths;
 -- so is the price, in tenths, though it is never below zero. Assumes nothing.
-use Rattle.std.specs.Prelude.{ℕ, ℤ, pos}
+use Rattle.std.specs.Prelude.{ℕ, ℤ, pos, Option, Some, None, Ok, Err}
 use Rattle.std.proofs.Math.IntN.{sub_ℕ}
 use Rattle.decimal.specs.declared.Instrument.{Instrument}
 use Rattle.decimal.specs.declared.Instrument.TheVariants.{Bonds, Equities}
-use Rattle.matching.specs.declared.Depth.{Depth}
-use Rattle.matching.specs.declared.Depth.TheVariants.{Level, NoLevel}
-use Rattle.market.specs.declared.DepthAnswer.{DepthAnswer}
-use Rattle.market.specs.declared.DepthAnswer.TheVariants.{NoMarket, InWork, BadSide, Found}
+use Rattle.matching.specs.declared.Level.{Level}
+use Rattle.market.specs.Depth.{DepthAnswer}
 use Rattle.image.specs.declared.RestoreAnswer.{RestoreAnswer}
 use Rattle.image.specs.declared.RestoreAnswer.TheVariants as restore
 use Rattle.report.specs.declared.Part.{Part}
@@ -17,20 +15,18 @@ use Rattle.report.specs.declared.Part.TheVariants.{At, Nowhere}
 -- ---- Depth
 
 -- the level that an answer has, or none
-abbrev pub level_in : DepthAnswer → Depth
-level_in NoMarket = NoLevel
-level_in InWork = NoLevel
-level_in BadSide = NoLevel
-level_in (Found d) = d
+abbrev pub level_in : DepthAnswer → Option Level
+level_in (Ok found) = found
+level_in (Err refusal) = None
 
 -- the yield in thousandths, which is the level less 1,000,000,000; the price in tenths, which is 1,000,000,000 less the level
 unfoldable pub signed_of : Instrument → ℕ → ℤ
 signed_of Bonds level = sub_ℕ level 1_000_000_000
 signed_of Equities level = sub_ℕ 1_000_000_000 level
 
-unfoldable pub quote_of : Instrument → Depth → ℤ
-quote_of q (Level level total orders) = signed_of q level
-quote_of q NoLevel = pos 0
+unfoldable pub quote_of : Instrument → Option Level → ℤ
+quote_of q (Some l) = signed_of q l.level
+quote_of q None = pos 0
 
 -- ---- the place of a field
 

@@ -1,13 +1,13 @@
 // Each call for C that there is of bonds and of equities, once for both: q says which. An answer becomes the paper's number, and each of its
 // values is written through a pointer, 0 where it has none.
-ghost use Rattle.std.specs.Prelude.{◌≡◌, length};
+ghost use Rattle.std.specs.Prelude.{◌≡◌, ◌≤◌, length};
 ghost use Rattle.matching.specs.Depth.{total_of, orders_of};
 ghost use Rattle.table.specs.Opened.{opened};
 ghost use Rattle.calls.specs.Open.{open_answer, open_number_of};
 ghost use Rattle.calls.specs.Told.{area_after};
 ghost use Rattle.calls.specs.Submit.{submitted, submit_number, submit_length};
 ghost use Rattle.calls.specs.Run.{ran, run_number, run_bytes, run_reports, run_steps};
-ghost use Rattle.market.specs.Depth.{depth_answer, depth_number, has_level};
+ghost use Rattle.market.specs.Depth.{depth_answer, depth_number, has_level, level_is};
 ghost use Rattle.market.specs.Top.{top_answer};
 ghost use Rattle.report.specs.Reports.{read_of};
 ghost use Rattle.calls.specs.Read.{read_number, kind_number};
@@ -16,14 +16,16 @@ ghost use Rattle.feed.specs.Copies.{fed, copy_number, copy_length, copy_next, re
 ghost use Rattle.kamurjesh.specs.Numbers.{level_in, quote_of};
 
 use crate::numbers::{
-    copy_length, copy_next, copy_number, depth_number, has_level, kind_number, level_in,
-    open_number, orders_of, quote_of, read_number, run_bytes, run_number, run_reports, run_steps,
-    submit_length, submit_number, total_of,
+    copy_length, copy_next, copy_number, has_level, kind_number, level_in, open_number, orders_of,
+    quote_of, read_number, run_bytes, run_number, run_reports, run_steps, submit_length,
+    submit_number, total_of,
 };
 use decimal::Instrument;
 use feed::{copy, read_copy};
 use kinds::kind_read;
 use market::{depth, open, run, submit, top};
+use matching::Level;
+use refusals::{Refusal, answer_number};
 
 // Opens a market in the table: 0, or refusal 9 with nothing changed.
 pub fn open_of(
@@ -84,6 +86,30 @@ pub fn run_of(
     run_number(answer)
 }
 
+// What Depth or Top answers: 0 with whether there is a level, its yield or price, total and number of orders; or a refusal.
+fn told(
+    q: Instrument,
+    answer: Result<Option<Level>, Refusal>,
+    found: &mut u64,
+    quote: &mut i64,
+    total: &mut u64,
+    orders: &mut u64,
+) -> u64
+    requires { level_is (level_in answer) ≤ 1_999_999_999 }
+    ensures { (result ≡ depth_number answer)
+        × (found.new ≡ has_level (level_in answer))
+        × (quote.new ≡ quote_of q (level_in answer))
+        × (total.new ≡ total_of (level_in answer))
+        × (orders.new ≡ orders_of (level_in answer)) }
+{
+    let level = level_in(answer);
+    *found = has_level(level);
+    *quote = quote_of(q, level);
+    *total = total_of(level);
+    *orders = orders_of(level);
+    answer_number(&answer)
+}
+
 // The k-th level of a side from the best: 0 with whether there is one, its yield or price, total and number of orders; or a refusal.
 pub fn depth_of(
     q: Instrument,
@@ -101,13 +127,7 @@ pub fn depth_of(
         × (total.new ≡ total_of (level_in (depth_answer q table.now side k)))
         × (orders.new ≡ orders_of (level_in (depth_answer q table.now side k))) }
 {
-    let answer = depth(q, table, side, k);
-    let level = level_in(answer);
-    *found = has_level(level);
-    *quote = quote_of(q, level);
-    *total = total_of(level);
-    *orders = orders_of(level);
-    depth_number(answer)
+    told(q, depth(q, table, side, k), found, quote, total, orders)
 }
 
 // The best level of a side, from the heading: 0 with whether there is one, its yield or price, total and number of orders; or a refusal.
@@ -126,13 +146,7 @@ pub fn top_of(
         × (total.new ≡ total_of (level_in (top_answer q table.now side)))
         × (orders.new ≡ orders_of (level_in (top_answer q table.now side))) }
 {
-    let answer = top(q, table, side);
-    let level = level_in(answer);
-    *found = has_level(level);
-    *quote = quote_of(q, level);
-    *total = total_of(level);
-    *orders = orders_of(level);
-    depth_number(answer)
+    told(q, top(q, table, side), found, quote, total, orders)
 }
 
 // The kind of a report: 0 and the kind, or refusal 11.

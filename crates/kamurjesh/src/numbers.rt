@@ -1,7 +1,7 @@
 // Answers as numbers.
 ghost use Rattle.std.specs.Prelude.{◌≡◌, ◌≤◌};
 ghost use Rattle.matching.specs.Depth.{total_of, orders_of};
-ghost use Rattle.market.specs.Depth.{has_level, level_is, depth_number};
+ghost use Rattle.market.specs.Depth.{has_level, level_is};
 ghost use Rattle.calls.specs.Open.{open_number_of};
 ghost use Rattle.calls.specs.Submit.{submit_number, submit_length};
 ghost use Rattle.calls.specs.Run.{run_number, run_bytes, run_reports, run_steps};
@@ -12,8 +12,8 @@ ghost use Rattle.kamurjesh.specs.Numbers.{level_in, signed_of, quote_of, is_ther
 use calls::{OpenAnswer, RunAnswer, SubmitAnswer};
 use decimal::Instrument;
 use feed::CopyAnswer;
-use market::DepthAnswer;
-use matching::Depth;
+use matching::Level;
+use refusals::Refusal;
 use report::{Kind, Part};
 
 // The paper's number of Open's answer.
@@ -121,41 +121,17 @@ pub fn run_steps(answer: RunAnswer) -> u64
 }
 
 // The level that Depth's answer has, or none.
-pub fn level_in(answer: DepthAnswer) -> Depth
+pub fn level_in(answer: Result<Option<Level>, Refusal>) -> Option<Level>
     ensures { result ≡ level_in answer }
 {
-    match answer {
-        DepthAnswer::NoMarket => Depth::NoLevel,
-        DepthAnswer::InWork => Depth::NoLevel,
-        DepthAnswer::BadSide => Depth::NoLevel,
-        DepthAnswer::Found(d) => d,
-    }
-}
-
-// The paper's number of Depth's answer.
-pub fn depth_number(answer: DepthAnswer) -> u64
-    ensures { result ≡ depth_number answer }
-{
-    match answer {
-        DepthAnswer::NoMarket => 2,
-        DepthAnswer::InWork => 3,
-        DepthAnswer::BadSide => 10,
-        DepthAnswer::Found(_) => 0,
-    }
+    answer.unwrap_or(None)
 }
 
 // Whether there is a level.
-pub fn has_level(level: Depth) -> u64
+pub fn has_level(level: Option<Level>) -> u64
     ensures { result ≡ has_level level }
 {
-    match level {
-        Depth::Level {
-            level: _,
-            total: _,
-            orders: _,
-        } => 1,
-        Depth::NoLevel => 0,
-    }
+    u64::from(level.is_some())
 }
 
 // The yield of a level in thousandths, or the price in tenths.
@@ -170,46 +146,28 @@ fn signed(q: Instrument, level: u64) -> i64
 }
 
 // Its yield in thousandths, or its price in tenths.
-pub fn quote_of(q: Instrument, level: Depth) -> i64
+pub fn quote_of(q: Instrument, level: Option<Level>) -> i64
     requires { level_is level ≤ 1_999_999_999 }
     ensures { result ≡ quote_of q level }
 {
     match level {
-        Depth::Level {
-            level: l,
-            total: _,
-            orders: _,
-        } => signed(q, l),
-        Depth::NoLevel => 0,
+        Some(l) => signed(q, l.level),
+        None => 0,
     }
 }
 
 // Its total open quantity.
-pub fn total_of(level: Depth) -> u64
+pub fn total_of(level: Option<Level>) -> u64
     ensures { result ≡ total_of level }
 {
-    match level {
-        Depth::Level {
-            level: _,
-            total,
-            orders: _,
-        } => total,
-        Depth::NoLevel => 0,
-    }
+    level.map_or(0, |l| l.total)
 }
 
 // Its number of orders.
-pub fn orders_of(level: Depth) -> u64
+pub fn orders_of(level: Option<Level>) -> u64
     ensures { result ≡ orders_of level }
 {
-    match level {
-        Depth::Level {
-            level: _,
-            total: _,
-            orders,
-        } => orders,
-        Depth::NoLevel => 0,
-    }
+    level.map_or(0, |l| l.orders)
 }
 
 // The paper's number of what Read says: 0, or refusal 11.

@@ -2,30 +2,31 @@
 use mathlib.Core.Path.{◌≡◌, refl, sym, ◌∙◌}
 use mathlib.Core.Bool.{Bool, true, false, not}
 use mathlib.Core.List.{List}
-use Prim.Native.Nat.{ℕ, ◌≤◌, ◌<◌}
+use Prim.Native.Nat.{ℕ}
 use native.Mathlib.Omega.{arith}
 use lib.Dec.{eqb}
 use lib.ListN.{length}
-use borrow.Author.Tests.{eq-eqb, ne_eqb, not-false}
+use borrow.Author.Tests.{eqb-true}
 use Rattle.decimal.specs.declared.Instrument.{Instrument}
-use Rattle.matching.specs.declared.Depth.{Depth}
+use Rattle.refusals.specs.declared.Refusal.{Refusal}
+use Rattle.refusals.specs.declared.Refusal.TheVariants.{NoMarket}
+use Rattle.matching.specs.declared.Level.{Level}
 use Rattle.matching.specs.Depth.{depth}
 use Rattle.table.specs.Places.{table_bytes}
 use Rattle.table.specs.Heading.{work_of}
-use Rattle.table.specs.declared.best.BestLevel.{BestLevel}
 use Rattle.table.specs.Orders.{book_of}
 use Rattle.table.specs.Best.{in_words, best_at}
 use Rattle.table.specs.Market.{is_market_of}
 use Rattle.table.specs.Facts.{Market}
 use Rattle.table.proofs.Instruments.{of_market}
 use Rattle.table.proofs.Facts.{market_facts}
+use Rattle.std.specs.Prelude.{Option, Result, Ok, Err}
 use Rattle.octets.proofs.Bools.{split}
 use Rattle.table.specs.Opened.{is_opening, open_number}
 use Rattle.calls.specs.declared.OpenAnswer.TheVariants.{Opened, BadSetting}
 use Rattle.calls.specs.Open.{open_answer}
-use Rattle.market.specs.declared.DepthAnswer.TheVariants.{NoMarket, InWork, BadSide, Found}
-use Rattle.market.specs.Depth.{is_side, depth_answer}
-use Rattle.market.proofs.Tops.{market_words}
+use Rattle.market.specs.Depth.{depth_answer}
+use Rattle.market.proofs.Tops.{asked, asked_err, asked_idle, asked_side, asked_ok, market_words}
 
 -- what the check of a market says
 module _ (i : Instrument) (t : List ℕ) (f : Bool) (p : f ≡ is_market_of i t) where
@@ -48,34 +49,29 @@ module _ (i : Instrument) (t : List ℕ) (f : Bool) (p : f ≡ is_market_of i t)
 -- ---- Depth
 
 module _ (i : Instrument) (t : List ℕ) (side k : ℕ) (f : Bool) (p : f ≡ is_market_of i t) where
-  pub depth_none : not f ≡ true → NoMarket ≡ depth_answer i t side k
+  pub depth_none : not f ≡ true → Err NoMarket ≡ depth_answer i t side k
   unfolding depth_answer
   depth_none h = rw (no_market i t f p h)
 
-  module _ (m : not f ≡ false) (w : ℕ) (q : w ≡ work_of t) where
-    pub depth_busy : 0 < w → InWork ≡ depth_answer i t side k
+  module _ (m : not f ≡ false) (r : Result (Unit {0}) Refusal) (q : r ≡ asked t side (Ok tt)) where
+    depth_asked : depth_answer i t side k ≡ asked t side (Ok (depth (book_of t) side k))
     unfolding depth_answer
-    depth_busy h = rw (some_market i t f p m, ← q, ne_eqb w 0 (λ e. omega arith))
+    depth_asked = rw (some_market i t f p m)
 
-    module _ (z : w ≤ 0) (g : Bool) (s : g ≡ is_side side) where
-      idle : eqb (work_of t) 0 ≡ true
-      idle = eq-eqb (work_of t) 0 (omega arith)
+    pub depth_refused : (e : Refusal) → r ≡ Err e → Err e ≡ depth_answer i t side k
+    depth_refused e h = rw depth_asked (asked_err t side r q e h _)
 
-      pub depth_bad : not g ≡ true → BadSide ≡ depth_answer i t side k
-      unfolding depth_answer
-      depth_bad h = rw (some_market i t f p m, idle, ← s, h)
+    pub depth_found : (u : Unit {0}) → r ≡ Ok u → (d : Option Level) → d ≡ depth (book_of t) side k → Ok d ≡ depth_answer i t side k
+    depth_found u h d e = rw (depth_asked, e) (asked_ok t side r q u h _)
 
-      -- the best level, as the heading keeps it
-      pub depth_best : not g ≡ false → k ≡ 0 → (b : BestLevel) → b ≡ best_at t side → (d : Depth) → d ≡ in_words b → Found d ≡ depth_answer i t side k
-      unfolding depth_answer
-      depth_best h e b x d y =
-          let w0 : work_of t ≡ 0 = omega arith in
-          let found : in_words (best_at t side) ≡ depth (book_of t) side 0 = market_words t (checked i t f p m) w0 side (sym s ∙ not-false g h) in
-          rw (some_market i t f p m, idle, ← s, h, e, y, x, found)
-
-      pub depth_found : not g ≡ false → (d : Depth) → d ≡ depth (book_of t) side k → Found d ≡ depth_answer i t side k
-      unfolding depth_answer
-      depth_found h d e = rw (some_market i t f p m, idle, ← s, h, e)
+    -- the best level, as the heading keeps it
+    pub depth_best : (u : Unit {0}) → r ≡ Ok u → k ≡ 0 → (b : Level) → b ≡ best_at t side → (d : Option Level) → d ≡ in_words b
+        → Ok d ≡ depth_answer i t side k
+    depth_best u h z b x d y =
+        let idle : work_of t ≡ 0 = eqb-true (work_of t) 0 (asked_idle t side r q u h) in
+        let found : in_words (best_at t side) ≡ depth (book_of t) side 0 =
+        market_words t (checked i t f p m) idle side (asked_side t side r q u h) in
+        depth_found u h d (rw (y, x, z) found)
 
 -- ---- Open
 

@@ -10,17 +10,17 @@ use native.Mathlib.Omega.{arith}
 use lib.Dec.{eqb}
 use lib.ListN.{length}
 use borrow.Author.Tests.{eq-eqb, ne_eqb}
+use Rattle.std.specs.Prelude.{Option, None, Some, cond}
 use Rattle.octets.proofs.Bools.{split}
 use Rattle.octets.proofs.Places.{below_or}
 use Rattle.decimal.specs.declared.Instrument.{Instrument}
 use Rattle.decimal.specs.Instruments.{highest}
 use Rattle.matching.specs.declared.Order.{Order}
-use Rattle.matching.specs.declared.Depth.TheVariants.{Level, NoLevel}
+use Rattle.matching.specs.declared.Level.{Level}
 use Rattle.matching.specs.Matching.{Book, at, buys, ahead}
 use Rattle.matching.specs.Depth.{stands, behind, nearer, next, level_at, total, orders, depth}
 use Rattle.matching.specs.Held.{Sound}
 use Rattle.matching.specs.Quoted.{AllQuoted}
-use Rattle.table.specs.declared.best.BestLevel.{BestLevel}
 use Rattle.table.specs.Orders.{order_at, filled, book_of}
 use Rattle.table.specs.Best.{stands_on}
 use Rattle.table.specs.Facts.{Market}
@@ -45,9 +45,6 @@ module _ (t : List ℕ) (n s x : ℕ) where
       → v ≡ nearer s x c r → v ≡ next (book_of t) s x (i + 1)
   unfolding next
   next_one i c v r e h p q z = rw (z, q, add-one i, loaded t n i r e h p)
-
-  pub next_end : (i c : ℕ) → i ≤ n → n ≤ i → c ≡ next (book_of t) s x i → c ≡ next (book_of t) s x n
-  next_end i c h l p = let e : i ≡ n = omega arith in p ∙ rw e
 
 -- ---- the levels one after another
 
@@ -76,14 +73,14 @@ level_none b s i k x p z h = sym (none_behind b s i k (sym p ∙ z) h)
 
 -- ---- the sums of a level
 
-module _ (b : Book) (s l : ℕ) (r : BestLevel) (e : r ≡ stands_on b s l) where
+module _ (b : Book) (s l : ℕ) (r : Level) (e : r ≡ stands_on b s l) where
   pub sums_total : r.total ≡ total b s l
   unfolding stands_on
-  sums_total = ap (λ (x : BestLevel). x.total) e
+  sums_total = ap (λ (x : Level). x.total) e
 
   pub sums_orders : r.orders ≡ orders b s l
   unfolding stands_on
-  sums_orders = ap (λ (x : BestLevel). x.orders) e
+  sums_orders = ap (λ (x : Level). x.orders) e
 
 -- ---- what a market may have
 
@@ -100,10 +97,20 @@ next_highest q b s all x (suc n) h =
 
 -- ---- the answer
 
-pub depth_none : (b : Book) (s k l : ℕ) → l ≡ level_at b s k → l ≡ 0 → NoLevel ≡ depth b s k
-unfolding depth
-depth_none b s k l p z = rw (← p, z)
+module _ (b : Book) (s k : ℕ) (r : Option ℕ) (p : r ≡ cond (eqb (level_at b s k) 0) None (Some (level_at b s k))) where
+  pub depth_none : r ≡ None → None ≡ depth b s k
+  unfolding depth
+  depth_none q =
+      split (eqb (level_at b s k) 0)
+      (λ e. rw e)
+      (λ e. let n : None ≡ Some (level_at b s k) = sym q ∙ (rw e at p) in cc)
 
-pub depth_level : (b : Book) (s k l t n : ℕ) → l ≡ level_at b s k → (l ≡ 0 → ⊥) → t ≡ total b s l → n ≡ orders b s l → Level l t n ≡ depth b s k
-unfolding depth
-depth_level b s k l t n p d q r = rw (← p, ne_eqb l 0 d, q, r)
+  pub depth_level : (l : ℕ) → r ≡ Some l → (x : Level) → x ≡ stands_on b s l → Some x ≡ depth b s k
+  unfolding depth stands_on
+  depth_level l q x y =
+      split (eqb (level_at b s k) 0)
+      (λ e. let n : Some l ≡ None = sym q ∙ (rw e at p) in cc)
+      (λ e.
+      let n : Some l ≡ Some (level_at b s k) = sym q ∙ (rw e at p) in
+      let z : l ≡ level_at b s k = cc in
+      rw (e, ← z) (ap Some y))

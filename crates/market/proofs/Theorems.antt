@@ -20,8 +20,7 @@ use Rattle.calls.specs.Submit.{submitted}
 use Rattle.calls.specs.Run.{ran}
 use Rattle.intake.proofs.Theorems.{submit_keeps}
 use Rattle.turns.proofs.Theorems.{run_keeps}
-use Rattle.market.specs.declared.DepthAnswer.{DepthAnswer}
-use Rattle.market.specs.Depth.{depth_answer}
+use Rattle.market.specs.Depth.{DepthAnswer, depth_answer}
 use Rattle.market.specs.Top.{top_answer}
 use Rattle.market.proofs.Tops.{top_is_depth}
 

@@ -7,14 +7,14 @@ use native.Mathlib.Omega.{arith}
 use lib.Dec.{eqb, leb}
 use lib.ListN.{length, get_or}
 use borrow.Author.Tests.{eqb-true, eqb-false, eq-eqb, ne_eqb, le-leb, lt-leb, lt-ltb, not-true, not-false}
+use Rattle.std.specs.Prelude.{Option, None, Some, Result, Ok, Err}
 use Rattle.octets.proofs.Bools.{split, both_i, both_l, both_r, or_r}
 use Rattle.decimal.specs.declared.Instrument.{Instrument}
 use Rattle.decimal.specs.Instruments.{highest}
-use Rattle.matching.specs.declared.Depth.{Depth}
-use Rattle.matching.specs.declared.Depth.TheVariants.{Level, NoLevel}
-use Rattle.matching.specs.Matching.{buys}
+use Rattle.refusals.specs.declared.Refusal.{Refusal}
+use Rattle.refusals.specs.declared.Refusal.TheVariants.{NoMarket, InWork, BadSide}
+use Rattle.matching.specs.declared.Level.{Level}
 use Rattle.matching.specs.Depth.{next, level_at, depth}
-use Rattle.table.specs.declared.best.BestLevel.{BestLevel}
 use Rattle.table.specs.Places.{table_bytes}
 use Rattle.table.specs.Heading.{work_of, kind_number, instrument_of, decided_of}
 use Rattle.table.specs.Orders.{filled, book_of}
@@ -25,14 +25,13 @@ use Rattle.table.proofs.Instruments.{of_instrument, of_market}
 use Rattle.table.proofs.Facts.{market_facts}
 use Rattle.table.proofs.Kept.{idle_decided, market_quoted}
 use Rattle.table.proofs.Bests.{Ranged, none, some, Told, told_idle, told_busy, buy_told, sell_told, orders_gap, levels_gap, words_best}
-use Rattle.market.specs.declared.DepthAnswer.TheVariants.{NoMarket, InWork, BadSide, Found}
 use Rattle.market.specs.Depth.{is_side, depth_answer}
 use Rattle.market.specs.Top.{is_none, is_best, has_levels, has_note, has_gaps, has_heading, top_answer}
 use Rattle.market.proofs.LevelLaws.{next_highest}
 
 -- ---- a level, by the tests that are made of its numbers
 
-module _ (q : Instrument) (b : BestLevel) (a : Bool) (e : a ≡ is_none b) where
+module _ (q : Instrument) (b : Level) (a : Bool) (e : a ≡ is_none b) where
   pub best_none : a ≡ true → true ≡ is_best q b
   unfolding is_best
   best_none h = rw (← e, h)
@@ -47,7 +46,7 @@ module _ (q : Instrument) (b : BestLevel) (a : Bool) (e : a ≡ is_none b) where
   best_level h l top y = rw (← e, h, le-leb b.orders 255 l, y)
 
 -- the levels of both sides
-module _ (q : Instrument) (t : List ℕ) (w : ℕ) (f : w ≡ work_of t) (buy sell : BestLevel) (d : buy ≡ best_at t 1) (e : sell ≡ best_at t 2) (x y : Bool) where
+module _ (q : Instrument) (t : List ℕ) (w : ℕ) (f : w ≡ work_of t) (buy sell : Level) (d : buy ≡ best_at t 1) (e : sell ≡ best_at t 2) (x y : Bool) where
   pub levels_idle : w ≡ 0 → x ≡ is_best q buy → y ≡ is_best q sell → (x && y) ≡ has_levels q t
   unfolding has_levels
   levels_idle z g h = rw (g, h, d, e, eq-eqb (work_of t) 0 (sym f ∙ z))
@@ -81,61 +80,65 @@ module _ (q : Instrument) (t : List ℕ) (f : Bool) (p : f ≡ is_of q t) where
 
 -- ---- the answers
 
-pub words_none : (b : BestLevel) → b.orders ≡ 0 → NoLevel ≡ in_words b
+pub words_none : (b : Level) → b.orders ≡ 0 → None ≡ in_words b
 unfolding in_words
 words_none b z = rw (eq-eqb b.orders 0 z)
 
-pub words_level : (b : BestLevel) → (b.orders ≡ 0 → ⊥) → Level b.level b.total b.orders ≡ in_words b
+pub words_level : (b : Level) → (b.orders ≡ 0 → ⊥) → Some b ≡ in_words b
 unfolding in_words
 words_level b z = rw (ne_eqb b.orders 0 z)
 
--- of both best levels, that of a side
-module _ (t : List ℕ) (side : ℕ) where
-  same_buys : buys side ≡ true → best_at t 1 ≡ best_at t side
-  unfolding best_at
-  same_buys e = rw e
+-- what Depth and Top ask of the work and of the side, before they answer x
+abbrev pub asked : {A : Type 0} → List ℕ → ℕ → Result A Refusal → Result A Refusal
+asked t side x = cond (not (eqb (work_of t) 0)) (Err InWork) (cond (not (is_side side)) (Err BadSide) x)
 
-  same_sells : buys side ≡ false → best_at t 2 ≡ best_at t side
-  unfolding best_at
-  same_sells e = rw e
+module _ (t : List ℕ) (side : ℕ) (r : Result (Unit {0}) Refusal) (p : r ≡ asked t side (Ok tt)) where
+  pub asked_err : (e : Refusal) → r ≡ Err e → {A : Type 0} (x : Result A Refusal) → Err e ≡ asked t side x
+  asked_err e q x =
+      split (eqb (work_of t) 0)
+      (λ w.
+      split (is_side side)
+      (λ s. let n : Err e ≡ Ok tt = sym q ∙ (rw (w, s) at p) in cc)
+      (λ s. let n : Err e ≡ Err BadSide = sym q ∙ (rw (w, s) at p) in let z : e ≡ BadSide = cc in rw (w, s) (ap Err z)))
+      (λ w. let n : Err e ≡ Err InWork = sym q ∙ (rw w at p) in let z : e ≡ InWork = cc in rw w (ap Err z))
 
-  pub side_picked : (buy sell b : BestLevel) → buy ≡ best_at t 1 → sell ≡ best_at t 2 → b ≡ cond (buys side) buy sell → b ≡ best_at t side
-  side_picked buy sell b d e h =
-      split (buys side)
-      (λ z. (rw z at h) ∙ d ∙ same_buys z)
-      (λ z. (rw z at h) ∙ e ∙ same_sells z)
+  pub asked_idle : (u : Unit {0}) → r ≡ Ok u → eqb (work_of t) 0 ≡ true
+  asked_idle u q = split (eqb (work_of t) 0) (λ w. w) (λ w. let n : Ok u ≡ Err InWork = sym q ∙ (rw w at p) in cc)
+
+  pub asked_side : (u : Unit {0}) → r ≡ Ok u → is_side side ≡ true
+  asked_side u q =
+      split (is_side side)
+      (λ s. s)
+      (λ s. let n : Ok u ≡ Err BadSide = sym q ∙ (rw (asked_idle u q, s) at p) in cc)
+
+  pub asked_ok : (u : Unit {0}) → r ≡ Ok u → {A : Type 0} (x : Result A Refusal) → x ≡ asked t side x
+  asked_ok u q x = rw (asked_idle u q, asked_side u q)
 
 module _ (i : Instrument) (t : List ℕ) (side : ℕ) where
-  pub top_short : (length t ≡ table_bytes → ⊥) → NoMarket ≡ top_answer i t side
+  pub top_short : (length t ≡ table_bytes → ⊥) → Err NoMarket ≡ top_answer i t side
   unfolding top_answer has_length
   top_short h = rw (ne_eqb (length t) 32768 h)
 
   module _ (l : length t ≡ table_bytes) (f : Bool) (p : f ≡ has_heading i t) where
-    pub top_wrong : not f ≡ true → NoMarket ≡ top_answer i t side
+    pub top_wrong : not f ≡ true → Err NoMarket ≡ top_answer i t side
     unfolding top_answer has_length
     top_wrong h = rw (eq-eqb (length t) 32768 l, ← p, h)
 
-    module _ (g : not f ≡ false) (w : ℕ) (q : w ≡ work_of t) where
-      pub top_busy : 0 < w → InWork ≡ top_answer i t side
+    module _ (g : not f ≡ false) (r : Result (Unit {0}) Refusal) (q : r ≡ asked t side (Ok tt)) where
+      top_asked : top_answer i t side ≡ asked t side (Ok (in_words (best_at t side)))
       unfolding top_answer has_length
-      top_busy h = rw (eq-eqb (length t) 32768 l, ← p, g, ← q, ne_eqb w 0 (λ e. omega arith))
+      top_asked = rw (eq-eqb (length t) 32768 l, ← p, g)
 
-      module _ (z : w ≤ 0) (s : Bool) (e : s ≡ is_side side) where
-        idle : eqb (work_of t) 0 ≡ true
-        idle = eq-eqb (work_of t) 0 (omega arith)
+      pub top_refused : (e : Refusal) → r ≡ Err e → Err e ≡ top_answer i t side
+      top_refused e h = rw top_asked (asked_err t side r q e h _)
 
-        pub top_bad : not s ≡ true → BadSide ≡ top_answer i t side
-        unfolding top_answer has_length
-        top_bad h = rw (eq-eqb (length t) 32768 l, ← p, g, idle, ← e, h)
-
-        pub top_found : not s ≡ false → (b : BestLevel) → b ≡ best_at t side → (d : Depth) → d ≡ in_words b → Found d ≡ top_answer i t side
-        unfolding top_answer has_length
-        top_found h b x d y = rw (eq-eqb (length t) 32768 l, ← p, g, idle, ← e, h, y, x)
+      pub top_found : (u : Unit {0}) → r ≡ Ok u → (b : Level) → b ≡ best_at t side → (d : Option Level) → d ≡ in_words b → Ok d ≡ top_answer i t side
+      top_found u h b x d y = rw (top_asked, y, x) (asked_ok t side r q u h _)
 
 -- ---- on a market
 
 -- a level in its ranges is one that the heading may keep
-ranged_best : (q : Instrument) (b : BestLevel) → b.level ≤ highest q → Ranged b → is_best q b ≡ true
+ranged_best : (q : Instrument) (b : Level) → b.level ≤ highest q → Ranged b → is_best q b ≡ true
 unfolding is_best is_none
 ranged_best q b h (none x y z) = rw (x, y, z)
 ranged_best q b h (some x y z u v w) =
@@ -173,7 +176,7 @@ module _ (q : Instrument) (t : List ℕ) (m : Market t) (of : is_of q t ≡ true
       (λ z. absurd (eqb-false (decided_of t) 0 e (idle_decided t m (eqb-true (work_of t) 0 z))))
       (λ z. lt-ltb 0 (work_of t) (omega (arith, eqb-false (work_of t) 0 z))))))
 
-  market_gaps : {buy sell : BestLevel} → Told t buy sell → has_gaps t ≡ true
+  market_gaps : {buy sell : Level} → Told t buy sell → has_gaps t ≡ true
   unfolding has_gaps
   market_gaps k = both_i (orders_gap t _ _ k m.long) (levels_gap t _ _ k m.long)
 
@@ -225,6 +228,6 @@ top_is_depth q t side h =
     (λ w.
     rw w
     (split (is_side side)
-    (λ s. rw s (ap Found (market_words t m (eqb-true (work_of t) 0 w) side s)))
+    (λ s. rw s (ap Ok (market_words t m (eqb-true (work_of t) 0 w) side s)))
     (λ s. rw s)))
     (λ w. rw w))

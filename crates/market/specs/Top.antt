@@ -1,27 +1,26 @@
 -- What Top answers (document 02, T-06 and T-08, and refusals 2, 3 and 10): the best level of a side, as the heading says. It looks at the
 -- length of the table and at its heading alone, so it answers on tables too that are no market; on a market its answer is that of
 -- Depth for k = 0, which is a theorem. It changes nothing. Assumes nothing.
-use Rattle.std.specs.Prelude.{Bool, cond, not, ◌&&◌, ◌||◌, List, ℕ, ◌*◌, eqb, leb, ltb}
+use Rattle.std.specs.Prelude.{Bool, cond, not, ◌&&◌, ◌||◌, List, ℕ, ◌*◌, eqb, leb, ltb, Ok, Err}
 use Rattle.octets.specs.Octets.{part_at, all_zero}
 use Rattle.decimal.specs.declared.Instrument.{Instrument}
 use Rattle.decimal.specs.Instruments.{highest}
-use Rattle.table.specs.declared.best.BestLevel.{BestLevel}
+use Rattle.refusals.specs.declared.Refusal.TheVariants.{NoMarket, InWork, BadSide}
+use Rattle.matching.specs.declared.Level.{Level}
 use Rattle.table.specs.Places.{orders_spare_byte, levels_spare_byte}
 use Rattle.table.specs.Heading.{work_of, decided_of}
 use Rattle.table.specs.Best.{best_at, in_words}
 use Rattle.table.specs.Market.{has_length, has_settings, has_next, has_stamp, is_of}
-use Rattle.market.specs.declared.DepthAnswer.{DepthAnswer}
-use Rattle.market.specs.declared.DepthAnswer.TheVariants.{NoMarket, InWork, BadSide, Found}
-use Rattle.market.specs.Depth.{is_side}
+use Rattle.market.specs.Depth.{DepthAnswer, is_side}
 
 -- ---- a heading in its ranges
 
 -- no level: zeros
-unfoldable pub is_none : BestLevel → Bool
+unfoldable pub is_none : Level → Bool
 is_none b = eqb b.level 0 && eqb b.total 0 && eqb b.orders 0
 
 -- no level, or 1 to 255 orders, level 1 to the market's highest, and 1 to 999,999,999 an order in total
-unfoldable pub is_best : Instrument → BestLevel → Bool
+unfoldable pub is_best : Instrument → Level → Bool
 is_best q b =
     is_none b
     || (leb b.orders 255 && leb 1 b.orders && leb 1 b.level && leb b.level (highest q)
@@ -49,8 +48,8 @@ has_heading q t = is_of q t && has_settings t && has_next t && has_stamp t && ha
 -- or that there is none
 unfoldable pub top_answer : Instrument → List ℕ → ℕ → DepthAnswer
 top_answer q t side =
-    cond (not (has_length t)) NoMarket
-    (cond (not (has_heading q t)) NoMarket
-    (cond (not (eqb (work_of t) 0)) InWork
-    (cond (not (is_side side)) BadSide
-    (Found (in_words (best_at t side))))))
+    cond (not (has_length t)) (Err NoMarket)
+    (cond (not (has_heading q t)) (Err NoMarket)
+    (cond (not (eqb (work_of t) 0)) (Err InWork)
+    (cond (not (is_side side)) (Err BadSide)
+    (Ok (in_words (best_at t side))))))

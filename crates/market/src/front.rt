@@ -1,22 +1,21 @@
 // The heading of a table by itself: whether it is in its ranges, and the best level that it keeps. No record is looked at.
-ghost use Rattle.std.specs.Prelude.{◌≡◌, length, cond};
+ghost use Rattle.std.specs.Prelude.{◌≡◌, length};
 ghost use Rattle.decimal.specs.Instruments.{highest};
-ghost use Rattle.matching.specs.Matching.{buys};
 ghost use Rattle.table.specs.Places.{table_bytes};
-ghost use Rattle.table.specs.Best.{best_at, in_words};
+ghost use Rattle.table.specs.Best.{in_words};
 ghost use Rattle.table.specs.Market.{is_of};
 ghost use Rattle.market.specs.Top.{is_none, is_best, has_levels, has_note, has_gaps, has_heading};
 
 use audit::checks::{has_next, has_settings, has_stamp, zeros_at};
 use decimal::Instrument;
-use matching::Depth;
-use table::best::BestLevel;
+use matching::Level;
+use table::best::best_at;
 use table::entries::entries;
 use table::heading::{decided, kind_number, work};
 use table::places;
 
 // Whether the numbers say that there is no level.
-fn is_none(b: BestLevel) -> bool
+fn is_none(b: Level) -> bool
     ensures { result ≡ is_none b }
 {
     (b.level == 0) & (b.total == 0) & (b.orders == 0)
@@ -33,7 +32,7 @@ fn highest(q: Instrument) -> u64
 }
 
 // Whether they do, or are those of a level.
-fn is_best(q: Instrument, b: BestLevel) -> bool
+fn is_best(q: Instrument, b: Level) -> bool
     ensures { result ≡ is_best q b }
 {
     if is_none(b) {
@@ -49,11 +48,13 @@ fn is_best(q: Instrument, b: BestLevel) -> bool
         & (b.total <= b.orders * 999999999)
 }
 
-// Whether both best levels are such, and none while an order is in work; buy and sell are those that the heading keeps.
-fn has_levels(q: Instrument, t: &[u8], buy: BestLevel, sell: BestLevel) -> bool
-    requires { (length t.now ≡ table_bytes) × (buy ≡ best_at t.now 1) × (sell ≡ best_at t.now 2) }
+// Whether both best levels that the heading keeps are such, and none while an order is in work.
+fn has_levels(q: Instrument, t: &[u8]) -> bool
+    requires { length t.now ≡ table_bytes }
     ensures { result ≡ has_levels q t.now }
 {
+    let buy = best_at(t, 1);
+    let sell = best_at(t, 2);
     if work(t) == 0 {
         return is_best(q, buy) & is_best(q, sell);
     }
@@ -85,9 +86,9 @@ fn is_of(q: Instrument, t: &[u8]) -> bool
     t[places::KIND] == kind_number(q)
 }
 
-// Whether the heading is one of such a market, and in its ranges; buy and sell are the best levels that it keeps.
-pub(crate) fn has_heading(q: Instrument, t: &[u8], buy: BestLevel, sell: BestLevel) -> bool
-    requires { (length t.now ≡ table_bytes) × (buy ≡ best_at t.now 1) × (sell ≡ best_at t.now 2) }
+// Whether the heading is one of such a market, and in its ranges.
+pub(crate) fn has_heading(q: Instrument, t: &[u8]) -> bool
+    requires { length t.now ≡ table_bytes }
     ensures { result ≡ has_heading q t.now }
 {
     if !is_of(q, t) {
@@ -99,29 +100,12 @@ pub(crate) fn has_heading(q: Instrument, t: &[u8], buy: BestLevel, sell: BestLev
         & has_stamp(t)
         & has_note(t)
         & has_gaps(t)
-        & has_levels(q, t, buy, sell)
-}
-
-// Of the best levels of the buys and of the sells, that of a side.
-pub(crate) fn of_side(side: u64, buy: BestLevel, sell: BestLevel) -> BestLevel
-    ensures { result ≡ cond (buys side) buy sell }
-{
-    if side == 1 {
-        return buy;
-    }
-    sell
+        & has_levels(q, t)
 }
 
 // The level that the numbers say, or that there is none.
-pub(crate) fn in_words(b: BestLevel) -> Depth
+pub(crate) fn in_words(b: Level) -> Option<Level>
     ensures { result ≡ in_words b }
 {
-    if b.orders == 0 {
-        return Depth::NoLevel;
-    }
-    Depth::Level {
-        level: b.level,
-        total: b.total,
-        orders: b.orders,
-    }
+    if b.orders == 0 { None } else { Some(b) }
 }

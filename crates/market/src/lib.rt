@@ -7,7 +7,10 @@ pub mod front;
 pub mod ladder;
 pub mod levels;
 
-ghost use Rattle.std.specs.Prelude.{◌≡◌, length};
+ghost use Rattle.std.specs.Prelude.{◌≡◌, length, cond, not, eqb};
+ghost use Rattle.refusals.specs.declared.Refusal.TheVariants.{InWork, BadSide};
+ghost use Rattle.table.specs.Places.{table_bytes};
+ghost use Rattle.table.specs.Heading.{work_of};
 ghost use Rattle.table.specs.Opened.{opened};
 ghost use Rattle.report.specs.Reports.{read_of};
 ghost use Rattle.calls.specs.Told.{area_after};
@@ -17,25 +20,17 @@ ghost use Rattle.calls.specs.Submit.{submitted};
 ghost use Rattle.market.specs.Depth.{is_side, depth_answer};
 ghost use Rattle.market.specs.Top.{top_answer};
 
-use crate::front::{has_heading, in_words, of_side};
+use crate::front::{has_heading, in_words};
 use crate::levels::level;
 use audit::is_market_of;
 use calls::{OpenAnswer, RunAnswer, SubmitAnswer};
 use decimal::Instrument;
-use matching::Depth;
+use matching::Level;
+use refusals::Refusal;
 use report::Reading;
 use table::best::best_at;
 use table::heading::work;
 use table::places;
-
-// What Depth and Top answer: a refusal, or the level that there is or that there is none.
-#[derive(Clone, Copy)]
-pub enum DepthAnswer {
-    NoMarket,
-    InWork,
-    BadSide,
-    Found(Depth),
-}
 
 // Opens a market: writes the whole table from the settings and the lists of MPIDs and modes, or changes nothing.
 pub fn open(
@@ -82,46 +77,48 @@ fn is_side(side: u64) -> bool
     (side == 1) | (side == 2)
 }
 
-// The k-th level of a side from the best, the best itself as the heading keeps it. Refused if the table is no such market, an order is in work,
-// or the side is none.
-pub fn depth(q: Instrument, table: &[u8], side: u64, k: u64) -> DepthAnswer
+// Whether the levels of a side may be told of a table: refused while an order is in work, and if the side is none.
+fn asked(table: &[u8], side: u64) -> Result<(), Refusal>
+    requires { length table.now ≡ table_bytes }
+    ensures { result ≡ cond (not (eqb (work_of table.now) 0)) (Err InWork) (cond (not (is_side side)) (Err BadSide) (Ok tt)) }
+{
+    if 0 < work(table) {
+        return Err(Refusal::InWork);
+    }
+    if !is_side(side) {
+        return Err(Refusal::BadSide);
+    }
+    Ok(())
+}
+
+// The k-th level of a side from the best, the best itself as the heading keeps it, or that there is none. Refused if the table is no such
+// market, an order is in work, or the side is none.
+pub fn depth(q: Instrument, table: &[u8], side: u64, k: u64) -> Result<Option<Level>, Refusal>
     ensures { result ≡ depth_answer q table.now side k }
 {
     if !is_market_of(q, table) {
-        return DepthAnswer::NoMarket;
+        return Err(Refusal::NoMarket);
     }
-    if 0 < work(table) {
-        return DepthAnswer::InWork;
-    }
-    if !is_side(side) {
-        return DepthAnswer::BadSide;
-    }
+    asked(table, side)?;
     if k == 0 {
-        return DepthAnswer::Found(in_words(best_at(table, side)));
+        return Ok(in_words(best_at(table, side)));
     }
-    DepthAnswer::Found(level(table, side, k))
+    Ok(level(table, side, k))
 }
 
-// The best level of a side, as the heading says. Refused if the length of the table or its heading is wrong, an order is in work, or the
-// side is none. No record is looked at; on a market the answer is that of depth for k = 0.
-pub fn top(q: Instrument, table: &[u8], side: u64) -> DepthAnswer
+// The best level of a side, as the heading says, or that there is none. Refused if the length of the table or its heading is wrong, an order is
+// in work, or the side is none. No record is looked at; on a market the answer is that of depth for k = 0.
+pub fn top(q: Instrument, table: &[u8], side: u64) -> Result<Option<Level>, Refusal>
     ensures { result ≡ top_answer q table.now side }
 {
     if table.len() != places::TABLE {
-        return DepthAnswer::NoMarket;
+        return Err(Refusal::NoMarket);
     }
-    let buy = best_at(table, 1);
-    let sell = best_at(table, 2);
-    if !has_heading(q, table, buy, sell) {
-        return DepthAnswer::NoMarket;
+    if !has_heading(q, table) {
+        return Err(Refusal::NoMarket);
     }
-    if 0 < work(table) {
-        return DepthAnswer::InWork;
-    }
-    if !is_side(side) {
-        return DepthAnswer::BadSide;
-    }
-    DepthAnswer::Found(in_words(of_side(side, buy, sell)))
+    asked(table, side)?;
+    Ok(in_words(best_at(table, side)))
 }
 
 // The kind and the fields of a report, or that the bytes are none.

@@ -6,11 +6,11 @@ use mathlib.Core.List.{List, [], ◌∷◌, map}
 use Prim.Native.Nat.{ℕ, ◌+◌, ◌≤◌}
 use native.Mathlib.Omega.{arith}
 use lib.ListN.{length}
+use Rattle.std.specs.Prelude.{Some, None}
 use Rattle.octets.specs.Characters.{bytes}
 use Rattle.decimal.specs.declared.Instrument.TheVariants.{Bonds}
 use Rattle.decimal.specs.Writing.{decimal, places, plain, fixed, mean_text, share_of, mean_of}
 use Rattle.matching.specs.declared.Event.{Event}
-use Rattle.matching.specs.declared.Depth.TheVariants.{Level, NoLevel}
 use Rattle.matching.specs.Matching.{Book, at, open_of, Ran, run, meets, better, faces, choose, best, same_owner, prevention, meeting, ending, preventing, causes, place_after, change, after, play, partner, outcome, happens, work_after, minimum_of, would_trade, misses, sum_over, count_of}
 use Rattle.matching.specs.Accounts.{tally}
 use Rattle.matching.specs.Depth.{stands, behind, nearer, next, level_at, on_level, share, total, orders, depth}
@@ -157,11 +157,11 @@ text_mirror11 : mean_text Bonds 999_999_899_333 ≡ bytes "-0.100667"
 unfolding mean_text fixed plain decimal places
 text_mirror11 = refl
 
-level10 : depth book10 2 0 ≡ Level (yield 100) 4_999_999_995 5
+level10 : depth book10 2 0 ≡ Some (record { level = yield 100; total = 4_999_999_995; orders = 5 })
 unfolding open_of sum_over count_of stands behind nearer next level_at on_level share total orders depth
 level10 = refl
 
-no_level10 : depth book10 2 1 ≡ NoLevel
+no_level10 : depth book10 2 1 ≡ None
 unfolding open_of sum_over count_of stands behind nearer next level_at on_level share total orders depth
 no_level10 = refl
 
@@ -274,5 +274,5 @@ module _ (modes : ℕ → ℕ) (b : Book) where
   missed3 m e = rw e (shown modes 3 (book_least 801) 5 1 (omega arith) m comes_missed3)
 
 -- 10: one level, with 4,999,999,995 and 5 orders
-pub case10 : (b : Book) → b ≡ book10 → (depth b 2 0 ≡ Level (yield 100) 4_999_999_995 5) × (depth b 2 1 ≡ NoLevel)
+pub case10 : (b : Book) → b ≡ book10 → (depth b 2 0 ≡ Some (record { level = yield 100; total = 4_999_999_995; orders = 5 })) × (depth b 2 1 ≡ None)
 case10 b e = rw e (level10, no_level10)

@@ -1,10 +1,9 @@
 -- Depth: the levels of a side from the best, each with its total open quantity and its number of orders (document 01,
 -- "The table and its calls", Depth). Totals are sums of naturals, so nothing wraps. Only orders with something open count.
 -- A level of 0 is no level. Assumes nothing.
-use Rattle.std.specs.Prelude.{ℕ, zero, suc, ◌+◌, Bool, cond, not, ◌&&◌, ◌||◌, length, eqb}
+use Rattle.std.specs.Prelude.{ℕ, zero, suc, ◌+◌, Bool, cond, not, ◌&&◌, ◌||◌, length, eqb, Option, Some, None}
 use Rattle.matching.specs.declared.Order.{Order}
-use Rattle.matching.specs.declared.Depth.{Depth}
-use Rattle.matching.specs.declared.Depth.TheVariants.{Level, NoLevel}
+use Rattle.matching.specs.declared.Level.{Level}
 use Rattle.matching.specs.Matching.{Book, at, open_of, is_open, is_buy, buys, ahead, sum_over, count_of}
 
 -- an order of side s, 1 the buys and any other the sells; an open one
@@ -48,22 +47,22 @@ unfoldable pub orders : Book → ℕ → ℕ → ℕ
 orders b s l = count_of (on_level s l) b (length b)
 
 -- Depth's answer
-unfoldable pub depth : Book → ℕ → ℕ → Depth
+unfoldable pub depth : Book → ℕ → ℕ → Option Level
 depth b s k =
     let l = level_at b s k in
-    cond (eqb l 0) NoLevel (Level l (total b s l) (orders b s l))
+    cond (eqb l 0) None (Some (record { level = l; total = total b s l; orders = orders b s l }))
 
 -- what an answer says in numbers; no level counts for nothing
-abbrev pub total_of : Depth → ℕ
-total_of (Level l t n) = t
-total_of NoLevel = 0
+abbrev pub total_of : Option Level → ℕ
+total_of (Some l) = l.total
+total_of None = 0
 
-abbrev pub orders_of : Depth → ℕ
-orders_of (Level l t n) = n
-orders_of NoLevel = 0
+abbrev pub orders_of : Option Level → ℕ
+orders_of (Some l) = l.orders
+orders_of None = 0
 
 -- f of the answers for k below n, added up
-unfoldable pub over_levels : (Depth → ℕ) → Book → ℕ → ℕ → ℕ
+unfoldable pub over_levels : (Option Level → ℕ) → Book → ℕ → ℕ → ℕ
 over_levels f b s zero = 0
 over_levels f b s (suc n) = over_levels f b s n + f (depth b s n)
 

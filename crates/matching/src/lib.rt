@@ -2,7 +2,7 @@
 // the table's.
 #![tactic(auto)]
 
-ghost use Rattle.std.specs.Prelude.{◌≡◌, min};
+ghost use Rattle.std.specs.Prelude.{◌≡◌};
 ghost use Rattle.matching.specs.Matching.{open_of, is_open, is_buy, is_immediate, minimum_of, opposite, same_owner, opposed, meets, better, faces, prevention, meeting, ending, place_after, change, prevented_reports, reports, buys, crosses, ahead};
 ghost use Rattle.matching.specs.Depth.{on_side, stands, behind, nearer};
 ghost use Rattle.matching.specs.Held.{Covered, Sound, May};
@@ -87,11 +87,12 @@ pub enum Event {
     },
 }
 
-// The k-th level of a side from the best, or that there is none.
-#[derive(Clone, Copy)]
-pub enum Depth {
-    Level { level: u64, total: u64, orders: u64 },
-    NoLevel,
+// A level of a side, with its total open quantity and its number of orders.
+#[derive(Clone, Copy, PartialEq, Eq)]
+pub struct Level {
+    pub level: u64,
+    pub total: u64,
+    pub orders: u64,
 }
 
 impl Order {
@@ -135,8 +136,7 @@ impl Order {
     pub fn opposite(self, other: Order) -> bool
         ensures { result ≡ opposite self other }
     {
-        let b = other.is_buy();
-        if self.is_buy() { !b } else { b }
+        self.is_buy() != other.is_buy()
     }
 
     // The levels of two opposite orders meet.
@@ -211,55 +211,47 @@ impl Order {
         requires { Sound self × May e self }
         ensures { result ≡ change e self }
     {
-        let mut o = self;
         match e {
-            Event::Accepted { order: _, entered } => {
-                o = entered;
-            }
+            Event::Accepted { entered, .. } => entered,
             Event::Replaced {
-                order: _,
                 level,
                 quantity,
                 place,
-            } => {
-                o.level = level;
-                o.qty = quantity;
-                o.place = self.place_after(level, quantity, place);
-            }
-            Event::Withdrawn { order: _, quantity } => {
-                o.canceled = o.canceled + quantity;
-            }
-            Event::Canceled { order: _, quantity } => {
-                o.canceled = o.canceled + quantity;
-            }
-            Event::Decremented { order: _, quantity } => {
-                o.decremented = o.decremented + quantity;
-            }
+                ..
+            } => Order {
+                level,
+                qty: quantity,
+                place: self.place_after(level, quantity, place),
+                ..self
+            },
+            Event::Withdrawn { quantity, .. }
+            | Event::Canceled { quantity, .. }
+            | Event::Killed { quantity, .. }
+            | Event::Expired { quantity, .. } => Order {
+                canceled: self.canceled + quantity,
+                ..self
+            },
+            Event::Decremented { quantity, .. } => Order {
+                decremented: self.decremented + quantity,
+                ..self
+            },
             Event::Traded {
-                order: _,
-                other: _,
                 quantity,
                 level,
-            } => {
-                o.executed = o.executed + quantity;
-                o.sum = o.sum + quantity * level;
-            }
-            Event::Killed { order: _, quantity } => {
-                o.canceled = o.canceled + quantity;
-            }
-            Event::Expired { order: _, quantity } => {
-                o.canceled = o.canceled + quantity;
-            }
+                ..
+            } => Order {
+                executed: self.executed + quantity,
+                sum: self.sum + quantity * level,
+                ..self
+            },
         }
-        o
     }
 
     // An order of a side, 1 the buys and any other the sells.
     pub fn on_side(self, side: u64) -> bool
         ensures { result ≡ on_side side self }
     {
-        let b = self.is_buy();
-        if side == 1 { b } else { !b }
+        self.is_buy() == (side == 1)
     }
 
     // An open order of a side.
@@ -285,7 +277,7 @@ impl Order {
     }
 }
 
-// What the mode does to the newest and the oldest.
+// What the mode does to the newest and the oldest. It is the byte that a table holds, and any but 1 and 2 decrements: no enum names 256 of them.
 pub fn prevented(mode: u64, newest: u64, oldest: u64) -> Prevention
     ensures { result ≡ prevention mode newest oldest }
 {
@@ -307,7 +299,7 @@ pub fn matched(worker: Order, resting: Order, mode: u64) -> Outcome
         return Outcome::Prevented(prevented(mode, w, r));
     }
     Outcome::Trade {
-        quantity: smaller(w, r),
+        quantity: w.min(r),
         level: resting.level,
     }
 }
@@ -317,12 +309,8 @@ pub fn prevented_reports(p: Prevention) -> u64
     ensures { result ≡ prevented_reports p }
 {
     match p {
-        Prevention::CancelNewest { quantity: _ } => 1,
-        Prevention::CancelOldest { quantity: _ } => 1,
-        Prevention::Decrement {
-            newest: _,
-            oldest: _,
-        } => 2,
+        Prevention::CancelNewest { .. } | Prevention::CancelOldest { .. } => 1,
+        Prevention::Decrement { .. } => 2,
     }
 }
 
@@ -331,13 +319,9 @@ pub fn reports(outcome: Outcome) -> u64
     ensures { result ≡ reports outcome }
 {
     match outcome {
-        Outcome::Trade {
-            quantity: _,
-            level: _,
-        } => 2,
+        Outcome::Trade { .. } => 2,
         Outcome::Prevented(p) => prevented_reports(p),
-        Outcome::Kills { quantity: _ } => 1,
-        Outcome::Expires { quantity: _ } => 1,
+        Outcome::Kills { .. } | Outcome::Expires { .. } => 1,
         Outcome::Rests => 0,
     }
 }
@@ -349,7 +333,7 @@ pub fn crosses(buy: u64, sell: u64) -> bool
     buy <= sell
 }
 
-// Level x is better than level y on a side.
+// Level x is better than level y on a side, a number: the record or the caller has any, of which 1 buys and each other one sells.
 pub fn ahead(side: u64, x: u64, y: u64) -> bool
     ensures { result ≡ ahead (buys side) x y }
 {
@@ -361,10 +345,4 @@ pub fn behind(side: u64, x: u64, l: u64) -> bool
     ensures { result ≡ behind side x l }
 {
     (x == 0) | ahead(side, x, l)
-}
-
-pub fn smaller(a: u64, b: u64) -> u64
-    ensures { result ≡ min a b }
-{
-    if a < b { a } else { b }
 }

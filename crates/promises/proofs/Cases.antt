@@ -11,7 +11,7 @@ use lib.Dec.{eqb}
 use Rattle.octets.specs.Characters.{bytes}
 use Rattle.decimal.specs.declared.Instrument.TheVariants.{Bonds}
 use Rattle.matching.specs.declared.Event.{Event}
-use Rattle.matching.specs.declared.Depth.TheVariants.{Level, NoLevel}
+use Rattle.std.specs.Prelude.{Some, None, Ok}
 use Rattle.matching.specs.declared.Order.{Order}
 use Rattle.matching.specs.Matching.{Book, at, open_of, minimum_of, misses, place_after, change, after, play}
 use Rattle.matching.specs.Rehearsed.{yield, book_a, events1, events2, events3, book4, events4, book5, events5, book6, events6, book7, events7, book8, book9, events9, book10, book11, mirror11, book_turn, events_reduced, events_raised, book_kill, events_kill, events_fill, book_least, events_least2, events_least3, Shows, Averages}
@@ -23,7 +23,6 @@ use Rattle.table.specs.Changes.{misses_now}
 use Rattle.table.proofs.Instruments.{of_market}
 use Rattle.table.proofs.Facts.{market_facts}
 use Rattle.table.proofs.Kept.{minimum_undecided}
-use Rattle.market.specs.declared.DepthAnswer.TheVariants.{Found}
 use Rattle.market.specs.Depth.{depth_answer}
 use Rattle.promises.specs.Shown.{ShowsOn, AveragesOn}
 use Rattle.promises.proofs.Agreeing.{ran_matches}
@@ -116,10 +115,10 @@ module _ (t : List ℕ) (m : is_market_of Bonds t ≡ true) where
 
   -- 10: five sells of 999,999,999 at 0.100: one level of 4,999,999,995 and 5 orders
   pub table10 : book_of t ≡ book10 → work_of t ≡ 0
-      → (depth_answer Bonds t 2 0 ≡ Found (Level (yield 100) 4_999_999_995 5)) × (depth_answer Bonds t 2 1 ≡ Found NoLevel)
+      → (depth_answer Bonds t 2 0 ≡ Ok (Some (record { level = yield 100; total = 4_999_999_995; orders = 5 }))) × (depth_answer Bonds t 2 1 ≡ Ok None)
   table10 b w =
       let c = case10 (book_of t) b in
-      (found Bonds t m w 2 0 refl ∙ ap Found c.0, found Bonds t m w 2 1 refl ∙ ap Found c.1)
+      (found Bonds t m w 2 0 refl ∙ ap Ok c.0, found Bonds t m w 2 1 refl ∙ ap Ok c.1)
 
   -- 11: 1 at 0.100 and 2 at 0.101: AvgPx 0.100667
   pub table11 : book_of t ≡ book11 → work_of t ≡ 3 → AveragesOn Bonds t 3 3 3_000_000_302 3 1_000_000_100_667 (bytes "0.100667")

@@ -6,11 +6,11 @@ use Prim.Native.Nat.{ℕ, zero, suc, ◌+◌, ◌-◌, ◌≤◌}
 use native.Mathlib.Omega.{arith}
 use lib.ListN.{length}
 use borrow.Author.Tests.{eq-eqb, ltb-false}
+use Rattle.std.specs.Prelude.{Option, None, Ok}
 use Rattle.octets.proofs.Bools.{split}
 use Rattle.decimal.specs.declared.Instrument.{Instrument}
 use Rattle.matching.specs.declared.Order.{Order}
-use Rattle.matching.specs.declared.Depth.{Depth}
-use Rattle.matching.specs.declared.Depth.TheVariants.{NoLevel}
+use Rattle.matching.specs.declared.Level.{Level}
 use Rattle.matching.specs.Matching.{Book, at, open_of, is_open, is_buy, sum_over, count_of}
 use Rattle.matching.specs.Held.{Sound, In}
 use Rattle.matching.specs.Depth.{stands, level_at, depth, total_of, orders_of, over_levels, open_on, orders_on}
@@ -22,7 +22,6 @@ use Rattle.table.specs.Market.{is_market_of}
 use Rattle.table.proofs.Instruments.{of_market}
 use Rattle.table.proofs.Facts.{market_facts}
 use Rattle.table.proofs.Books.{length_book}
-use Rattle.market.specs.declared.DepthAnswer.TheVariants.{Found}
 use Rattle.market.specs.Depth.{is_side, depth_answer}
 use Rattle.promises.specs.Whole.{open_in, orders_in, over_depth}
 
@@ -32,7 +31,7 @@ module _ (b : Book) (s : ℕ) where
   unfolding level_at
   next_none k z = rw (eq-eqb (level_at b s k) 0 z)
 
-  no_level : (k : ℕ) → level_at b s k ≡ 0 → depth b s k ≡ NoLevel
+  no_level : (k : ℕ) → level_at b s k ≡ 0 → depth b s k ≡ None
   unfolding depth
   no_level k z = rw (eq-eqb (level_at b s k) 0 z)
 
@@ -40,14 +39,14 @@ module _ (b : Book) (s : ℕ) where
   level_none n zero e = ap (λ (k : ℕ). level_at b s k) (omega arith) ∙ e
   level_none n (suc m) e = ap (λ (k : ℕ). level_at b s k) (omega arith) ∙ next_none (n + m) (level_none n m e)
 
-  over_one : (f : Depth → ℕ) (n : ℕ) → over_levels f b s (suc n) ≡ over_levels f b s n + f (depth b s n)
+  over_one : (f : Option Level → ℕ) (n : ℕ) → over_levels f b s (suc n) ≡ over_levels f b s n + f (depth b s n)
   unfolding over_levels
   over_one f n = refl
 
-  over_more : (f : Depth → ℕ) → f NoLevel ≡ 0 → (n m : ℕ) → level_at b s n ≡ 0 → over_levels f b s (n + m) ≡ over_levels f b s n
+  over_more : (f : Option Level → ℕ) → f None ≡ 0 → (n m : ℕ) → level_at b s n ≡ 0 → over_levels f b s (n + m) ≡ over_levels f b s n
   over_more f z n zero e = ap (λ (k : ℕ). over_levels f b s k) (omega arith)
   over_more f z n (suc m) e =
-      let d : depth b s (n + m) ≡ NoLevel = no_level (n + m) (level_none n m e) in
+      let d : depth b s (n + m) ≡ None = no_level (n + m) (level_none n m e) in
       let g : f (depth b s (n + m)) ≡ 0 = ap f d ∙ z in
       ap (λ (k : ℕ). over_levels f b s k) (omega arith) ∙ over_one f (n + m) ∙ omega (arith, over_more f z n m e)
 
@@ -83,11 +82,11 @@ sides_count b =
 
 -- ---- Depth on a market with nothing in work
 module _ (q : Instrument) (t : List ℕ) (m : is_market_of q t ≡ true) (idle : work_of t ≡ 0) where
-  pub found : (s k : ℕ) → is_side s ≡ true → depth_answer q t s k ≡ Found (depth (book_of t) s k)
+  pub found : (s k : ℕ) → is_side s ≡ true → depth_answer q t s k ≡ Ok (depth (book_of t) s k)
   unfolding depth_answer
   found s k e = rw (m, eq-eqb (work_of t) 0 idle, e)
 
-  over_depth_lem : (f : Depth → ℕ) (s n : ℕ) → is_side s ≡ true → over_depth q f t s n ≡ over_levels f (book_of t) s n
+  over_depth_lem : (f : Option Level → ℕ) (s n : ℕ) → is_side s ≡ true → over_depth q f t s n ≡ over_levels f (book_of t) s n
   unfolding over_depth over_levels
   over_depth_lem f s zero e = refl
   over_depth_lem f s (suc n) e = rw (found s n e, over_depth_lem f s n e)
@@ -95,7 +94,7 @@ module _ (q : Instrument) (t : List ℕ) (m : is_market_of q t ≡ true) (idle :
   sound : (k : ℕ) → In (book_of t) k → Sound (at (book_of t) k)
   sound = (market_facts t (of_market q t m)).held.sound
 
-  over_all : (f : Depth → ℕ) → f NoLevel ≡ 0 → (s n : ℕ) → is_side s ≡ true → filled t ≤ n → over_depth q f t s n ≡ over_levels f (book_of t) s (length (book_of t))
+  over_all : (f : Option Level → ℕ) → f None ≡ 0 → (s n : ℕ) → is_side s ≡ true → filled t ≤ n → over_depth q f t s n ≡ over_levels f (book_of t) s (length (book_of t))
   over_all f z s n e h =
       let l = length_book t in
       let p : n ≡ length (book_of t) + (n - length (book_of t)) = omega arith in

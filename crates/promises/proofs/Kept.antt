@@ -43,7 +43,8 @@ use Rattle.load.specs.declared.LoadAnswer.TheVariants as load_variants
 use Rattle.load.specs.Load.{loaded, load_number, refuses}
 use Rattle.load.proofs.Answers.{Opens, narrow, strange, busy, went, opens}
 use Rattle.intake.proofs.Keeping.{Comes, no_room, no_market, in_work, spent, heard, comes}
-use Rattle.market.specs.declared.DepthAnswer.TheVariants as depth_variants
+use Rattle.std.specs.Prelude.{Ok, Err}
+use Rattle.refusals.specs.declared.Refusal.TheVariants as refusal_variants
 use Rattle.market.specs.Depth.{is_side, depth_answer}
 use Rattle.promises.specs.History.{Call, table_after, reports_after}
 use Rattle.promises.specs.Tallies.{Account, blank, account_of, bought, sold, trades_of, self_trades, unread}
@@ -212,15 +213,15 @@ module _ (q : Instrument) (t : List ℕ) (m : is_market_of q t ≡ true) where
       by (busy a n w x) = let n : ◌≡◌ {A = ℕ} 3 2 = rw x at (ap load_number e) in omega arith
       by (went a n w x) = not_both (ap refuses e) (rw x)
 
-  pub depth_found : (side k : ℕ) → depth_answer q t side k ≢ depth_variants.NoMarket
+  pub depth_found : (side k : ℕ) → depth_answer q t side k ≢ Err refusal_variants.NoMarket
   unfolding depth_answer
   depth_found side k e =
       split (eqb (work_of t) 0)
       (λ z.
       split (is_side side)
-      (λ w. let x : depth_variants.Found (depth (book_of t) side k) ≡ depth_variants.NoMarket = rw (m, z, w) at e in let y : ◌≡◌ {A = ℕ} 0 1 = cc in omega arith)
-      (λ w. let x : depth_variants.BadSide ≡ depth_variants.NoMarket = rw (m, z, w) at e in let y : ◌≡◌ {A = ℕ} 0 1 = cc in omega arith))
-      (λ z. let x : depth_variants.InWork ≡ depth_variants.NoMarket = rw (m, z) at e in let y : ◌≡◌ {A = ℕ} 0 1 = cc in omega arith)
+      (λ w. let x : Ok (depth (book_of t) side k) ≡ Err refusal_variants.NoMarket = rw (m, z, w) at e in cc)
+      (λ w. let x : Err refusal_variants.BadSide ≡ Err refusal_variants.NoMarket = rw (m, z, w) at e in cc))
+      (λ z. let x : Err refusal_variants.InWork ≡ Err refusal_variants.NoMarket = rw (m, z) at e in cc)
 
   -- ---- an open buy is above an open sell
   pub buys_above : work_of t ≡ 0 → (i j : ℕ) → 1 ≤ i → i ≤ filled t → 1 ≤ j → j ≤ filled t → is_buy (order_at t i) ≡ true → is_buy (order_at t j) ≡ false

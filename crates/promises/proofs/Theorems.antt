@@ -36,7 +36,8 @@ use Rattle.load.specs.declared.LoadAnswer.TheVariants as load-answer
 use Rattle.load.specs.Load.{enough, Loaded, loaded, load_number, load_place, refuses}
 use Rattle.load.specs.Resumes.{GoesOn}
 use Rattle.load.proofs.Theorems.{load_goes_on}
-use Rattle.market.specs.declared.DepthAnswer.TheVariants as depth-answer
+use Rattle.std.specs.Prelude.{Err}
+use Rattle.refusals.specs.declared.Refusal.TheVariants as refusal
 use Rattle.market.specs.Depth.{depth_answer}
 use Rattle.market.specs.Top.{top_answer}
 use Rattle.market.proofs.Theorems.{top_tells_depth}
@@ -86,7 +87,7 @@ module _ (q : Instrument) (before venue port code : List ℕ) (first : ℕ) (mpi
   pub load_finds_a_market : (buffer : List ℕ) (room : ℕ) → (loaded q table buffer room).answer ≢ load-answer.NoMarket
   load_finds_a_market = load_found q table a_market
 
-  pub depth_finds_a_market : (side k : ℕ) → depth_answer q table side k ≢ depth-answer.NoMarket
+  pub depth_finds_a_market : (side k : ℕ) → depth_answer q table side k ≢ Err refusal.NoMarket
   depth_finds_a_market = depth_found q table a_market
 
   -- ---- a load is single calls: with every load taken apart into what it does with each message, Submit and Run, the history has no load

@@ -32,7 +32,7 @@ use Rattle.ticket.specs.Tickets.{or_stored_at, stamp_on, shown_on, row_of, ticke
 use Rattle.calls.specs.declared.RunAnswer.{RunAnswer}
 use Rattle.decimal.specs.declared.Instrument.TheVariants.{Bonds, Equities}
 use Rattle.calls.specs.Open.{open_answer, open_number_of}
-use Rattle.matching.specs.declared.Depth.TheVariants.{Level}
+use Rattle.std.specs.Prelude.{Some}
 use Rattle.kamurjesh.specs.Numbers.{signed_of, quote_of}
 use lib.IntN.{pos}
 use Rattle.market.specs.Depth.{depth_answer, depth_number}
@@ -207,11 +207,11 @@ unfolding computes
 dead_uncounted = refl
 
 -- the level of the yield 0.100 is shown to C as 100 thousandths, that of the price 100.1 as 1,001 tenths
-yield_shown : quote_of Bonds (Level 1000000100 700 2) ≡ pos 100
+yield_shown : quote_of Bonds (Some (record { level = 1000000100; total = 700; orders = 2 })) ≡ pos 100
 unfolding signed_of quote_of
 yield_shown = refl
 
-price_shown : quote_of Equities (Level 999998999 700 2) ≡ pos 1001
+price_shown : quote_of Equities (Some (record { level = 999998999; total = 700; orders = 2 })) ≡ pos 1001
 unfolding signed_of quote_of
 price_shown = refl
 

@@ -15,12 +15,12 @@ use Rattle.octets.proofs.Bools.{split}
 use Rattle.octets.proofs.Places.{le_at_ext, le_at_bytes_of}
 use Rattle.octets.proofs.Parts.{length_part, get_d_part, part_ext, part_in_lem, same_is, is_same}
 use Rattle.octets.proofs.Zeros.{zero_is}
-use Rattle.matching.specs.declared.Depth.TheVariants.{NoLevel}
+use Rattle.std.specs.Prelude.{None}
 use Rattle.matching.specs.Matching.{Book, count_of}
 use Rattle.matching.specs.Depth.{level_at, next, on_level, total, orders, depth}
 use Rattle.matching.proofs.Books.{count_most}
 use Rattle.matching.proofs.Levels.{total_least, total_each, orders_some, next_most}
-use Rattle.table.specs.declared.best.BestLevel.{BestLevel}
+use Rattle.matching.specs.declared.Level.{Level}
 use Rattle.table.specs.Places.{table_bytes}
 use Rattle.table.specs.Heading.{work_of}
 use Rattle.table.specs.Orders.{book_of}
@@ -103,7 +103,7 @@ has_best_none t long w b z =
 -- ---- on a market
 
 -- a level is none, or in its ranges
-pub data Ranged (b : BestLevel) : Type 0 where
+pub data Ranged (b : Level) : Type 0 where
   none : b.level ≡ 0 → b.total ≡ 0 → b.orders ≡ 0 → Ranged b
   some : 1 ≤ b.level → b.level ≤ 1999999999 → 1 ≤ b.orders → b.orders ≤ 255 → b.orders ≤ b.total → b.total ≤ b.orders * 999999999 → Ranged b
 
@@ -127,15 +127,15 @@ best_ranged t s m =
     (total_each b s sound l n (omega arith))))
 
 -- so its numbers are of their widths
-small_level : (b : BestLevel) → Ranged b → b.level < 256 ^ 4
+small_level : (b : Level) → Ranged b → b.level < 256 ^ 4
 small_level b (none x y z) = omega arith
 small_level b (some x y z u v w) = omega arith
 
-small_total : (b : BestLevel) → Ranged b → b.total < 256 ^ 8
+small_total : (b : Level) → Ranged b → b.total < 256 ^ 8
 small_total b (none x y z) = omega arith
 small_total b (some x y z u v w) = omega arith
 
-small_orders : (b : BestLevel) → Ranged b → b.orders < 256 ^ 1
+small_orders : (b : Level) → Ranged b → b.orders < 256 ^ 1
 small_orders b (none x y z) = omega arith
 small_orders b (some x y z u v w) = omega arith
 
@@ -155,7 +155,7 @@ words_best t s m =
 -- ---- the bytes of two levels, read
 
 -- the heading keeps these two, each none or in its ranges
-pub record Told (t : List ℕ) (buy sell : BestLevel) : Type 0 where
+pub record Told (t : List ℕ) (buy sell : Level) : Type 0 where
   pub row : part_at t 97 31 ≡ best_row buy sell
   pub buy_ranged : Ranged buy
   pub sell_ranged : Ranged sell
@@ -170,7 +170,7 @@ byte_number : (t : List ℕ) (p : ℕ) → get_or t p 0 ≡ le_at 1 t p
 unfolding le_at
 byte_number t p = omega arith
 
-module _ (t : List ℕ) (buy sell : BestLevel) (k : Told t buy sell) where
+module _ (t : List ℕ) (buy sell : Level) (k : Told t buy sell) where
   got : (n p v : ℕ) → p + n ≤ 31 → le_at n (best_row buy sell) p ≡ le_at n (bytes_of n v) 0 → v < 256 ^ n → le_at n t (97 + p) ≡ v
   got n p v h e small = part_number t n p h ∙ ap (λ (xs : List ℕ). le_at n xs p) k.row ∙ e ∙ le_at_bytes_of n v small
 
@@ -216,7 +216,7 @@ unfolding book_row
 told_idle t m w =
     record { row = best_is t m.best ∙ due_idle t w; buy_ranged = best_ranged t 1 m; sell_ranged = best_ranged t 2 m }
 
-pub told_busy : (t : List ℕ) → Market t → 1 ≤ work_of t → Told t (in_numbers NoLevel) (in_numbers NoLevel)
+pub told_busy : (t : List ℕ) → Market t → 1 ≤ work_of t → Told t (in_numbers None) (in_numbers None)
 unfolding best_row orders_bytes levels_bytes totals_bytes bytes_of
 told_busy t m l =
     record { row = best_is t m.best ∙ due_busy t l; buy_ranged = none refl refl refl; sell_ranged = none refl refl refl }

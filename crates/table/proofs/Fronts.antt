@@ -13,10 +13,10 @@ use borrow.Author.Tests.{ltb-true, ltb-false, eq-eqb, ne_eqb, not-true, not-fals
 use Rattle.octets.specs.Octets.{le_at, put}
 use Rattle.octets.proofs.Bools.{split, both_l, both_not_r}
 use Rattle.matching.specs.declared.Order.{Order}
-use Rattle.matching.specs.declared.Depth.TheVariants.{NoLevel}
+use Rattle.std.specs.Prelude.{None}
 use Rattle.matching.specs.Matching.{at, open_of, is_open, is_buy, buys, ahead, sum_over, count_of}
 use Rattle.matching.specs.Depth.{on_side, stands, behind, nearer, next, level_at, on_level, share, total, orders, depth}
-use Rattle.table.specs.declared.best.BestLevel.{BestLevel}
+use Rattle.matching.specs.declared.Level.{Level}
 use Rattle.table.specs.Orders.{order_at, filled, book_of}
 use Rattle.table.specs.Best.{in_numbers, best_on, stands_on, best_at, best_row, book_row, put_best}
 use Rattle.table.proofs.Same.{filled_few}
@@ -142,18 +142,18 @@ module _ (t : List ℕ) (n s : ℕ) where
 
 -- ---- what stands on a level, of the first i records
 
-pub record Counted (t : List ℕ) (s l i : ℕ) (b : BestLevel) : Type 0 where
+pub record Counted (t : List ℕ) (s l i : ℕ) (b : Level) : Type 0 where
   pub on : b.level ≡ l
   pub added : b.total ≡ sum_over (share s l) (book_of t) i
   pub counted : b.orders ≡ count_of (on_level s l) (book_of t) i
   pub few : b.orders ≤ i
   pub small : b.total ≤ i * 4294967296
 
-pub counted_none : (t : List ℕ) (s l : ℕ) (b : BestLevel) → b.level ≡ l → b.total ≡ 0 → b.orders ≡ 0 → Counted t s l 0 b
+pub counted_none : (t : List ℕ) (s l : ℕ) (b : Level) → b.level ≡ l → b.total ≡ 0 → b.orders ≡ 0 → Counted t s l 0 b
 unfolding count_of sum_over
 counted_none t s l b e f g = record { on = e; added = f; counted = g; few = omega arith; small = omega arith }
 
-module _ (t : List ℕ) (n s l i : ℕ) (b : BestLevel) (p : Counted t s l i b) (e : n ≡ filled t) (h : i < n) where
+module _ (t : List ℕ) (n s l i : ℕ) (b : Level) (p : Counted t s l i b) (e : n ≡ filled t) (h : i < n) where
   -- both sums stay far below 2^64
   pub total_fits : b.total ≤ 1099511627776
   total_fits = omega (arith, p.small, filled_few t)
@@ -161,7 +161,7 @@ module _ (t : List ℕ) (n s l i : ℕ) (b : BestLevel) (p : Counted t s l i b) 
   pub orders_fit : b.orders ≤ 255
   orders_fit = omega (arith, p.few, filled_few t)
 
-  pub counted_more : (r : BestLevel) → r.level ≡ b.level → r.total ≡ b.total + share s b.level (order_at t (i + 1))
+  pub counted_more : (r : Level) → r.level ≡ b.level → r.total ≡ b.total + share s b.level (order_at t (i + 1))
       → r.orders ≡ b.orders + cond (on_level s b.level (order_at t (i + 1))) 1 0 → r.total ≤ b.total + 4294967295 → Counted t s l (i + 1) r
   unfolding count_of sum_over
   counted_more r u v w z =
@@ -179,7 +179,7 @@ module _ (t : List ℕ) (n s l i : ℕ) (b : BestLevel) (p : Counted t s l i b) 
       most true = omega arith
       most false = omega arith
 
-pub counted_all : (t : List ℕ) (n s l i : ℕ) (b : BestLevel) → n ≡ filled t → i ≤ n → n ≤ i → Counted t s l i b → b ≡ stands_on (book_of t) s l
+pub counted_all : (t : List ℕ) (n s l i : ℕ) (b : Level) → n ≡ filled t → i ≤ n → n ≤ i → Counted t s l i b → b ≡ stands_on (book_of t) s l
 unfolding stands_on total orders
 counted_all t n s l i b e h k p =
     let z : i ≡ length (book_of t) = omega (arith, length_book t) in
@@ -189,14 +189,14 @@ counted_all t n s l i b e h k p =
 
 -- ---- the best level
 
-pub none_on : (b r : BestLevel) → b.level ≡ 0 → r.level ≡ 0 → r.total ≡ 0 → r.orders ≡ 0 → r ≡ cond (eqb b.level 0) (in_numbers NoLevel) b
+pub none_on : (b r : Level) → b.level ≡ 0 → r.level ≡ 0 → r.total ≡ 0 → r.orders ≡ 0 → r ≡ cond (eqb b.level 0) (in_numbers None) b
 none_on b r e f g h = rw (eq-eqb b.level 0 e) (λ j. record { level = f j; total = g j; orders = h j })
 
-pub some_on : (b : BestLevel) → (b.level ≡ 0 → ⊥) → b ≡ cond (eqb b.level 0) (in_numbers NoLevel) b
+pub some_on : (b : Level) → (b.level ≡ 0 → ⊥) → b ≡ cond (eqb b.level 0) (in_numbers None) b
 some_on b e = rw (ne_eqb b.level 0 e)
 
-pub best_on_lem : (t : List ℕ) (n s l : ℕ) (b r : BestLevel) → n ≡ filled t → l ≡ next (book_of t) s 0 n → b ≡ stands_on (book_of t) s l
-    → r ≡ cond (eqb b.level 0) (in_numbers NoLevel) b → r ≡ best_on (book_of t) s
+pub best_on_lem : (t : List ℕ) (n s l : ℕ) (b r : Level) → n ≡ filled t → l ≡ next (book_of t) s 0 n → b ≡ stands_on (book_of t) s l
+    → r ≡ cond (eqb b.level 0) (in_numbers None) b → r ≡ best_on (book_of t) s
 unfolding best_on depth stands_on level_at
 best_on_lem t n s l b r e p q z =
     let w : length (book_of t) ≡ n = length_book t ∙ sym e in
@@ -213,7 +213,7 @@ module _ (t : List ℕ) (s l n k : ℕ) where
   unfolding best_at
   read_sell e p q r = rw (ne_eqb s 1 e, p, q, r)
 
-pub best_put : (t u : List ℕ) (buy sell : BestLevel) → buy ≡ best_on (book_of t) 1 → sell ≡ best_on (book_of t) 2 → u ≡ put t 97 (best_row buy sell)
+pub best_put : (t u : List ℕ) (buy sell : Level) → buy ≡ best_on (book_of t) 1 → sell ≡ best_on (book_of t) 2 → u ≡ put t 97 (best_row buy sell)
     → u ≡ put_best t
 unfolding book_row
 best_put t u buy sell e f g = rw (g, e, f)

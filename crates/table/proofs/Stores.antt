@@ -13,7 +13,7 @@ use Rattle.matching.specs.declared.Order.{Order}
 use Rattle.matching.specs.Matching.{amounts, terms}
 use Rattle.table.specs.Places.{record_at}
 use Rattle.table.specs.Heading.{next_of, work_of, stamp_of, decided_of, put_next, put_work, put_decided}
-use Rattle.table.specs.declared.best.BestLevel.{BestLevel}
+use Rattle.matching.specs.declared.Level.{Level}
 use Rattle.table.specs.declared.record.Marks.{Marks}
 use Rattle.table.specs.Best.{orders_bytes, levels_bytes, totals_bytes, best_row}
 use Rattle.table.specs.Orders.{cl_ord_id_at, account_at, order_id_at, marks_at, order_at, term_bytes, amount_bytes, end_bytes, tail_bytes, field_bytes, record_of, accepted, put_id, put_terms, put_amounts}
@@ -259,7 +259,7 @@ module _ (t : List ℕ) (i order_id : ℕ) (cl_ord_id account : List ℕ) (marks
 -- ---- the heading
 
 -- the bytes of the best levels
-module _ (buy sell : BestLevel) where
+module _ (buy sell : Level) where
   pub length_orders_bytes : length (orders_bytes buy sell) ≡ 3
   unfolding orders_bytes bytes_of
   length_orders_bytes = refl

@@ -9,7 +9,7 @@ use Rattle.octets.proofs.Places.{then_put, length_bytes_of, length_put}
 use Rattle.decimal.specs.declared.Instrument.{Instrument}
 use Rattle.matching.specs.declared.Order.{Order}
 use Rattle.table.specs.Heading.{kind_number, put_kind, put_work, put_decided, end_work}
-use Rattle.table.specs.declared.best.BestLevel.{BestLevel}
+use Rattle.matching.specs.declared.Level.{Level}
 use Rattle.table.specs.declared.record.Marks.{Marks}
 use Rattle.table.specs.Best.{orders_bytes, levels_bytes, totals_bytes, best_row}
 use Rattle.table.specs.Orders.{term_bytes, amount_bytes, end_bytes, tail_bytes, field_bytes, accepted}
@@ -100,7 +100,7 @@ unfolding text_bytes
 work_ended t u v e f = f ∙ ap (λ (x : List ℕ). put_decided x 0) e
 
 -- the best levels: the numbers of orders, the levels, the totals, and all of them
-module _ (t : List ℕ) (p : ℕ) (buy sell : BestLevel) where
+module _ (t : List ℕ) (p : ℕ) (buy sell : Level) where
   pub orders_written : (t1 t2 t3 : List ℕ) → t1 ≡ put t p (bytes_of 1 buy.orders) → t2 ≡ put t1 (p + 1) (bytes_of 1 sell.orders)
       → t3 ≡ put t2 (p + 2) (replicate 1 0) → t3 ≡ put t p (orders_bytes buy sell)
   unfolding orders_bytes

@@ -1,8 +1,7 @@
 // The best level of each side: worked out from the book, and written to the heading. Of a record only what decides is read.
-ghost use Rattle.std.specs.Prelude.{◌≡◌, cond, ◌+◌, ◌*◌, ◌≤◌, ◌<◌, eqb, length};
+ghost use Rattle.std.specs.Prelude.{◌≡◌, cond, ◌+◌, ◌*◌, ◌≤◌, ◌<◌, eqb, length, None};
 ghost use Rattle.octets.specs.Octets.{put};
 ghost use Rattle.matching.specs.Matching.{open_of};
-ghost use Rattle.matching.specs.declared.Depth.TheVariants.{NoLevel};
 ghost use Rattle.matching.specs.Depth.{on_side, nearer, next, on_level, share};
 ghost use Rattle.table.specs.Places.{table_bytes};
 ghost use Rattle.table.specs.Orders.{order_at, filled, book_of};
@@ -11,15 +10,7 @@ ghost use Rattle.table.specs.Best.{in_numbers, best_on, stands_on, best_at, orde
 use crate::book::filled;
 use crate::places;
 use crate::record::{buys_at, four_at, level_at, open_at};
-use matching::ahead;
-
-// A level with its total open quantity and its number of orders; zeros for none.
-#[derive(Clone, Copy)]
-pub struct BestLevel {
-    pub level: u64,
-    pub total: u64,
-    pub orders: u64,
-}
+use matching::{Level, ahead};
 
 // A level of each side; 0 for none.
 #[derive(Clone, Copy)]
@@ -31,8 +22,8 @@ struct Levels {
 // What stands on a level of each side.
 #[derive(Clone, Copy)]
 struct Bests {
-    buy: BestLevel,
-    sell: BestLevel,
+    buy: Level,
+    sell: Level,
 }
 
 // Whether record i is of a side, 1 the buys and any other the sells.
@@ -107,7 +98,7 @@ fn share_at(t: &[u8], i: usize, side: u64, level: u64) -> u64
 }
 
 // A level of a side, with what record i adds to it.
-fn with_record(t: &[u8], i: usize, side: u64, b: BestLevel) -> BestLevel
+fn with_record(t: &[u8], i: usize, side: u64, b: Level) -> Level
     requires { (length t.now ≡ table_bytes) × (i < 256) × (b.total ≤ 1099511627776) × (b.orders ≤ 255) }
     ensures { (result.level ≡ b.level) × (result.total ≡ b.total + share side b.level (order_at t.now i))
         × (result.orders ≡ b.orders + cond (on_level side b.level (order_at t.now i)) 1 0) × (result.total ≤ b.total + 4294967295) }
@@ -118,7 +109,7 @@ fn with_record(t: &[u8], i: usize, side: u64, b: BestLevel) -> BestLevel
     }
     let total = b.total + x;
     let orders = b.orders + 1;
-    BestLevel {
+    Level {
         level: b.level,
         total,
         orders,
@@ -126,10 +117,10 @@ fn with_record(t: &[u8], i: usize, side: u64, b: BestLevel) -> BestLevel
 }
 
 // A level on which nothing stands yet.
-fn bare(level: u64) -> BestLevel
+fn bare(level: u64) -> Level
     ensures { (result.level ≡ level) × (result.total ≡ 0) × (result.orders ≡ 0) }
 {
-    BestLevel {
+    Level {
         level,
         total: 0,
         orders: 0,
@@ -137,7 +128,7 @@ fn bare(level: u64) -> BestLevel
 }
 
 // What stands on a level of a side, of the n filled records.
-pub fn stands_on(t: &[u8], n: usize, side: u64, level: u64) -> BestLevel
+pub fn stands_on(t: &[u8], n: usize, side: u64, level: u64) -> Level
     requires { (length t.now ≡ table_bytes) × (n ≡ filled t.now) }
     ensures { result ≡ stands_on (book_of t.now) side level }
 {
@@ -167,8 +158,8 @@ fn both_stand(t: &[u8], n: usize, buy: u64, sell: u64) -> Bests
 }
 
 // What stands on a level, or zeros where that is none.
-fn or_none(b: BestLevel) -> BestLevel
-    ensures { result ≡ cond (eqb b.level 0) (in_numbers NoLevel) b }
+fn or_none(b: Level) -> Level
+    ensures { result ≡ cond (eqb b.level 0) (in_numbers None) b }
 {
     if b.level == 0 {
         return bare(0);
@@ -189,18 +180,18 @@ fn bests_of(t: &[u8], n: usize) -> Bests
 }
 
 // The best level of a side that the heading keeps.
-pub fn best_at(t: &[u8], side: u64) -> BestLevel
+pub fn best_at(t: &[u8], side: u64) -> Level
     requires { length t.now ≡ table_bytes }
     ensures { result ≡ best_at t.now side }
 {
     if side == 1 {
-        return BestLevel {
+        return Level {
             level: octets::le_at(t, places::BUY_LEVEL, 4),
             total: octets::le_at(t, places::BUY_TOTAL, 8),
             orders: octets::wide(t[places::BUY_ORDERS]),
         };
     }
-    BestLevel {
+    Level {
         level: octets::le_at(t, places::SELL_LEVEL, 4),
         total: octets::le_at(t, places::SELL_TOTAL, 8),
         orders: octets::wide(t[places::SELL_ORDERS]),
@@ -208,7 +199,7 @@ pub fn best_at(t: &[u8], side: u64) -> BestLevel
 }
 
 // Writes the numbers of orders from place p on.
-fn write_orders(t: &mut [u8], p: usize, buy: BestLevel, sell: BestLevel)
+fn write_orders(t: &mut [u8], p: usize, buy: Level, sell: Level)
     requires { p + 3 ≤ length t.old }
     ensures { t.new ≡ put t.old p (orders_bytes buy sell) }
 {
@@ -218,7 +209,7 @@ fn write_orders(t: &mut [u8], p: usize, buy: BestLevel, sell: BestLevel)
 }
 
 // Writes the levels from place p on.
-fn write_levels(t: &mut [u8], p: usize, buy: BestLevel, sell: BestLevel)
+fn write_levels(t: &mut [u8], p: usize, buy: Level, sell: Level)
     requires { p + 12 ≤ length t.old }
     ensures { t.new ≡ put t.old p (levels_bytes buy sell) }
 {
@@ -228,7 +219,7 @@ fn write_levels(t: &mut [u8], p: usize, buy: BestLevel, sell: BestLevel)
 }
 
 // Writes the totals from place p on.
-fn write_totals(t: &mut [u8], p: usize, buy: BestLevel, sell: BestLevel)
+fn write_totals(t: &mut [u8], p: usize, buy: Level, sell: Level)
     requires { p + 16 ≤ length t.old }
     ensures { t.new ≡ put t.old p (totals_bytes buy sell) }
 {
@@ -237,7 +228,7 @@ fn write_totals(t: &mut [u8], p: usize, buy: BestLevel, sell: BestLevel)
 }
 
 // Writes the best levels of both sides from place p on.
-pub fn write_best(t: &mut [u8], p: usize, buy: BestLevel, sell: BestLevel)
+pub fn write_best(t: &mut [u8], p: usize, buy: Level, sell: Level)
     requires { p + 31 ≤ length t.old }
     ensures { t.new ≡ put t.old p (best_row buy sell) }
 {

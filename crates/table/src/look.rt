@@ -11,7 +11,7 @@ ghost use Rattle.table.specs.Looks.{Lookable, sum_of, least_own, Notes, Noted, B
 
 use crate::heading::next;
 use crate::record::load;
-use matching::{Order, smaller};
+use matching::Order;
 
 // The levels that a side can have; each has as many turns as the next number says.
 const LEVELS: u64 = 2000000000;
@@ -116,7 +116,7 @@ fn nearer_own(turn: u64, offers: u64, trades: u64, x: u64) -> u64
     ensures { result ≡ cond (ltb trades offers) (min turn x) x }
 {
     if trades < offers {
-        return smaller(turn, x);
+        return turn.min(x);
     }
     x
 }
@@ -251,7 +251,7 @@ fn traded_to(turns: &[u64; 256], others: &[u64; 256], n: usize, q: u64, x: u64) 
     requires { Notes turns.now others.now n × (x ≤ 4_000_000_000_000_000_000) }
     ensures { result ≡ min q (sum_of turns.now others.now x n) }
 {
-    smaller(q, sum_of(turns, others, x, n))
+    q.min(sum_of(turns, others, x, n))
 }
 
 // What it trades if it reaches to x and its owner's orders take their share of it.
@@ -268,7 +268,7 @@ fn traded_at(
 {
     let before = sum_of(turns, others, x, n);
     let left = q - sum_of(turns, all, x, n);
-    smaller(before + left, sum_of(turns, others, x + 1, n))
+    (before + left).min(sum_of(turns, others, x + 1, n))
 }
 
 // The quantity that the matching steps would trade of the order in work, w, among n records, by its mode.

@@ -10,10 +10,11 @@ use crate::text::{at_most, before, behind, bytes_of, marks, next, number, part};
 use decimal::Instrument;
 use kamurjesh::both::{copy_of, copy_read_of, open_of, read_of, run_of, submit_of};
 use kamurjesh::kamurjesh_field;
-use kamurjesh::numbers::{depth_number, level_in};
-use market::{DepthAnswer, depth, top};
-use matching::Depth;
+use kamurjesh::numbers::level_in;
+use market::{depth, top};
+use matching::Level;
 use octets::part_at;
+use refusals::{Refusal, answer_number};
 use std::io::{Read, Result};
 
 // The first n numbers, or as many as there are.
@@ -156,25 +157,25 @@ fn run(out: &impl Print, q: Instrument, table: &mut [u8], s: &[u8]) -> Result<()
 }
 
 // Depth's level.
-fn level(out: &impl Print, q: Instrument, d: Depth) -> Result<()> {
-    match d {
-        Depth::Level {
-            level,
-            total,
-            orders,
-        } => {
+fn level(out: &impl Print, q: Instrument, found: Option<Level>) -> Result<()> {
+    match found {
+        Some(l) => {
             say::number(out, 1)?;
-            say::quote(out, q, level)?;
-            say::number(out, total)?;
-            say::number(out, orders)
+            say::quote(out, q, l.level)?;
+            say::number(out, l.total)?;
+            say::number(out, l.orders)
         }
-        Depth::NoLevel => say::word(out, b" 0 0 0 0"),
+        None => say::word(out, b" 0 0 0 0"),
     }
 }
 
 // An answer with a level, or without one.
-fn answered(out: &impl Print, q: Instrument, answer: DepthAnswer) -> Result<()> {
-    say::number(out, depth_number(answer))?;
+fn answered(
+    out: &impl Print,
+    q: Instrument,
+    answer: std::result::Result<Option<Level>, Refusal>,
+) -> Result<()> {
+    say::number(out, answer_number(&answer))?;
     level(out, q, level_in(answer))?;
     say::word(out, b"\n")
 }

@@ -1,19 +1,16 @@
--- `market::depth` meets its contract: the three refusals in their order, then the level.
+-- `market::depth` meets its contract: the refusals in their order, then the level.
 use borrow.Author.Rules.{rules}
-use Rattle.market.proofs.Answers.{checked, checked_long, depth_none, depth_busy, depth_bad, depth_best, depth_found}
+use Rattle.market.proofs.Answers.{checked, checked_long, depth_none, depth_refused, depth_best, depth_found}
 use Rattle.market.proofs.depth.Goals as goal
 
 pub returns-then-not-is_market_of : goal.returns-then-not-is_market_of
 returns-then-not-is_market_of c = search (rules, depth_none)
 
-pub work-requires : goal.work-requires
-work-requires c = search (rules, checked_long)
+pub asked-requires : goal.asked-requires
+asked-requires c = search (rules, checked_long)
 
-pub returns-then-work-gt0 : goal.returns-then-work-gt0
-returns-then-work-gt0 c = search (rules, depth_busy)
-
-pub returns-then-not-is_side : goal.returns-then-not-is_side
-returns-then-not-is_side c = search (rules, depth_bad)
+pub returns-in_err-asked : goal.returns-in_err-asked
+returns-in_err-asked c = search (rules, depth_refused)
 
 pub best_at-requires : goal.best_at-requires
 best_at-requires c = search (rules, checked_long)

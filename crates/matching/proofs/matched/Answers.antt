@@ -11,4 +11,4 @@ returns-then-same_owner c = let s = c in
 pub returns : goal.returns
 unfolding meeting
 returns c = let s = c in
-    simp (c.smaller.ensures, s.open_of-w.ensures, s.open_of-r.ensures, sym s.same_owner.ensures ∙ c.if-same_owner.false)
+    simp (c.min.ensures, s.open_of-w.ensures, s.open_of-r.ensures, sym s.same_owner.ensures ∙ c.if-same_owner.false)

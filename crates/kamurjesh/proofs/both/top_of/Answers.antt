@@ -1,22 +1,10 @@
--- `both::top_of` meets its contract: it is top of book, its answer as the paper's number and values. Every level that it gives is in range.
-use mathlib.Core.Path.{◌∙◌, ap}
-use Rattle.matching.specs.Depth.{total_of, orders_of}
-use Rattle.market.specs.Depth.{depth_number, has_level}
-use Rattle.kamurjesh.specs.Numbers.{level_in, quote_of}
-use Rattle.kamurjesh.proofs.Quotes.{handed, top_low}
+-- `both::top_of` meets its contract: every level that top answers is in range.
+use borrow.Author.Rules.{rules}
+use Rattle.kamurjesh.proofs.Quotes.{top_low}
 use Rattle.kamurjesh.proofs.both.top_of.Goals as goal
 
-pub quote_of-requires : goal.quote_of-requires
-quote_of-requires c = top_low _ _ _ _ _ c.top-answer.ensures c.level_in-level.ensures
+pub told-requires : goal.told-requires
+told-requires c = search (rules, top_low)
 
 pub returns : goal.returns
-returns c =
-    let answer = c.top-answer.ensures in
-    let level = c.level_in-level.ensures in
-    let is = level ∙ ap level_in answer in (
-      c.depth_number.ensures ∙ ap depth_number answer,
-      c.has_level.ensures ∙ ap has_level is,
-      handed _ c.level_in-level.result _ (top_low _ _ _ _ _ answer level) c.quote_of.ensures ∙ ap (quote_of _) is,
-      c.total_of.ensures ∙ ap total_of is,
-      c.orders_of.ensures ∙ ap orders_of is,
-    )
+returns c = rw (← c.top.ensures) (c.told.ensures)

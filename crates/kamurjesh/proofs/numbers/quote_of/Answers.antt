@@ -4,13 +4,13 @@ use Rattle.kamurjesh.specs.Numbers.{quote_of}
 use Rattle.kamurjesh.proofs.numbers.quote_of.Goals as goal
 
 pub signed-requires : goal.signed-requires
-signed-requires c = rw c.in-Level.is at c.requires
+signed-requires c = rw c.in-Some.is at c.requires
 
-pub returns-in-Level : goal.returns-in-Level
+pub returns-in-Some : goal.returns-in-Some
 unfolding quote_of
-returns-in-Level c =
-    handed c.args.q c.args.level c.signed.result c.requires (rw c.in-Level.is c.signed.ensures)
+returns-in-Some c =
+    handed c.args.q c.args.level c.signed.result c.requires (rw c.in-Some.is c.signed.ensures)
 
-pub returns-in-NoLevel : goal.returns-in-NoLevel
+pub returns-in-None : goal.returns-in-None
 unfolding quote_of
-returns-in-NoLevel c = rw c.in-NoLevel.is
+returns-in-None c = rw c.in-None.is

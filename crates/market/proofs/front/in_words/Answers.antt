@@ -6,5 +6,5 @@ use Rattle.market.proofs.front.in_words.Goals as goal
 pub returns-then-b-eq0 : goal.returns-then-b-eq0
 returns-then-b-eq0 c = search (rules, words_none)
 
-pub returns : goal.returns
-returns c = search (rules, words_level)
+pub returns-else-b-eq0 : goal.returns-else-b-eq0
+returns-else-b-eq0 c = search (rules, words_level)

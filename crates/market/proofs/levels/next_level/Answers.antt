@@ -2,14 +2,11 @@
 use native.Mathlib.Omega.{arith}
 use borrow.Author.Rules.{rules}
 use Rattle.table.proofs.Same.{filled_few}
-use Rattle.market.proofs.LevelLaws.{loaded_sound, next_none, next_one, next_end}
+use Rattle.market.proofs.LevelLaws.{loaded_sound, next_none, next_one}
 use Rattle.market.proofs.levels.next_level.Goals as goal
 
 pub loop-i-init : goal.loop-i-init
-loop-i-init c = (omega arith, next_none _ 0 _ _)
-
-pub overflow_add-i : goal.overflow_add-i
-overflow_add-i c = omega arith
+loop-i-init c = next_none _ 0 _ _
 
 pub load-requires : goal.load-requires
 load-requires c = let p = c.requires in (p.0.long, omega (arith, filled_few c.args.t.now))
@@ -17,11 +14,5 @@ load-requires c = let p = c.requires in (p.0.long, omega (arith, filled_few c.ar
 pub nearer-c-requires : goal.nearer-c-requires
 nearer-c-requires c = let p = c.requires in (loaded_sound _ _ _ _ p.0 p.1 (omega arith) c.load.ensures).covered
 
-pub loop-i-smaller : goal.loop-i-smaller
-loop-i-smaller c = omega arith
-
 pub loop-i-preserved : goal.loop-i-preserved
-loop-i-preserved c = (omega arith, search (rules, next_one))
-
-pub returns : goal.returns
-returns c = next_end _ _ _ _ _ _ c.loop-i.invariant.0 (omega arith) c.loop-i.invariant.1
+loop-i-preserved c = search (rules, next_one)

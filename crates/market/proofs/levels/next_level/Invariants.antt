@@ -1,12 +1,8 @@
 -- `market::levels::next_level` meets its contract: after i records the candidate is the next level of the first i.
 use mathlib.Core.Path.{◌≡◌}
-use Prim.Native.Nat.{◌-◌, ◌≤◌}
 use Rattle.matching.specs.Depth.{next}
 use Rattle.table.specs.Orders.{book_of}
 use Rattle.market.proofs.levels.next_level.Given as goal
 
 abbrev pub invariant-loop-i : goal.invariant-loop-i
-invariant-loop-i l = (l.i ≤ l.n) × (l.c ≡ next (book_of l.t) l.side l.x l.i)
-
-abbrev pub decreases-loop-i : goal.decreases-loop-i
-decreases-loop-i l = l.n - l.i
+invariant-loop-i l = l.c ≡ next (book_of l.t) l.side l.x l.i
