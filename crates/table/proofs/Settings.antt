@@ -1,13 +1,15 @@
 -- The laws that looking at the settings and writing them want: tests of every byte, lists of MPIDs and modes put entry by
 -- entry.
 use mathlib.Core.Path.{◌≡◌, refl, sym, ap, ◌∙◌}
-use mathlib.Core.Bool.{Bool, true, false, ◌&&◌}
+use mathlib.Core.Bool.{Bool, true, false, not, ◌&&◌, ◌||◌}
 use mathlib.Core.List.{List, [], ◌∷◌}
-use Prim.Native.Nat.{ℕ, suc, ◌+◌, ◌*◌, ◌≤◌, ◌<◌}
+use Prim.Native.Nat.{ℕ, zero, suc, ◌+◌, ◌*◌, ◌≤◌, ◌<◌}
 use native.Mathlib.Numerals.{add-one}
 use native.Mathlib.Omega.{arith}
 use mathlib.Core.Logic.{⊎_elim}
-use lib.ListN.{length, get_or, set, drop, length-set, drop_of_length-le, replicate, get_or-eq_default}
+use Rattle.std.specs.List.{list_all, list_any}
+use Rattle.std.proofs.lemmas.List.Folds.{list_any_more}
+use lib.ListN.{length, take, get_or, set, drop, length-set, drop_of_length-le, replicate, get_or-eq_default}
 use lib.Seq.{drop-cons}
 use lib.Dec.{eqb, leb}
 use borrow.Author.Tests.{eqb-true, leb-true, eq-eqb, ne_eqb}
@@ -15,40 +17,39 @@ use Rattle.octets.specs.Octets.{bytes_of, put, put_text}
 use Rattle.octets.specs.Tests.{all_up_to}
 use Rattle.octets.proofs.Bools.{both_l, both_r, both_not_r}
 use Rattle.octets.proofs.Ranges.{all_at}
+use Rattle.std.specs.Prelude.{Ok, Err}
+use Rattle.refusals.specs.declared.Refusal.TheVariants.{BadSetting}
 use Rattle.decimal.specs.declared.Instrument.{Instrument}
 use Rattle.decimal.specs.declared.Instrument.TheVariants.{Bonds, Equities}
 use Rattle.decimal.specs.Reading.{is_digit}
 use Rattle.octets.proofs.Places.{put_put, length_put, length_bytes_of, below_or}
 use Rattle.table.specs.Heading.{mpid_bytes, put_kind, put_next, put_mpids, put_modes}
 use Rattle.table.specs.Market.{every, is_between, is_graphic, is_code_character}
-use Rattle.table.specs.Opened.{is_name, is_new, is_given, are_given, are_names, are_settings, named_table, fresh_table, is_opening, opened, open_number}
+use Rattle.table.specs.Opened.{is_name, is_new, is_given, are_given, are_names, are_settings, named_table, fresh_table, is_opening, opened, open_answer}
 
--- ---- a test of every byte that has come to byte i: from there on it gives the whole test's answer
-pub record Tested (f : ℕ → Bool) (s : List ℕ) (i : ℕ) : Type 0 where
-  pub within : i ≤ length s
-  pub rest : every f (drop i s) ≡ every f s
+-- ---- std's tests of a whole list
+pub every_is : (f : ℕ → Bool) (s : List ℕ) → list_all f s ≡ every f s
+unfolding every
+every_is f [] = refl
+every_is f (x ∷ xs) = ap (λ (b : Bool). f x && b) (every_is f xs)
 
-pub tested_none : {f : ℕ → Bool} {s : List ℕ} → Tested f s 0
-tested_none = record { within = omega arith; rest = refl }
+neither : (a b : Bool) → not (a || b) ≡ (not a && not b)
+neither true b = refl
+neither false b = refl
 
-module _ {f : ℕ → Bool} {s : List ℕ} {i : ℕ} (t : Tested f s i) where
-  pub tested_more : i < length s → f (get_or s i 0) ≡ true → Tested f s (i + 1)
-  unfolding every
-  tested_more l h =
-      let e : every f (drop i s) ≡ every f (drop (i + 1) s) = rw (drop-cons s i 0 l, h, add-one) in
-      record { within = omega arith; rest = sym e ∙ t.rest }
+-- none of the entries before k has the MPID of entry k
+module _ (mpids : List ℕ) (m : ℕ) where
+  none_before : (n : ℕ) → n ≤ length mpids → not (list_any (λ y. eqb y m) (take n mpids)) ≡ all_up_to (λ j. not (eqb (get_or mpids j 0) m)) n
+  unfolding all_up_to
+  none_before zero l = refl
+  none_before (suc n) l =
+      let e : list_any (λ y. eqb y m) (take (n + 1) mpids) ≡ (list_any (λ y. eqb y m) (take n mpids) || eqb (get_or mpids n 0) m)
+      = list_any_more (λ y. eqb y m) mpids n 0 (omega arith) in
+      ap not (rw add-one at e) ∙ neither _ _ ∙ ap (λ (b : Bool). b && not (eqb (get_or mpids n 0) m)) (none_before n (omega arith))
 
-  pub tested_stop : i < length s → f (get_or s i 0) ≡ false → false ≡ every f s
-  unfolding every
-  tested_stop l h =
-      let e : every f (drop i s) ≡ false = rw (drop-cons s i 0 l, h) in
-      sym e ∙ t.rest
-
-  pub tested_end : length s ≤ i → true ≡ every f s
-  unfolding every
-  tested_end l =
-      let e : every f (drop i s) ≡ true = rw (drop_of_length-le s {i = i} l) in
-      sym e ∙ t.rest
+pub new_is : (mpids : List ℕ) (k : ℕ) → k < length mpids → not (list_any (λ y. eqb y (get_or mpids k 0)) (take k mpids)) ≡ is_new mpids k
+unfolding is_new
+new_is mpids k h = none_before mpids (get_or mpids k 0) k (omega arith)
 
 -- ---- the lists of MPIDs and modes
 
@@ -256,24 +257,24 @@ modes_few mpids modes h = omega (arith, given_few mpids modes h, given_same mpid
 -- ---- the answer and the table afterwards
 
 module _ (q : Instrument) (t venue port code : List ℕ) (first : ℕ) (mpids modes : List ℕ) where
-  pub answer_short : (length t ≡ 32768 → ⊥) → 9 ≡ open_number q t venue port code first mpids modes
-  unfolding open_number is_opening
+  pub answer_short : (length t ≡ 32768 → ⊥) → Err BadSetting ≡ open_answer q t venue port code first mpids modes
+  unfolding open_answer is_opening
   answer_short n = rw (ne_eqb (length t) 32768 n)
 
   pub table_short : (length t ≡ 32768 → ⊥) → t ≡ opened q t venue port code first mpids modes
   unfolding opened is_opening
   table_short n = rw (ne_eqb (length t) 32768 n)
 
-  pub answer_wrong : (a : Bool) → a ≡ are_settings q venue port code first mpids modes → a ≡ false → 9 ≡ open_number q t venue port code first mpids modes
-  unfolding open_number is_opening
+  pub answer_wrong : (a : Bool) → a ≡ are_settings q venue port code first mpids modes → a ≡ false → Err BadSetting ≡ open_answer q t venue port code first mpids modes
+  unfolding open_answer is_opening
   answer_wrong a x z = rw (both_not_r (eqb (length t) 32768) (are_settings q venue port code first mpids modes) (sym x ∙ z))
 
   pub table_wrong : (a : Bool) → a ≡ are_settings q venue port code first mpids modes → a ≡ false → t ≡ opened q t venue port code first mpids modes
   unfolding opened is_opening
   table_wrong a x z = rw (both_not_r (eqb (length t) 32768) (are_settings q venue port code first mpids modes) (sym x ∙ z))
 
-  pub answer_right : length t ≡ 32768 → are_settings q venue port code first mpids modes ≡ true → 0 ≡ open_number q t venue port code first mpids modes
-  unfolding open_number is_opening
+  pub answer_right : length t ≡ 32768 → are_settings q venue port code first mpids modes ≡ true → Ok tt ≡ open_answer q t venue port code first mpids modes
+  unfolding open_answer is_opening
   answer_right l z = rw (eq-eqb (length t) 32768 l, z)
 
   pub table_right : (u : List ℕ) → length t ≡ 32768 → are_settings q venue port code first mpids modes ≡ true

@@ -1,7 +1,7 @@
 -- The best level of each side as the heading keeps it (document 02, T-06): its level, its total and its number of orders are
 -- what Depth answers for k = 0; a side without one, and both sides while an order is in work, have zeros. Reading any table gives
 -- something; writing changes the named bytes alone. Assumes nothing: whether what is read is true is said in Market.
-use Rattle.std.specs.Prelude.{cond, List, ◌++◌, ℕ, eqb, get_or, replicate, Option, Some, None}
+use Rattle.std.specs.Prelude.{cond, List, ◌++◌, ℕ, Option, Some, None, eqb, get_or, replicate}
 use Rattle.octets.specs.Octets.{le_at, bytes_of, put}
 use Rattle.matching.specs.Matching.{Book, buys}
 use Rattle.matching.specs.Depth.{total, orders, depth}
@@ -14,7 +14,7 @@ use Rattle.table.specs.Orders.{book_of}
 
 -- an answer of Depth in numbers: no level is zeros
 abbrev pub in_numbers : Option Level → Level
-in_numbers (Some l) = l
+in_numbers (Some b) = b
 in_numbers None = record { level = 0; total = 0; orders = 0 }
 
 -- and back: a level without orders is none

@@ -1,8 +1,10 @@
 -- What opening does (document 01, "The table and its calls", Open and refusal 9; document 02, T-08): the settings it takes, the table it
 -- writes, and its answer. The MPIDs and their modes are two lists of numbers, one entry of the one for one of the other. What
 -- was in the table before is not looked at. What the market is to trade, bonds or equities, is the call's own. Assumes nothing.
-use Rattle.std.specs.Prelude.{Bool, not, cond, ◌&&◌, List, ℕ, eqb, leb, length, get_or, replicate}
+use Rattle.std.specs.Prelude.{Result, Ok, Err, Bool, not, cond, ◌&&◌, List, ℕ, eqb, leb, length, get_or, replicate}
 use Rattle.octets.specs.Tests.{all_up_to}
+use Rattle.refusals.specs.declared.Refusal.{Refusal}
+use Rattle.refusals.specs.declared.Refusal.TheVariants.{BadSetting}
 use Rattle.decimal.specs.declared.Instrument.{Instrument}
 use Rattle.table.specs.Places.{table_bytes, id_room, code_room, most_mpids}
 use Rattle.table.specs.Heading.{put_venue, put_port, put_code, put_kind, put_next, put_mpids, put_modes}
@@ -56,6 +58,6 @@ module _ (q : Instrument) (t venue port code : List ℕ) (first : ℕ) (mpids mo
   unfoldable pub opened : List ℕ
   opened = cond is_opening (fresh_table q venue port code first mpids modes) t
 
-  -- the number given back: 0, or refusal 9
-  unfoldable pub open_number : ℕ
-  open_number = cond is_opening 0 9
+  -- what is answered: taken, or refusal 9
+  unfoldable pub open_answer : Result (Unit {0}) Refusal
+  open_answer = cond is_opening (Ok tt) (Err BadSetting)

@@ -1,5 +1,5 @@
 // The best level of each side: worked out from the book, and written to the heading. Of a record only what decides is read.
-ghost use Rattle.std.specs.Prelude.{◌≡◌, cond, ◌+◌, ◌*◌, ◌≤◌, ◌<◌, eqb, length, None};
+ghost use Rattle.std.specs.Prelude.{None, ◌≡◌, cond, ◌+◌, ◌*◌, ◌≤◌, ◌<◌, eqb, length};
 ghost use Rattle.octets.specs.Octets.{put};
 ghost use Rattle.matching.specs.Matching.{open_of};
 ghost use Rattle.matching.specs.Depth.{on_side, nearer, next, on_level, share};
@@ -12,18 +12,11 @@ use crate::places;
 use crate::record::{buys_at, four_at, level_at, open_at};
 use matching::{Level, ahead};
 
-// A level of each side; 0 for none.
+// One of each side.
 #[derive(Clone, Copy)]
-struct Levels {
-    buy: u64,
-    sell: u64,
-}
-
-// What stands on a level of each side.
-#[derive(Clone, Copy)]
-struct Bests {
-    buy: Level,
-    sell: Level,
+struct Sides<T> {
+    buy: T,
+    sell: T,
 }
 
 // Whether record i is of a side, 1 the buys and any other the sells.
@@ -31,8 +24,7 @@ pub fn on_side_at(t: &[u8], i: usize, side: u64) -> bool
     requires { (length t.now ≡ table_bytes) × (i < 256) }
     ensures { result ≡ on_side side (order_at t.now i) }
 {
-    let b = buys_at(t, i);
-    if side == 1 { b } else { !b }
+    buys_at(t, i) == (side == 1)
 }
 
 // Of level c, found so far (0 for none), and that of record i, the nearer to the best.
@@ -54,19 +46,17 @@ fn nearer_at(t: &[u8], i: usize, side: u64, c: u64) -> u64
 }
 
 // The best level of each side among the n filled records; 0 if there is none.
-fn best_levels(t: &[u8], n: usize) -> Levels
+fn best_levels(t: &[u8], n: usize) -> Sides<u64>
     requires { (length t.now ≡ table_bytes) × (n ≡ filled t.now) }
     ensures { (result.buy ≡ next (book_of t.now) 1 0 n) × (result.sell ≡ next (book_of t.now) 2 0 n) }
 {
     let mut buy = 0;
     let mut sell = 0;
-    let mut i = 0;
-    while i < n {
-        i += 1;
-        buy = nearer_at(t, i, 1, buy);
-        sell = nearer_at(t, i, 2, sell);
+    for k in 0..n {
+        buy = nearer_at(t, k + 1, 1, buy);
+        sell = nearer_at(t, k + 1, 2, sell);
     }
-    Levels { buy, sell }
+    Sides { buy, sell }
 }
 
 // What is open of record i.
@@ -79,8 +69,7 @@ fn open_of_at(t: &[u8], i: usize) -> u64
     let decremented = four_at(t, b + places::DECREMENTED);
     let canceled = four_at(t, b + places::CANCELED);
     let qty = four_at(t, b + places::QTY);
-    let used = executed + decremented + canceled;
-    if used < qty { qty - used } else { 0 }
+    qty.saturating_sub(executed + decremented + canceled)
 }
 
 // What record i adds to the total of a level of a side.
@@ -108,11 +97,10 @@ fn with_record(t: &[u8], i: usize, side: u64, b: Level) -> Level
         return b;
     }
     let total = b.total + x;
-    let orders = b.orders + 1;
     Level {
-        level: b.level,
         total,
-        orders,
+        orders: b.orders + 1,
+        ..b
     }
 }
 
@@ -133,28 +121,24 @@ pub fn stands_on(t: &[u8], n: usize, side: u64, level: u64) -> Level
     ensures { result ≡ stands_on (book_of t.now) side level }
 {
     let mut b = bare(level);
-    let mut i = 0;
-    while i < n {
-        i += 1;
-        b = with_record(t, i, side, b);
+    for k in 0..n {
+        b = with_record(t, k + 1, side, b);
     }
     b
 }
 
 // What stands on a level of the buys and on one of the sells, of the n filled records.
-fn both_stand(t: &[u8], n: usize, buy: u64, sell: u64) -> Bests
+fn both_stand(t: &[u8], n: usize, buy: u64, sell: u64) -> Sides<Level>
     requires { (length t.now ≡ table_bytes) × (n ≡ filled t.now) }
     ensures { (result.buy ≡ stands_on (book_of t.now) 1 buy) × (result.sell ≡ stands_on (book_of t.now) 2 sell) }
 {
     let mut b = bare(buy);
     let mut s = bare(sell);
-    let mut i = 0;
-    while i < n {
-        i += 1;
-        b = with_record(t, i, 1, b);
-        s = with_record(t, i, 2, s);
+    for k in 0..n {
+        b = with_record(t, k + 1, 1, b);
+        s = with_record(t, k + 1, 2, s);
     }
-    Bests { buy: b, sell: s }
+    Sides { buy: b, sell: s }
 }
 
 // What stands on a level, or zeros where that is none.
@@ -168,7 +152,7 @@ fn or_none(b: Level) -> Level
 }
 
 // The best level of each side of the book, of the n filled records.
-fn bests_of(t: &[u8], n: usize) -> Bests
+fn bests_of(t: &[u8], n: usize) -> Sides<Level>
     requires { (length t.now ≡ table_bytes) × (n ≡ filled t.now) }
     ensures { (result.buy ≡ best_on (book_of t.now) 1) × (result.sell ≡ best_on (book_of t.now) 2) }
 {
@@ -176,7 +160,7 @@ fn bests_of(t: &[u8], n: usize) -> Bests
     let b = both_stand(t, n, l.buy, l.sell);
     let buy = or_none(b.buy);
     let sell = or_none(b.sell);
-    Bests { buy, sell }
+    Sides { buy, sell }
 }
 
 // The best level of a side that the heading keeps.

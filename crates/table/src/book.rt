@@ -11,14 +11,12 @@ pub fn filled(t: &[u8]) -> usize
     requires { length t.now ≡ table_bytes }
     ensures { (result ≡ filled t.now) × (result ≤ 255) }
 {
-    let mut k = 0;
-    while k < places::MOST_ORDERS {
+    for k in 0..places::MOST_ORDERS {
         if t[places::RECORD * (k + 1)] == 0 {
             return k;
         }
-        k += 1;
     }
-    k
+    places::MOST_ORDERS
 }
 
 // The record that a new order takes, n records being filled; 0 if every order is open.
@@ -29,12 +27,10 @@ pub fn record_for(t: &[u8], n: usize) -> usize
     if n < places::MOST_ORDERS {
         return n + 1;
     }
-    let mut k = 0;
-    while k < places::MOST_ORDERS {
+    for k in 0..places::MOST_ORDERS {
         if !open_at(t, k + 1) {
             return k + 1;
         }
-        k += 1;
     }
     0
 }

@@ -27,14 +27,12 @@ pub fn entries(t: &[u8]) -> usize
     requires { length t.now ≡ table_bytes }
     ensures { (result ≡ entries t.now) × (result ≤ 8) }
 {
-    let mut k = 0;
-    while k < places::MOST_MPIDS {
+    for k in 0..places::MOST_MPIDS {
         if mpid_at(t, k) == 0 {
             return k;
         }
-        k += 1;
     }
-    k
+    places::MOST_MPIDS
 }
 
 // The entry that has MPID m; the number of entries, n, if none has.
@@ -42,14 +40,12 @@ pub fn entry_of(t: &[u8], n: usize, m: u64) -> usize
     requires { (length t.now ≡ table_bytes) × (n ≡ entries t.now) × (n ≤ 8) }
     ensures { (result ≡ entry_of t.now m) × (result ≤ n) }
 {
-    let mut k = 0;
-    while k < n {
+    for k in 0..n {
         if mpid_at(t, k) == m {
             return k;
         }
-        k += 1;
     }
-    k
+    n
 }
 
 // Whether MPID m is listed among the n entries.

@@ -71,9 +71,8 @@ fn note(t: &[u8], n: usize, o: Order, buys: bool, turns: &mut [u64; 256]) -> usi
     ensures { Met o (book_of t.now) n result turns.new }
 {
     let mut m = 0;
-    let mut i = 0;
-    while i < n {
-        i += 1;
+    for k in 0..n {
+        let i = k + 1;
         let turn = due(o, buys, load(t, i));
         if turn < END {
             turns[i] = turn;
@@ -108,10 +107,8 @@ fn first_in(turns: &[u64; 256], a: usize) -> usize
     ensures { Lowest turns.now a (a + 16) result }
 {
     let mut c = a;
-    let mut i = 1;
-    while i < 16 {
+    for i in 1..16 {
         c = earlier(turns, c, a + i);
-        i += 1;
     }
     c
 }
@@ -121,10 +118,8 @@ fn rank(turns: &[u64; 256], firsts: &mut [usize; 16], m: usize)
     requires { (m ≤ 16) × (length firsts.old ≡ 16) }
     ensures { Firsts turns.now firsts.new m }
 {
-    let mut j = 0;
-    while j < m {
+    for j in 0..m {
         firsts[j] = first_in(turns, 16 * j);
-        j += 1;
     }
 }
 
@@ -133,10 +128,8 @@ fn meets_none(t: &[u8], n: usize, o: Order, buys: bool) -> bool
     requires { Market t.now × (n ≡ filled t.now) × (n ≤ 255) × (buys ≡ is_buy o) }
     ensures { result ≡ true → best (book_of t.now) o n ≡ 0 }
 {
-    let mut i = 0;
-    while i < n {
-        i += 1;
-        if due(o, buys, load(t, i)) < END {
+    for k in 0..n {
+        if due(o, buys, load(t, k + 1)) < END {
             return false;
         }
     }
@@ -181,10 +174,8 @@ pub fn first(turns: &[u64; 256], firsts: &[usize; 16], m: usize) -> usize
     ensures { First turns.now result }
 {
     let mut c = 0;
-    let mut j = 0;
-    while j < m {
+    for j in 0..m {
         c = earlier(turns, c, firsts[j]);
-        j += 1;
     }
     c
 }

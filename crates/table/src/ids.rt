@@ -90,12 +90,10 @@ pub fn find_id(t: &[u8], n: usize, m: &[u8]) -> usize
         return 0;
     }
     let key = key_of(m);
-    let mut k = 0;
-    while k < n {
+    for k in 0..n {
         if is_named(t, k + 1, key, m) {
             return k + 1;
         }
-        k += 1;
     }
     0
 }

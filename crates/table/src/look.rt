@@ -73,10 +73,8 @@ fn note(
     ensures { Noted next o (book_of t.now) n result turns.new all.new others.new }
 {
     let mut m = 0;
-    let mut i = 0;
-    while i < n {
-        i += 1;
-        let r = load(t, i);
+    for k in 0..n {
+        let r = load(t, k + 1);
         let offers = offered(o, r);
         if 0 < offers {
             turns[m] = turn_of(next, r);
@@ -103,10 +101,8 @@ fn sum_of(turns: &[u64; 256], amounts: &[u64; 256], x: u64, n: usize) -> u64
     ensures { (result ≡ sum_of turns.now amounts.now x n) × (result ≤ n * 999_999_999) }
 {
     let mut r: u64 = 0;
-    let mut i = 0;
-    while i < n {
+    for i in 0..n {
         r += counted(turns[i], amounts[i], x);
-        i += 1;
     }
     r
 }
@@ -115,10 +111,7 @@ fn sum_of(turns: &[u64; 256], amounts: &[u64; 256], x: u64, n: usize) -> u64
 fn nearer_own(turn: u64, offers: u64, trades: u64, x: u64) -> u64
     ensures { result ≡ cond (ltb trades offers) (min turn x) x }
 {
-    if trades < offers {
-        return turn.min(x);
-    }
-    x
+    if trades < offers { turn.min(x) } else { x }
 }
 
 // The first turn of an order of one's own among n; the end if there is none.
@@ -127,10 +120,8 @@ fn least_own(turns: &[u64; 256], all: &[u64; 256], others: &[u64; 256], end: u64
     ensures { result ≡ least_own turns.now all.now others.now end n }
 {
     let mut x = end;
-    let mut i = 0;
-    while i < n {
+    for i in 0..n {
         x = nearer_own(turns[i], all[i], others[i], x);
-        i += 1;
     }
     x
 }
@@ -148,10 +139,8 @@ fn first_from(turns: &[u64; 256], n: usize, x: u64, end: u64) -> u64
     ensures { Clear turns.now n x result }
 {
     let mut r = end;
-    let mut i = 0;
-    while i < n {
+    for i in 0..n {
         r = earlier(turns[i], x, r);
-        i += 1;
     }
     r
 }
@@ -173,10 +162,8 @@ fn last_before(turns: &[u64; 256], n: usize, x: u64) -> u64
     ensures { Clear turns.now n result x }
 {
     let mut r: u64 = 0;
-    let mut i = 0;
-    while i < n {
+    for i in 0..n {
         r = later(turns[i], x, r);
-        i += 1;
     }
     r
 }
@@ -214,10 +201,8 @@ fn halved(turns: &[u64; 256], amounts: &[u64; 256], n: usize, q: u64, w: Window)
     ensures { Between turns.now amounts.now n q result.low result.high × Shrunk w.low w.high result.low result.high }
 {
     let mut v = half(turns, amounts, n, q, w);
-    let mut i: u64 = 1;
-    while i < 8 {
+    for _ in 1..8 {
         v = half(turns, amounts, n, q, v);
-        i += 1;
     }
     v
 }

@@ -3,24 +3,30 @@ ghost use Rattle.std.specs.Prelude.{◌≡◌, true, ℕ, ◌+◌, ◌≤◌, �
 ghost use Rattle.table.specs.Places.{table_bytes, code_room};
 ghost use Rattle.table.specs.Heading.{put_mpids, put_modes};
 ghost use Rattle.table.specs.Market.{every, is_between, is_code_character};
-ghost use Rattle.table.specs.Opened.{is_name, is_new, is_given, are_given, are_names, are_settings, named_table, fresh_table, opened, open_number};
+ghost use Rattle.table.specs.Opened.{is_name, is_new, is_given, are_given, are_names, are_settings, named_table, fresh_table, opened, open_answer};
 
 use crate::heading::{put_kind, put_next};
 use crate::places;
 use decimal::Instrument;
+use refusals::Refusal;
+
+// The settings of a market: what it trades, its names, its first report number, and its MPIDs with a mode for each.
+#[derive(Clone, Copy)]
+struct Settings<'a> {
+    kind: Instrument,
+    venue: &'a [u8],
+    port: &'a [u8],
+    code: &'a [u8],
+    first: u64,
+    mpids: &'a [u64],
+    modes: &'a [u64],
+}
 
 // Whether every byte is from low to high.
 pub fn all_between(s: &[u8], low: u8, high: u8) -> bool
     ensures { result ≡ every (is_between low high) s.now }
 {
-    let mut i = 0;
-    while i < s.len() {
-        if !((low <= s[i]) & (s[i] <= high)) {
-            return false;
-        }
-        i += 1;
-    }
-    true
+    s.iter().all(|b| (low <= *b) & (*b <= high))
 }
 
 // Whether a text has 1 to room characters from low to high.
@@ -41,29 +47,13 @@ fn is_code(q: Instrument, code: &[u8]) -> bool
     }
 }
 
-// Whether venue, port and code are good.
-fn are_names(q: Instrument, venue: &[u8], port: &[u8], code: &[u8]) -> bool
-    ensures { result ≡ are_names q venue.now port.now code.now }
-{
-    is_name(venue, places::ID_ROOM, 33, 126)
-        & is_name(port, places::ID_ROOM, 33, 126)
-        & is_code(q, code)
-}
-
 // Whether no MPID before entry k is that of entry k.
 fn is_new(mpids: &[u64], k: usize) -> bool
     requires { k < length mpids.now }
     ensures { result ≡ is_new mpids.now k }
 {
     let m = mpids[k];
-    let mut j = 0;
-    while j < k {
-        if mpids[j] == m {
-            return false;
-        }
-        j += 1;
-    }
-    true
+    !mpids[..k].contains(&m)
 }
 
 // Whether entry k is good.
@@ -84,12 +74,10 @@ fn are_given(mpids: &[u64], modes: &[u64]) -> bool
     if !((1 <= n) & (n <= places::MOST_MPIDS) & (modes.len() == n)) {
         return false;
     }
-    let mut k = 0;
-    while k < n {
+    for k in 0..n {
         if !is_given(mpids, modes, k) {
             return false;
         }
-        k += 1;
     }
     true
 }
@@ -99,10 +87,8 @@ fn put_mpids(t: &mut [u8], mpids: &[u64])
     requires { (length t.old ≡ table_bytes) × (length mpids.now ≤ 8) }
     ensures { t.new ≡ put_mpids t.old mpids.now }
 {
-    let mut k = 0;
-    while k < mpids.len() {
-        octets::put_le(t, places::MPIDS + 4 * k, 4, mpids[k]);
-        k += 1;
+    for (k, &m) in mpids.iter().enumerate() {
+        octets::put_le(t, places::MPIDS + 4 * k, 4, m);
     }
 }
 
@@ -111,69 +97,64 @@ fn put_modes(t: &mut [u8], modes: &[u64])
     requires { (length t.old ≡ table_bytes) × (length modes.now ≤ 8) × ((k : ℕ) → get_or modes.now k 0 < 256) }
     ensures { t.new ≡ put_modes t.old modes.now }
 {
-    let mut k = 0;
-    while k < modes.len() {
-        t[places::MODES + k] = modes[k] as u8;
-        k += 1;
+    for (k, &d) in modes.iter().enumerate() {
+        t[places::MODES + k] = d as u8;
     }
 }
 
-// Whether every setting is good.
-fn are_settings(
-    q: Instrument,
-    venue: &[u8],
-    port: &[u8],
-    code: &[u8],
-    first: u64,
-    mpids: &[u64],
-    modes: &[u64],
-) -> bool
-    ensures { result ≡ are_settings q venue.now port.now code.now first mpids.now modes.now }
-{
-    are_names(q, venue, port, code) & (1 <= first) & (first <= 999999999) & are_given(mpids, modes)
+impl Settings<'_> {
+    // Whether venue, port and code are good.
+    fn are_names(self) -> bool
+        ensures { result ≡ are_names self.entry.kind self.entry.venue.now self.entry.port.now self.entry.code.now }
+    {
+        is_name(self.venue, places::ID_ROOM, 33, 126)
+            & is_name(self.port, places::ID_ROOM, 33, 126)
+            & is_code(self.kind, self.code)
+    }
+
+    // Whether every setting is good.
+    fn are_good(self) -> bool
+        ensures { result ≡ are_settings self.entry.kind self.entry.venue.now self.entry.port.now self.entry.code.now self.entry.first self.entry.mpids.now self.entry.modes.now }
+    {
+        self.are_names()
+            & (1 <= self.first)
+            & (self.first <= 999999999)
+            & are_given(self.mpids, self.modes)
+    }
+
+    // Makes the table zero, but for venue, port and code.
+    fn write_names(self, t: &mut [u8])
+        requires { (length t.old ≡ table_bytes) × are_names self.kind self.venue.now self.port.now self.code.now ≡ true }
+        ensures { t.new ≡ named_table self.entry.venue.now self.entry.port.now self.entry.code.now }
+    {
+        octets::clear(t);
+        octets::put_text(t, places::VENUE, places::ID_ROOM, self.venue);
+        octets::put_text(t, places::PORT, places::ID_ROOM, self.port);
+        octets::put_text(t, places::CODE, places::CODE_ROOM, self.code);
+    }
+
+    // Writes both lists.
+    fn write_lists(self, t: &mut [u8])
+        requires { (length t.old ≡ table_bytes) × are_given self.mpids.now self.modes.now ≡ true }
+        ensures { t.new ≡ put_modes (put_mpids t.old self.entry.mpids.now) self.entry.modes.now }
+    {
+        put_mpids(t, self.mpids);
+        put_modes(t, self.modes);
+    }
+
+    // Writes the whole table.
+    fn write_fresh(self, t: &mut [u8])
+        requires { (length t.old ≡ table_bytes) × are_settings self.kind self.venue.now self.port.now self.code.now self.first self.mpids.now self.modes.now ≡ true }
+        ensures { t.new ≡ fresh_table self.entry.kind self.entry.venue.now self.entry.port.now self.entry.code.now self.entry.first self.entry.mpids.now self.entry.modes.now }
+    {
+        self.write_names(t);
+        put_next(t, self.first);
+        put_kind(t, self.kind);
+        self.write_lists(t);
+    }
 }
 
-// Makes the table zero, but for venue, port and code.
-fn write_names(t: &mut [u8], q: Instrument, venue: &[u8], port: &[u8], code: &[u8])
-    requires { (length t.old ≡ table_bytes) × are_names q venue.now port.now code.now ≡ true }
-    ensures { t.new ≡ named_table venue.now port.now code.now }
-{
-    octets::clear(t);
-    octets::put_text(t, places::VENUE, places::ID_ROOM, venue);
-    octets::put_text(t, places::PORT, places::ID_ROOM, port);
-    octets::put_text(t, places::CODE, places::CODE_ROOM, code);
-}
-
-// Writes both lists.
-fn write_lists(t: &mut [u8], mpids: &[u64], modes: &[u64])
-    requires { (length t.old ≡ table_bytes) × are_given mpids.now modes.now ≡ true }
-    ensures { t.new ≡ put_modes (put_mpids t.old mpids.now) modes.now }
-{
-    put_mpids(t, mpids);
-    put_modes(t, modes);
-}
-
-// Writes the whole table.
-fn write_fresh(
-    t: &mut [u8],
-    q: Instrument,
-    venue: &[u8],
-    port: &[u8],
-    code: &[u8],
-    first: u64,
-    mpids: &[u64],
-    modes: &[u64],
-)
-    requires { (length t.old ≡ table_bytes) × are_settings q venue.now port.now code.now first mpids.now modes.now ≡ true }
-    ensures { t.new ≡ fresh_table q venue.now port.now code.now first mpids.now modes.now }
-{
-    write_names(t, q, venue, port, code);
-    put_next(t, first);
-    put_kind(t, q);
-    write_lists(t, mpids, modes);
-}
-
-// Opens a market of bonds or of equities in the table: 0, or refusal 9 with nothing changed.
+// Opens a market of bonds or of equities in the table, or refuses with nothing changed.
 pub fn open_table(
     q: Instrument,
     t: &mut [u8],
@@ -183,15 +164,24 @@ pub fn open_table(
     first: u64,
     mpids: &[u64],
     modes: &[u64],
-) -> u64
-    ensures { (result ≡ open_number q t.old venue.now port.now code.now first mpids.now modes.now) × (t.new ≡ opened q t.old venue.now port.now code.now first mpids.now modes.now) }
+) -> Result<(), Refusal>
+    ensures { (result ≡ open_answer q t.old venue.now port.now code.now first mpids.now modes.now) × (t.new ≡ opened q t.old venue.now port.now code.now first mpids.now modes.now) }
 {
+    let settings = Settings {
+        kind: q,
+        venue,
+        port,
+        code,
+        first,
+        mpids,
+        modes,
+    };
     if t.len() != places::TABLE {
-        return 9;
+        return Err(Refusal::BadSetting);
     }
-    if !are_settings(q, venue, port, code, first, mpids, modes) {
-        return 9;
+    if !settings.are_good() {
+        return Err(Refusal::BadSetting);
     }
-    write_fresh(t, q, venue, port, code, first, mpids, modes);
-    0
+    settings.write_fresh(t);
+    Ok(())
 }

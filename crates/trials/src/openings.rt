@@ -1,11 +1,13 @@
 // Opened markets, of bonds or of equities: Open is called for the first few of nine members, lent as a slice of structs, and writes a line
 // for each: how many members were lent, Open's number, and how many the table then lists.
 ghost use Rattle.std.specs.Prelude.{◌≡◌, ◌≤◌, take};
-ghost use Rattle.table.specs.Opened.{opened, open_number};
+ghost use Rattle.table.specs.Opened.{opened, open_answer};
+ghost use Rattle.refusals.specs.Refusals.{answer_number};
 ghost use Rattle.members.specs.Members.{mpids_of, modes_of};
 
 use decimal::Instrument;
 use members::Member;
+use refusals::answer_number;
 use std::io::Result;
 use table::entries::entries;
 
@@ -21,10 +23,11 @@ fn open_first(
     n: usize,
 ) -> u64
     requires { n ≤ 9 }
-    ensures { (result ≡ open_number q table.old venue.now port.now code.now first (mpids_of (take n nine)) (modes_of (take n nine)))
+    ensures { (result ≡ answer_number (open_answer q table.old venue.now port.now code.now first (mpids_of (take n nine)) (modes_of (take n nine))))
         × (table.new ≡ opened q table.old venue.now port.now code.now first (mpids_of (take n nine)) (modes_of (take n nine))) }
 {
-    members::open(q, table, venue, port, code, first, &nine[..n])
+    let answer = members::open(q, table, venue, port, code, first, &nine[..n]);
+    answer_number(&answer)
 }
 
 // Nine members: MPIDs 10 to 18, modes 1, 2 and 3 in turn.

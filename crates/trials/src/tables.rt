@@ -139,7 +139,7 @@ fn at_rest(q: Instrument, t: &mut [u8])
 {
     let mpids = [10u64, 11];
     let modes = [1u64, 3];
-    open_table(q, t, b"V", b"P", b"350", 1, &mpids, &modes);
+    let _ = open_table(q, t, b"V", b"P", b"350", 1, &mpids, &modes);
     resting_sell(q, t);
     resting_buy(q, t);
     put_next(t, 4);

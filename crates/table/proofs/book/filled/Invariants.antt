@@ -1,11 +1,8 @@
 -- `table::book::filled` meets its contract: at each turn the search from k on gives the whole search's answer.
-use Prim.Native.Nat.{◌+◌, ◌-◌}
+use Prim.Native.Nat.{◌+◌}
 use Rattle.table.specs.Orders.{is_free}
 use Rattle.octets.proofs.Ranges.{Sought}
 use Rattle.table.proofs.book.filled.Given as goal
 
 abbrev pub invariant-loop-k : goal.invariant-loop-k
 invariant-loop-k l = Sought (λ j. is_free l.t (j + 1)) 255 l.k
-
-abbrev pub decreases-loop-k : goal.decreases-loop-k
-decreases-loop-k l = 255 - l.k

@@ -14,24 +14,12 @@ returns-then-n-lt-MOST_ORDERS c = (search (rules, takes_next), omega arith)
 pub loop-k-init : goal.loop-k-init
 loop-k-init c = sought_none
 
-pub overflow_add-k : goal.overflow_add-k
-overflow_add-k c = omega arith
-
-pub overflow_add-result-then-not-open_at : goal.overflow_add-result-then-not-open_at
-overflow_add-result-then-not-open_at c = omega arith
-
 pub returns-then-not-open_at : goal.returns-then-not-open_at
 returns-then-not-open_at c = (
   takes_here _ _ _ c.requires.1 c.if-n-lt-MOST_ORDERS.false
       c.loop-k.invariant (omega arith) (ap not (sym c.open_at.ensures ∙ c.if-not-open_at.true)),
   omega arith,
 )
-
-pub overflow_add-k-in-loop-k : goal.overflow_add-k-in-loop-k
-overflow_add-k-in-loop-k c = omega arith
-
-pub loop-k-smaller : goal.loop-k-smaller
-loop-k-smaller c = omega arith
 
 pub loop-k-preserved : goal.loop-k-preserved
 loop-k-preserved c =

@@ -1,5 +1,4 @@
 -- `table::entry_of` meets its contract: among the entries passed none is the one that is sought.
-use Prim.Native.Nat.{◌-◌}
 use lib.Dec.{eqb}
 use Rattle.octets.proofs.Ranges.{Sought}
 use Rattle.table.specs.Heading.{mpid_at}
@@ -7,6 +6,3 @@ use Rattle.table.proofs.entries.entry_of.Given as goal
 
 abbrev pub invariant-loop-k : goal.invariant-loop-k
 invariant-loop-k l = Sought (λ j. eqb (mpid_at l.t j) l.m) l.n l.k
-
-abbrev pub decreases-loop-k : goal.decreases-loop-k
-decreases-loop-k l = l.n - l.k

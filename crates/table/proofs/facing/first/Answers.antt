@@ -4,7 +4,7 @@ use borrow.Author.Rules.{rules}
 use Rattle.table.proofs.facing.first.Goals as goal
 
 pub loop-j-init : goal.loop-j-init
-loop-j-init c = (search rules, search (rules, finding_none))
+loop-j-init c = search (rules, finding_none)
 
 pub offset_bounds-firsts-j : goal.offset_bounds-firsts-j
 offset_bounds-firsts-j c = search (rules, first_place)
@@ -15,11 +15,8 @@ bounds-firsts-j c = search (rules, first_place)
 pub earlier-c-requires : goal.earlier-c-requires
 earlier-c-requires c = (search rules, search (rules, first_below))
 
-pub overflow_add-j : goal.overflow_add-j
-overflow_add-j c = search (rules, first_place)
-
 pub loop-j-preserved : goal.loop-j-preserved
-loop-j-preserved c = (search rules, search (rules, finding_more))
+loop-j-preserved c = search (rules, finding_more)
 
 pub returns : goal.returns
 returns c = search (rules, finding_end)

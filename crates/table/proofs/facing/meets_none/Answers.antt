@@ -5,8 +5,8 @@ use Rattle.table.proofs.Faced.{best_zero, due_timely, best_skip, best_end}
 use borrow.Author.Rules.{rules}
 use Rattle.table.proofs.facing.meets_none.Goals as goal
 
-pub loop-i-init : goal.loop-i-init
-loop-i-init c = (search rules, best_zero _ _)
+pub loop-k-init : goal.loop-k-init
+loop-k-init c = best_zero _ _
 
 pub due-requires : goal.due-requires
 due-requires c = (search (rules, due_timely), search rules)
@@ -14,8 +14,8 @@ due-requires c = (search (rules, due_timely), search rules)
 pub returns-then-due-lt-END : goal.returns-then-due-lt-END
 returns-then-due-lt-END c = λ z. absurd (not_both z refl)
 
-pub loop-i-preserved : goal.loop-i-preserved
-loop-i-preserved c = (search rules, search (rules, best_skip))
+pub loop-k-preserved : goal.loop-k-preserved
+loop-k-preserved c = search (rules, best_skip)
 
 pub returns : goal.returns
 returns c = search (rules, best_end)

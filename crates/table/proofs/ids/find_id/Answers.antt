@@ -22,9 +22,6 @@ is_named-requires c = (search rules, search rules, search rules, search (rules, 
 pub returns-then-is_named : goal.returns-then-is_named
 returns-then-is_named c = (id_here _ _ _ _ c.loop-k.invariant (omega arith) (sym c.is_named.ensures ∙ c.if-is_named.true), omega arith)
 
-pub loop-k-smaller : goal.loop-k-smaller
-loop-k-smaller c = omega arith
-
 pub loop-k-preserved : goal.loop-k-preserved
 loop-k-preserved c = sought_more c.loop-k.invariant (omega arith) (sym c.is_named.ensures ∙ c.if-is_named.false)
 

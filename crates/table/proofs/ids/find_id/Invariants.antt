@@ -1,5 +1,5 @@
 -- `table::ids::find_id` meets its contract: at each turn the search from k on gives the whole search's answer.
-use Prim.Native.Nat.{◌+◌, ◌-◌}
+use Prim.Native.Nat.{◌+◌}
 use Rattle.octets.specs.Octets.{same_bytes}
 use Rattle.table.specs.Orders.{cl_ord_id_at}
 use Rattle.octets.proofs.Ranges.{Sought}
@@ -7,6 +7,3 @@ use Rattle.table.proofs.ids.find_id.Given as goal
 
 abbrev pub invariant-loop-k : goal.invariant-loop-k
 invariant-loop-k l = Sought (λ j. same_bytes (cl_ord_id_at l.t (j + 1)) l.m) l.n l.k
-
-abbrev pub decreases-loop-k : goal.decreases-loop-k
-decreases-loop-k l = l.n - l.k

@@ -4,10 +4,10 @@ use borrow.Author.Rules.{rules}
 use Rattle.table.proofs.look.first_from.Goals as goal
 
 pub loop-i-init : goal.loop-i-init
-loop-i-init c = (search rules, search (rules, clear_none))
+loop-i-init c = search (rules, clear_none)
 
 pub loop-i-preserved : goal.loop-i-preserved
-loop-i-preserved c = (search rules, search (rules, first_more))
+loop-i-preserved c = search (rules, first_more)
 
 pub returns : goal.returns
 returns c = search (rules, clear_end)

@@ -1,10 +1,6 @@
 -- `table::look::first_from` meets its contract: r is the first of the turns passed that is not before x.
-use Prim.Native.Nat.{◌-◌, ◌≤◌}
 use Rattle.table.specs.Looks.{Clear}
 use Rattle.table.proofs.look.first_from.Given as goal
 
 abbrev pub invariant-loop-i : goal.invariant-loop-i
-invariant-loop-i l = (l.i ≤ l.n) × Clear l.turns l.i l.x l.r
-
-abbrev pub decreases-loop-i : goal.decreases-loop-i
-decreases-loop-i l = l.n - l.i
+invariant-loop-i l = Clear l.turns l.i l.x l.r

@@ -3,8 +3,5 @@ use Prim.Native.Nat.{◌-◌, ◌≤◌}
 use Rattle.table.specs.Looks.{Between}
 use Rattle.table.proofs.look.halved.Given as goal
 
-abbrev pub invariant-loop-i : goal.invariant-loop-i
-invariant-loop-i l = (l.i ≤ 8) × Between l.turns l.amounts l.n l.q l.v.low l.v.high × (l.v.high - l.v.low ≤ l.initial.v.high - l.initial.v.low)
-
-abbrev pub decreases-loop-i : goal.decreases-loop-i
-decreases-loop-i l = 8 - l.i
+abbrev pub invariant-loop : goal.invariant-loop
+invariant-loop l = Between l.turns l.amounts l.n l.q l.v.low l.v.high × (l.v.high - l.v.low ≤ l.initial.v.high - l.initial.v.low)

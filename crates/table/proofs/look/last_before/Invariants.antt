@@ -1,10 +1,6 @@
 -- `table::look::last_before` meets its contract: r is behind the last of the turns passed that is before x.
-use Prim.Native.Nat.{◌-◌, ◌≤◌}
 use Rattle.table.specs.Looks.{Clear}
 use Rattle.table.proofs.look.last_before.Given as goal
 
 abbrev pub invariant-loop-i : goal.invariant-loop-i
-invariant-loop-i l = (l.i ≤ l.n) × Clear l.turns l.i l.r l.x
-
-abbrev pub decreases-loop-i : goal.decreases-loop-i
-decreases-loop-i l = l.n - l.i
+invariant-loop-i l = Clear l.turns l.i l.r l.x

@@ -6,5 +6,5 @@ use Rattle.table.proofs.look.nearer_own.Goals as goal
 pub returns-then-trades-offers : goal.returns-then-trades-offers
 returns-then-trades-offers c = search (rules, where_before)
 
-pub returns : goal.returns
-returns c = search (rules, where_not)
+pub returns-else-trades-offers : goal.returns-else-trades-offers
+returns-else-trades-offers c = search (rules, where_not)

@@ -4,9 +4,10 @@ use Rattle.table.proofs.Lookups.{record_below}
 use Rattle.table.proofs.Looks.{noted_none, looked_covered, looked_timely, noted_skip, noted_more, noted_room, noted_end}
 use borrow.Author.Rules.{rules}
 use Rattle.table.proofs.look.note.Goals as goal
+use Rattle.table.proofs.look.note.Goals.{then-offers-gt0, else-offers-gt0}
 
-pub loop-i-init : goal.loop-i-init
-loop-i-init c = (search rules, search (rules, noted_none))
+pub loop-k-init : goal.loop-k-init
+loop-k-init c = search (rules, noted_none)
 
 pub load-r-requires : goal.load-r-requires
 load-r-requires c = (c.requires.0.long, record_below _ _ _ c.requires.1 (omega arith))
@@ -38,11 +39,12 @@ bounds-others-m c = search (rules, noted_room)
 pub overflow_add-m : goal.overflow_add-m
 overflow_add-m c = search (rules, noted_room)
 
-pub loop-i-preserved-then-offers-gt0 : goal.loop-i-preserved-then-offers-gt0
-loop-i-preserved-then-offers-gt0 c = (search rules, search (rules, noted_more))
-
-pub loop-i-preserved : goal.loop-i-preserved
-loop-i-preserved c = (search rules, search (rules, noted_skip))
+pub loop-k-preserved : goal.loop-k-preserved
+loop-k-preserved c =
+    elim c.if-offers-gt0.branch [
+      | then-offers-gt0 w ↦ rw (w.turns-is, w.all-is, w.others-is, w.m-is) (search (rules, noted_more))
+      | else-offers-gt0 w ↦ rw (w.turns-is, w.all-is, w.others-is, w.m-is) (search (rules, noted_skip))
+    ]
 
 pub returns : goal.returns
 returns c = search (rules, noted_end)

@@ -1,28 +1,13 @@
--- `table::opening::all_between` meets its contract: the bytes from i on pass exactly if all do.
-use Rattle.table.proofs.Settings.{tested_none, tested_more, tested_stop, tested_end}
-use native.Mathlib.Omega.{arith}
+-- `table::opening::all_between` meets its contract: std's test of a whole list is `every`.
+use Rattle.std.proofs.Common.{◌∙◌, rules}
+use Rattle.std.proofs.lemmas.Iterator.{YieldsList-from_slice}
+use Rattle.std.proofs.lemmas.Iterator.Search.{all_from_yields_List}
+use borrow.Author.Tests.{tests}
+use Rattle.table.specs.Market.{is_between}
+use Rattle.table.proofs.Settings.{every_is}
 use Rattle.table.proofs.opening.all_between.Goals as goal
 
-pub loop-i-init : goal.loop-i-init
-loop-i-init c = tested_none
-
-pub bounds-s-i : goal.bounds-s-i
-bounds-s-i c = omega arith
-
-pub bounds-s-i-in-loop-i : goal.bounds-s-i-in-loop-i
-bounds-s-i-in-loop-i c = omega arith
-
-pub returns-then-not-low-s : goal.returns-then-not-low-s
-returns-then-not-low-s c = tested_stop c.loop-i.invariant (omega arith) (c.if-not-low-s.true)
-
-pub overflow_add-i : goal.overflow_add-i
-overflow_add-i c = omega arith
-
-pub loop-i-smaller : goal.loop-i-smaller
-loop-i-smaller c = omega arith
-
-pub loop-i-preserved : goal.loop-i-preserved
-loop-i-preserved c = tested_more c.loop-i.invariant (omega arith) (c.if-not-low-s.false)
-
 pub returns : goal.returns
-returns c = tested_end c.loop-i.invariant (omega arith)
+returns c =
+    all_from_yields_List (is_between c.args.low c.args.high) _ _ _ c.all.ensures.ran (YieldsList-from_slice c.args.s.now cc) (λ x b q k. search (rules, tests))
+    ∙ every_is _ _

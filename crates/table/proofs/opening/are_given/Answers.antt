@@ -19,12 +19,6 @@ returns-then-not-is_given c =
     let l = c.loop-k.invariant in
     given_stop _ _ l.1 (passed_stop l.2 (omega arith) (sym c.is_given.ensures ∙ c.if-not-is_given.true))
 
-pub overflow_add-k : goal.overflow_add-k
-overflow_add-k c = omega arith
-
-pub loop-k-smaller : goal.loop-k-smaller
-loop-k-smaller c = omega arith
-
 pub loop-k-preserved : goal.loop-k-preserved
 loop-k-preserved c =
     let l = c.loop-k.invariant in

@@ -6,27 +6,6 @@ use Rattle.table.proofs.opening.put_mpids.Goals as goal
 pub loop-k-init : goal.loop-k-init
 loop-k-init c = mpids_none
 
-pub overflow_mul-k : goal.overflow_mul-k
-overflow_mul-k c = omega arith
-
-pub overflow_add-k : goal.overflow_add-k
-overflow_add-k c = omega arith
-
-pub offset_bounds-mpids-k : goal.offset_bounds-mpids-k
-offset_bounds-mpids-k c = omega arith
-
-pub bounds-mpids-k : goal.bounds-mpids-k
-bounds-mpids-k c = omega arith
-
-pub put_le-requires : goal.put_le-requires
-put_le-requires c = omega arith
-
-pub overflow_add-k-in-loop-k : goal.overflow_add-k-in-loop-k
-overflow_add-k-in-loop-k c = omega arith
-
-pub loop-k-smaller : goal.loop-k-smaller
-loop-k-smaller c = omega arith
-
 pub loop-k-preserved : goal.loop-k-preserved
 loop-k-preserved c = mpids_more c.loop-k.invariant _ (omega arith) c.put_le.ensures
 

@@ -1,7 +1,7 @@
--- `table::opening::write_names` meets its contract: zeros, then the three texts.
+-- `table::opening::Settings::write_names` meets its contract: zeros, then the three texts.
 use Rattle.table.proofs.Settings.{venue_short, port_short, code_short, eight_small, nine_small, names_written}
 use borrow.Author.Rules.{rules}
-use Rattle.table.proofs.opening.write_names.Goals as goal
+use Rattle.table.proofs.opening.Settings.write_names.Goals as goal
 
 pub put_text-requires : goal.put_text-requires
 put_text-requires c = (search rules, search (rules, venue_short), search (rules, eight_small, venue_short))
