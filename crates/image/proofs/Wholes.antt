@@ -42,6 +42,8 @@ pub bad_here : (image : List ℕ) (k : ℕ) (g : Bool) → Sought (bad_in image)
 unfolding first_bad
 bad_here image k g s l e h = sought_here s l (rw (← e) h)
 
-pub bad_end : (image : List ℕ) (k : ℕ) → Sought (bad_in image) 65 k → 65 ≤ k → k ≡ first_bad image
+pub bad_none : (image : List ℕ) (k : ℕ) → Sought (bad_in image) 65 k → 65 ≤ k → first_bad image ≡ 65
 unfolding first_bad
-bad_end image k s l = sought_end s l
+bad_none image k s l =
+    let e : k ≡ first_bad image = sought_end s l in
+    omega (arith, s.within, e)

@@ -13,54 +13,37 @@ ghost use Rattle.image.specs.Answers.{saved_answer, image_after, restored_answer
 use crate::whole::{first_bad, put_image, read_market};
 use audit::is_market_of;
 use decimal::Instrument;
+use refusals::Refusal;
 use table::places::TABLE;
 
-// What writing answers: refused with nothing changed, or the image is written.
-#[derive(Clone, Copy)]
-pub enum SaveAnswer {
-    BadLength,
-    NoMarket,
-    Saved,
-}
-
-// What reading answers: refused with nothing changed, for a bad block with its number, or the table is read.
-#[derive(Clone, Copy)]
-pub enum RestoreAnswer {
-    BadLength,
-    BadBlock(usize),
-    NoMarket,
-    Restored,
-}
-
-// Writes the image of a table.
-pub fn save(q: Instrument, table: &[u8], image: &mut [u8]) -> SaveAnswer
+// Writes the image of a table, or refuses, with nothing changed: BadLength or NoMarket.
+pub fn save(q: Instrument, table: &[u8], image: &mut [u8]) -> Result<(), Refusal>
     ensures { (result ≡ saved_answer q table.now image.old)
         × (image.new ≡ image_after q table.now image.old) }
 {
     if (image.len() != places::IMAGE) | (table.len() != TABLE) {
-        return SaveAnswer::BadLength;
+        return Err(Refusal::BadLength);
     }
     if !is_market_of(q, table) {
-        return SaveAnswer::NoMarket;
+        return Err(Refusal::NoMarket);
     }
     put_image(image, table);
-    SaveAnswer::Saved
+    Ok(())
 }
 
-// Reads a table back from its image.
-pub fn restore(q: Instrument, table: &mut [u8], image: &[u8]) -> RestoreAnswer
+// Reads a table back from its image, or refuses, with nothing changed: BadLength, BadBlock with the number of the first bad block, or NoMarket.
+pub fn restore(q: Instrument, table: &mut [u8], image: &[u8]) -> Result<(), Refusal>
     ensures { (result ≡ restored_answer q table.old image.now)
         × (table.new ≡ table_after q table.old image.now) }
 {
     if (image.len() != places::IMAGE) | (table.len() != TABLE) {
-        return RestoreAnswer::BadLength;
+        return Err(Refusal::BadLength);
     }
-    let bad = first_bad(image);
-    if bad < places::BLOCKS {
-        return RestoreAnswer::BadBlock(bad);
+    if let Some(k) = first_bad(image) {
+        return Err(Refusal::BadBlock(k));
     }
     if !read_market(q, table, image) {
-        return RestoreAnswer::NoMarket;
+        return Err(Refusal::NoMarket);
     }
-    RestoreAnswer::Restored
+    Ok(())
 }

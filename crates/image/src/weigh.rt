@@ -18,20 +18,6 @@ struct Added {
     turned: u16,
 }
 
-// A byte as a number of a column.
-fn wide(x: u8) -> u16
-    ensures { (result ≡ x) × (result < 256) }
-{
-    x as u16
-}
-
-// A number of a column as a wider one.
-fn wider(x: u16) -> u32
-    ensures { (result ≡ x) × (result < 65536) }
-{
-    x as u32
-}
-
 // The column from place p on, from its last row up: what is summed so far counts once more for each row above it.
 fn column(t: &[u8], p: usize) -> Added
     requires { p + 481 ≤ length t.now }
@@ -39,11 +25,9 @@ fn column(t: &[u8], p: usize) -> Added
 {
     let mut sum: u16 = 0;
     let mut turned: u16 = 0;
-    let mut r = ROWS;
-    while 0 < r {
-        r -= 1;
+    for r in (0..ROWS).rev() {
         turned = turned + sum;
-        sum = sum + wide(t[p + COLUMNS * r]);
+        sum = sum + u16::from(t[p + COLUMNS * r]);
     }
     Added { sum, turned }
 }
@@ -53,12 +37,8 @@ fn come_to(sums: &[u16; 32], turns: &[u16; 32]) -> u32
     ensures { result ≡ sum_to (column_part sums.now turns.now) 32 }
 {
     let mut r: u32 = 0;
-    let mut c = 0;
-    let mut w: u32 = 0;
-    while c < COLUMNS {
-        w += 1;
-        r = r + (32 * wider(turns[c]) + w * wider(sums[c]));
-        c += 1;
+    for c in 0..COLUMNS {
+        r = r + (32 * u32::from(turns[c]) + (1 + c as u32) * u32::from(sums[c]));
     }
     r
 }
@@ -70,12 +50,10 @@ pub fn weigh(t: &[u8], p: usize) -> u32
 {
     let mut sums = [0u16; 32];
     let mut turns = [0u16; 32];
-    let mut c = 0;
-    while c < COLUMNS {
+    for c in 0..COLUMNS {
         let x = column(t, p + c);
         sums[c] = x.sum;
         turns[c] = x.turned;
-        c += 1;
     }
     come_to(&sums, &turns)
 }

@@ -6,11 +6,11 @@ use Rattle.image.proofs.restore.Goals as goal
 pub returns-then-image-table : goal.returns-then-image-table
 returns-then-image-table c = restore_length _ _ _ (is_wrong c.args.table.now c.args.image.now _ c.if-image-table.true)
 
-pub first_bad-bad-requires : goal.first_bad-bad-requires
-first_bad-bad-requires c = long_image c.args.table.now _ (is_wrong c.args.table.now c.args.image.now _ c.if-image-table.false)
+pub first_bad-requires : goal.first_bad-requires
+first_bad-requires c = long_image c.args.table.now _ (is_wrong c.args.table.now c.args.image.now _ c.if-image-table.false)
 
-pub returns-then-bad-lt-BLOCKS : goal.returns-then-bad-lt-BLOCKS
-returns-then-bad-lt-BLOCKS c = restore_bad _ _ _ (is_wrong c.args.table.now c.args.image.now _ c.if-image-table.false) _ c.first_bad-bad.ensures c.if-bad-lt-BLOCKS.true
+pub returns-in-Some : goal.returns-in-Some
+returns-in-Some c = restore_bad _ _ _ (is_wrong c.args.table.now c.args.image.now _ c.if-image-table.false) _ c.in-Some.ensures.0 c.in-Some.ensures.1
 
 pub read_market-requires : goal.read_market-requires
 read_market-requires c =
@@ -18,7 +18,7 @@ read_market-requires c =
     (long_table _ c.args.image.now right, long_image c.args.table.now _ right)
 
 pub returns-then-not-read_market : goal.returns-then-not-read_market
-returns-then-not-read_market c = restore_none _ _ _ (is_wrong c.args.table.now c.args.image.now _ c.if-image-table.false) _ c.first_bad-bad.ensures c.if-bad-lt-BLOCKS.false _ c.read_market.ensures.0 _ c.read_market.ensures.1 (ap not c.if-not-read_market.true)
+returns-then-not-read_market c = restore_none _ _ _ (is_wrong c.args.table.now c.args.image.now _ c.if-image-table.false) c.in_default.ensures _ c.read_market.ensures.0 _ c.read_market.ensures.1 (ap not c.if-not-read_market.true)
 
 pub returns : goal.returns
-returns c = restore_done _ _ _ (is_wrong c.args.table.now c.args.image.now _ c.if-image-table.false) _ c.first_bad-bad.ensures c.if-bad-lt-BLOCKS.false _ c.read_market.ensures.0 _ c.read_market.ensures.1 (ap not c.if-not-read_market.false)
+returns c = restore_done _ _ _ (is_wrong c.args.table.now c.args.image.now _ c.if-image-table.false) c.in_default.ensures _ c.read_market.ensures.0 _ c.read_market.ensures.1 (ap not c.if-not-read_market.false)

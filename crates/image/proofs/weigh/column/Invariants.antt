@@ -4,6 +4,3 @@ use Rattle.image.proofs.weigh.column.Given as goal
 
 abbrev pub invariant-loop-r : goal.invariant-loop-r
 invariant-loop-r l = Rows l.t l.p l.sum l.turned l.r
-
-abbrev pub decreases-loop-r : goal.decreases-loop-r
-decreases-loop-r l = l.r

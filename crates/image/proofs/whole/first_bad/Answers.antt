@@ -1,24 +1,17 @@
 -- `image::first_bad` meets its contract: the blocks before k are good.
-use native.Mathlib.Omega.{arith}
 use borrow.Author.Rules.{rules}
 use Rattle.octets.proofs.Ranges.{sought_none}
-use Rattle.image.proofs.Wholes.{bad_more, bad_here, bad_end}
+use Rattle.image.proofs.Wholes.{bad_more, bad_here, bad_none}
 use Rattle.image.proofs.whole.first_bad.Goals as goal
 
 pub loop-k-init : goal.loop-k-init
 loop-k-init c = sought_none
 
 pub returns-then-not-is_good : goal.returns-then-not-is_good
-returns-then-not-is_good c = search (rules, bad_here)
-
-pub overflow_add-k : goal.overflow_add-k
-overflow_add-k c = omega arith
-
-pub loop-k-smaller : goal.loop-k-smaller
-loop-k-smaller c = omega arith
+returns-then-not-is_good c = (search (rules, bad_here), search rules)
 
 pub loop-k-preserved : goal.loop-k-preserved
 loop-k-preserved c = search (rules, bad_more)
 
 pub returns : goal.returns
-returns c = search (rules, bad_end)
+returns c = search (rules, bad_none)

@@ -11,12 +11,6 @@ loop-k-init c = written_none
 pub put_block-requires : goal.put_block-requires
 put_block-requires c = (omega (arith, written_long c.loop-k.invariant), omega arith, omega arith)
 
-pub overflow_add-k : goal.overflow_add-k
-overflow_add-k c = omega arith
-
-pub loop-k-smaller : goal.loop-k-smaller
-loop-k-smaller c = omega arith
-
 pub loop-k-preserved : goal.loop-k-preserved
 loop-k-preserved c = search (rules, image_more)
 

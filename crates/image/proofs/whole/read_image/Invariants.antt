@@ -1,11 +1,7 @@
 -- `image::read_image` meets its contract: k blocks are read.
-use Prim.Native.Nat.{◌-◌}
 use Rattle.image.specs.Image.{kept_in}
 use Rattle.image.proofs.Turns.{Written}
 use Rattle.image.proofs.whole.read_image.Given as goal
 
 abbrev pub invariant-loop-k : goal.invariant-loop-k
 invariant-loop-k l = Written l.initial.t (kept_in l.image) l.t l.k
-
-abbrev pub decreases-loop-k : goal.decreases-loop-k
-decreases-loop-k l = 65 - l.k
