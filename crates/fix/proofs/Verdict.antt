@@ -1,6 +1,6 @@
 -- What is known once the header is read, and the verdict: each test that fails makes the message garbled, and all together
 -- say that it is not.
-use Rattle.std.proofs.Common.{Option, Some, None, is_none, ◌≡◌, ℕ, ◌-◌, ◌<◌, Bool, true, false, cond, not, ◌&&◌, eqb, leb, List, length, sym, refl, ap, ◌∙◌, subst, suc-ne-zero, arith, eq-eqb, ne_eqb, le-leb}
+use Rattle.std.proofs.Common.{Option, Some, None, is_none, unwrap_or, ◌≡◌, ℕ, ◌-◌, ◌<◌, Bool, true, false, cond, not, ◌&&◌, eqb, leb, List, length, sym, refl, ap, ◌∙◌, subst, suc-ne-zero, arith, eq-eqb, ne_eqb, le-leb}
 use mathlib.Core.Bool.{and-false}
 use Rattle.std.specs.Option.{option_eq}
 use borrow.Author.Tests.{not-true, not-false, lt-leb}
@@ -26,6 +26,10 @@ pub sums_says : (s : List ℕ) (sum m : ℕ) (p : Part) (v : List ℕ) (x : Opti
     → (eqb (length v) 3 && b) ≡ sums_of s sum p
 unfolding sums_of
 sums_says s sum m p v x b ev ex em eb = rw (eb, says_same m x, em, ex, ev)
+
+said_or : (x : Option ℕ) → unwrap_or x 0 ≡ said_of x
+said_or (Some n) = refl
+said_or None = refl
 
 -- ---- how the fields end
 module _ (s : List ℕ) where
@@ -97,13 +101,9 @@ module _ (s : List ℕ) (count a : ℕ) (h : Places) (b : ℕ) (p : Part) (t sum
       said_is : said_of (num_of 9 (value_of s 34)) ≡ said_of x
       said_is = rw (value_at_lem 34 h.number l.placed.number) (rw (← ev, ← ex))
 
-      pub settle_unsaid : x ≡ None → None ≡ frame_of s
-      unfolding header_right
-      settle_unsaid g = garbled_frame s (garbled_header s (rw (said_is, g) (simp and-false)))
-
-      module _ (n : ℕ) (en : x ≡ Some n) (y : Bool) (ey : y ≡ right_of s h n) where
+      module _ (n : ℕ) (en : n ≡ unwrap_or x 0) (y : Bool) (ey : y ≡ right_of s h n) where
         number_is : said_of (num_of 9 (value_of s 34)) ≡ n
-        number_is = said_is ∙ rw en
+        number_is = said_is ∙ sym (en ∙ said_or x)
 
         header_is_right : header_right s ≡ right_of s h n
         unfolding header_right right_of

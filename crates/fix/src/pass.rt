@@ -201,13 +201,6 @@ pub fn walk(s: &[u8], row: &mut [u16; 1023]) -> Option<Walked>
     }
 }
 
-// A number of two bytes, as a place.
-pub fn wide(x: u16) -> usize
-    ensures { (result ≡ x) × (result < 65536) }
-{
-    x as usize
-}
-
 impl Seat {
     // The field that stands at the place; nothing at the field 10. No `Iterator`: whoever steps knows that the field 10 is not
     // behind them, which no clause of `next` asks.
@@ -216,14 +209,14 @@ impl Seat {
         ensures { result ≡ seat_of row.now self.number }
     {
         let j = self.number;
-        let tag = wide(row[j * 3]) as u64;
+        let tag = u64::from(row[j * 3]);
         if tag == 10 {
             return None;
         }
         Some(Noted {
             tag,
-            start: wide(row[j * 3 + 1]),
-            len: wide(row[j * 3 + 2]),
+            start: usize::from(row[j * 3 + 1]),
+            len: usize::from(row[j * 3 + 2]),
             next: Seat { number: j + 1 },
         })
     }

@@ -1,7 +1,7 @@
 // What the value of a tag says, and whether it may.
 ghost use Rattle.std.specs.Prelude.{◌≡◌, ℕ, ◌+◌, ◌-◌, ◌≤◌, ◌<◌, length, get_or};
 ghost use Rattle.request.specs.declared.Kind.{Kind};
-ghost use Rattle.request.specs.Gathers.{is_equities, InEach};
+ghost use Rattle.request.specs.Gathers.{InEach};
 ghost use Rattle.request.specs.Session.{belongs, listed, char_says, Shape, Text, Digits, Amount, Quote, Time, Among, code_shape, side_shape, cash_shape, margin_shape, shape_of, look_as, one_of};
 
 use crate::{Kind, Reason};
@@ -159,13 +159,6 @@ pub fn look(q: Instrument, at: u64, tag: u64, v: &[u8]) -> Result<u64, Reason>
     }
 }
 
-// Whether the market trades equities.
-pub fn is_equities(q: Instrument) -> bool
-    ensures { result ≡ is_equities q }
-{
-    matches!(q, Instrument::Equities)
-}
-
 // Whether a new order may have the tag.
 fn in_new_order(q: Instrument, tag: u64) -> bool
     ensures { result ≡ belongs q Kind.NewOrder tag }
@@ -173,7 +166,7 @@ fn in_new_order(q: Instrument, tag: u64) -> bool
     match tag {
         1 | 11 | 21 | 38 | 40 | 44 | 47 | 54 | 59 | 109 | 8060 => true,
         55 | 60 | 110 => true,
-        544 | 8214 => is_equities(q),
+        544 | 8214 => q == Instrument::Equities,
         _ => false,
     }
 }
