@@ -175,7 +175,7 @@ pub fn order_at(t: &[u8], i: usize) -> Order
     load(t, i)
 }
 
-// What is executed, decremented and canceled.
+// What is executed, decremented and canceled. It is no method of an order, of which any may be wider than one that is read from a record.
 pub fn used(o: Order) -> u64
     requires { Narrow o }
     ensures { (result ≡ o.executed + o.decremented + o.canceled) × (result < 12884901888) }
