@@ -93,21 +93,17 @@ pub fn fill_on(t: &[u8], n: u64, i: usize, other: usize, quantity: u64, level: u
     ensures { result ≡ fill_on t.now n i other quantity level }
 {
     let o = table::record::load(t, other);
-    if i == table::heading::work(t) {
-        return Fill {
-            quantity,
-            level,
-            other: o.mpid,
-            first: n - 1,
-            liquidity: 2,
-        };
-    }
+    let (first, liquidity) = if i == table::heading::work(t) {
+        (n - 1, 2)
+    } else {
+        (n, 1)
+    };
     Fill {
         quantity,
         level,
         other: o.mpid,
-        first: n,
-        liquidity: 1,
+        first,
+        liquidity,
     }
 }
 
@@ -158,14 +154,14 @@ pub fn order_of(e: Event) -> u64
     ensures { result ≡ who e }
 {
     match e {
-        Event::Accepted { order, .. } => order,
-        Event::Replaced { order, .. } => order,
-        Event::Withdrawn { order, .. } => order,
-        Event::Canceled { order, .. } => order,
-        Event::Decremented { order, .. } => order,
-        Event::Traded { order, .. } => order,
-        Event::Killed { order, .. } => order,
-        Event::Expired { order, .. } => order,
+        Event::Accepted { order, .. }
+        | Event::Replaced { order, .. }
+        | Event::Withdrawn { order, .. }
+        | Event::Canceled { order, .. }
+        | Event::Decremented { order, .. }
+        | Event::Traded { order, .. }
+        | Event::Killed { order, .. }
+        | Event::Expired { order, .. } => order,
     }
 }
 
@@ -186,7 +182,6 @@ pub fn told_of(t: &[u8], n: u64, orig: Place, e: Event, i: usize, o: Shown) -> T
             level,
             ..
         } => telling::traded(o, fill_on(t, n, i, other as usize, quantity, level)),
-        Event::Killed { .. } => telling::canceled(expired()),
-        Event::Expired { .. } => telling::canceled(expired()),
+        Event::Killed { .. } | Event::Expired { .. } => telling::canceled(expired()),
     }
 }

@@ -89,10 +89,8 @@ fn refused_at(q: Instrument, s: &[u8], again: bool, i: usize) -> u64
     ensures { result ≡ refused_at q again s.now i 256 }
 {
     let mut k = 0;
-    let mut b = 0u64;
-    while b < 256 {
+    for b in 0..256 {
         k += refused_other(q, s, again, i, b);
-        b += 1;
     }
     k
 }
@@ -103,10 +101,8 @@ fn refused_in(q: Instrument, s: &[u8], again: bool, n: usize) -> u64
     ensures { result ≡ refused_in q again s.now n }
 {
     let mut k = 0;
-    let mut i = 0;
-    while i < n {
+    for i in 0..n {
         k += refused_at(q, s, again, i);
-        i += 1;
     }
     k
 }
@@ -145,10 +141,8 @@ fn report(out: &impl Print, q: Instrument, s: &[u8]) -> Result<()>
 
 // Writes the counts of a line that can be a report.
 pub fn line(out: &impl Print, q: Instrument, s: &[u8]) -> Result<()> {
-    if 7 <= s.len() {
-        if s.len() <= 512 {
-            return report(out, q, s);
-        }
+    if (7..=512).contains(&s.len()) {
+        return report(out, q, s);
     }
     Ok(())
 }

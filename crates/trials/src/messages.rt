@@ -7,12 +7,6 @@ use request::asks::asked;
 use request::{Asked, Cancellation, NewOrder, Refusal, Replacement, Terms};
 use std::io::Result;
 
-// Writes a word and a number.
-fn number(out: &impl Print, word: &[u8], n: u64) -> Result<()> {
-    out.write_all(word)?;
-    out.print(n)
-}
-
 // Writes a word and a part of the message.
 fn text(out: &impl Print, word: &[u8], s: &[u8], p: Part) -> Result<()> {
     out.write_all(word)?;
@@ -20,26 +14,23 @@ fn text(out: &impl Print, word: &[u8], s: &[u8], p: Part) -> Result<()> {
 }
 
 fn refused(out: &impl Print, s: &[u8], r: Refusal) -> Result<()> {
-    number(out, b"reject 373=", r.reason)?;
-    number(out, b" 371=", r.tag)?;
-    number(out, b" 45=", r.number)?;
+    print!(out; "reject 373={} 371={} 45={}", r.reason, r.tag, r.number)?;
     text(out, b" 372=", s, r.kind)?;
     text(out, b" 52=", s, r.time)
 }
 
 // The numbers of a new order, 544 and 8214 where there is a 544.
 fn terms(out: &impl Print, t: Terms) -> Result<()> {
-    number(out, b" 38=", t.quantity)?;
-    number(out, b" level=", t.level)?;
-    number(out, b" 47=", t.capacity)?;
-    number(out, b" 54=", t.side)?;
-    number(out, b" 59=", t.tif)?;
-    number(out, b" 109=", t.mpid)?;
-    number(out, b" 110=", t.minqty)?;
-    number(out, b" 8060=", t.class)?;
+    print!(out;
+        " 38={} level={} 47={} 54={}",
+        t.quantity, t.level, t.capacity, t.side
+    )?;
+    print!(out;
+        " 59={} 109={} 110={} 8060={}",
+        t.tif, t.mpid, t.minqty, t.class
+    )?;
     if 0 < t.cash {
-        number(out, b" 544=", t.cash)?;
-        number(out, b" 8214=", t.margin)?;
+        print!(out; " 544={} 8214={}", t.cash, t.margin)?;
     }
     Ok(())
 }
@@ -56,9 +47,7 @@ fn replaces(out: &impl Print, s: &[u8], o: Replacement) -> Result<()> {
     text(out, b"replace 11=", s, o.id)?;
     text(out, b" 41=", s, o.original)?;
     text(out, b" 55=", s, o.code)?;
-    number(out, b" 38=", o.quantity)?;
-    number(out, b" level=", o.level)?;
-    number(out, b" 54=", o.side)?;
+    print!(out; " 38={} level={} 54={}", o.quantity, o.level, o.side)?;
     text(out, b" 52=", s, o.time)
 }
 
@@ -66,7 +55,7 @@ fn cancels(out: &impl Print, s: &[u8], o: Cancellation) -> Result<()> {
     text(out, b"cancel 11=", s, o.id)?;
     text(out, b" 41=", s, o.original)?;
     text(out, b" 55=", s, o.code)?;
-    number(out, b" 54=", o.side)?;
+    print!(out; " 54={}", o.side)?;
     text(out, b" 52=", s, o.time)
 }
 
@@ -83,14 +72,9 @@ fn answer(out: &impl Print, q: Instrument, s: &[u8]) -> Result<()> {
 
 // Writes a heading, or what a message asks, and a line end.
 pub fn line(out: &impl Print, q: Instrument, s: &[u8]) -> Result<()> {
-    if 0 < s.len() {
-        if s[0] == b'#' {
-            out.write_all(s)?;
-        } else {
-            answer(out, q, s)?;
-        }
-    } else {
-        answer(out, q, s)?;
+    match s {
+        [b'#', ..] => out.write_all(s)?,
+        _ => answer(out, q, s)?,
     }
     out.write_all(b"\n")
 }

@@ -13,17 +13,12 @@ use report::{Field, Place, Value};
 use rows::{Faulty, Fill, Ground, Refused, Shown, Stamp, Unchanged};
 use std::io::Result;
 
-// A bar for SOH, and every other byte as it is.
-fn bar(b: u8) -> u8 {
-    if b == 1 { b'|' } else { b }
-}
-
 // Makes every SOH a bar.
 fn bars(s: &mut [u8]) {
-    let mut i = 0;
-    while i < s.len() {
-        s[i] = bar(s[i]);
-        i += 1;
+    for b in s.iter_mut() {
+        if *b == 1 {
+            *b = b'|';
+        }
     }
 }
 
@@ -66,11 +61,8 @@ pub fn stamp_sent(q: Instrument, number: u64) -> Stamp
     ensures { StampFine q result }
 {
     Stamp {
-        of: q,
-        number,
         time: Value::Sent { from: 0, len: 17 },
-        venue: Value::Stored { from: 0, len: 1 },
-        port: Value::Stored { from: 1, len: 1 },
+        ..stamp(q, number)
     }
 }
 
@@ -98,15 +90,8 @@ fn renamed(order: Order) -> Shown
     ensures { ShownFine Bonds result }
 {
     Shown {
-        orderid: 1,
-        order,
-        capacity: b'A',
-        class: 1,
-        cash: 0,
-        margin: 0,
-        code: Value::Stored { from: 2, len: 3 },
         id: Value::Stored { from: 32, len: 5 },
-        account: Value::Stored { from: 27, len: 5 },
+        ..known(1, order)
     }
 }
 
@@ -116,15 +101,10 @@ fn bare(order: Order) -> Shown
     ensures { ShownFine Bonds result }
 {
     Shown {
-        orderid: 2,
-        order,
         capacity: b'P',
         class: 6,
-        cash: 0,
-        margin: 0,
-        code: Value::Stored { from: 2, len: 3 },
-        id: Value::Stored { from: 22, len: 5 },
         account: Value::Absent,
+        ..known(2, order)
     }
 }
 
@@ -383,29 +363,24 @@ fn trade_samples(out: &impl Print) -> Result<()> {
     )
 }
 
+// A place of the message.
+pub fn sent(start: usize, length: usize) -> Place
+    ensures { result.length ≤ length }
+{
+    Place {
+        sent: true,
+        start,
+        length,
+    }
+}
+
 // What is refused: a new order whose 38 was 00042, a cancel of an unknown order, a replacement of a known one, a message.
 fn refusal_samples(out: &impl Print) -> Result<()> {
     let q = Instrument::Bonds;
-    let id = Place {
-        sent: true,
-        start: 17,
-        length: 5,
-    };
-    let orig = Place {
-        sent: true,
-        start: 22,
-        length: 5,
-    };
-    let code = Place {
-        sent: true,
-        start: 27,
-        length: 3,
-    };
-    let kind = Place {
-        sent: true,
-        start: 30,
-        length: 1,
-    };
+    let id = sent(17, 5);
+    let orig = sent(22, 5);
+    let code = sent(27, 3);
+    let kind = sent(30, 1);
     rejected(
         out,
         q,

@@ -6,12 +6,12 @@ ghost use Rattle.matching.specs.Quoted.{Quoted};
 ghost use Rattle.trials.specs.Fine.{AmountsFine, ShownFine};
 
 use crate::samples::{
-    accepted, canceled, expired, faulty, rejected, replaced, requested, stamp, stamp_sent, trade,
-    unchanged,
+    accepted, canceled, expired, faulty, rejected, replaced, requested, sent, stamp, stamp_sent,
+    trade, unchanged,
 };
 use decimal::Instrument;
 use matching::Order;
-use report::{Place, Value};
+use report::Value;
 use rows::{Faulty, Fill, Refused, Shown, Unchanged};
 use std::io::Result;
 
@@ -147,17 +147,6 @@ fn trade_samples(out: &impl Print) -> Result<()> {
         for_cash(buy(999_998_999, 16, 4, 15_999_983_999)),
         expired(),
     )
-}
-
-// A place of the message.
-fn sent(start: usize, length: usize) -> Place
-    ensures { result.length ≤ length }
-{
-    Place {
-        sent: true,
-        start,
-        length,
-    }
 }
 
 // What is refused: a short sell exempt, a cancel of an unknown order, a message whose 8214 stands beside 544=1.

@@ -156,15 +156,24 @@ fn in_work(q: Instrument, t: &mut [u8], tif: u64, minqty: u64)
     clear_best(t);
 }
 
-// The table of a section: an IOC with MinQty 20 in work for 6, a Fill or Kill for 7, nothing for 8, and else an IOC without MinQty.
-fn build(q: Instrument, t: &mut [u8], section: u64)
+// What is in work on the table of a section: an IOC without MinQty, an IOC with MinQty 20, a Fill or Kill, or nothing.
+#[derive(Clone, Copy)]
+pub enum Working {
+    Immediate,
+    Minimum,
+    FillOrKill,
+    Nothing,
+}
+
+// The table of a section.
+fn build(q: Instrument, t: &mut [u8], working: Working)
     requires { length t.old ≡ 32768 }
 {
-    match section {
-        6 => in_work(q, t, 3, 20),
-        7 => in_work(q, t, 4, 0),
-        8 => at_rest(q, t),
-        _ => in_work(q, t, 3, 0),
+    match working {
+        Working::Immediate => in_work(q, t, 3, 0),
+        Working::Minimum => in_work(q, t, 3, 20),
+        Working::FillOrKill => in_work(q, t, 4, 0),
+        Working::Nothing => at_rest(q, t),
     }
 }
 
@@ -178,19 +187,19 @@ fn said(s: &[u8], at: usize, n: usize) -> u64 {
 
 // Whether the table is a market with another value at place p, which it keeps.
 fn with_byte(t: &mut [u8], p: usize, v: u8) -> bool {
-    if t.len() <= p {
-        return false;
+    match t.get_mut(p) {
+        Some(byte) => *byte = v,
+        None => return false,
     }
-    t[p] = v;
     is_market(t)
 }
 
 // Writes a line with its answer.
-fn answer(out: &impl Print, q: Instrument, s: &[u8], section: u64) -> Result<()> {
+fn answer(out: &impl Print, q: Instrument, s: &[u8], working: Working) -> Result<()> {
     let p = said(s, 0, 5) as usize;
     let v = (said(s, 6, 3) % 256) as u8;
     let mut t = [0u8; 32768];
-    build(q, &mut t, section);
+    build(q, &mut t, working);
     out.write_all(s)?;
     if with_byte(&mut t, p, v) {
         out.write_all(b": market\n")
@@ -200,13 +209,13 @@ fn answer(out: &impl Print, q: Instrument, s: &[u8], section: u64) -> Result<()>
 }
 
 // Writes a heading, or a line with its answer.
-pub fn line(out: &impl Print, q: Instrument, s: &[u8], section: u64) -> Result<()> {
-    if part_at(s, 0, 1).len() == 0 {
-        return Ok(());
+pub fn line(out: &impl Print, q: Instrument, s: &[u8], working: Working) -> Result<()> {
+    match s {
+        [] => Ok(()),
+        [b'#', ..] => {
+            out.write_all(s)?;
+            out.write_all(b"\n")
+        }
+        _ => answer(out, q, s, working),
     }
-    if octets::same(part_at(s, 0, 1), b"#") {
-        out.write_all(s)?;
-        return out.write_all(b"\n");
-    }
-    answer(out, q, s, section)
 }

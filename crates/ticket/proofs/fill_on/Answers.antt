@@ -25,8 +25,8 @@ returns-then-i-work c =
     ap (λ (o : Order). record { quantity = a.quantity; level = a.level; other = o.mpid; first = a.n - 1; liquidity = 2 }) c.load-o.ensures
     ∙ second a.t.now a.n a.i a.other a.quantity a.level (c.if-i-work.true ∙ c.work.ensures.0)
 
-pub returns : goal.returns
-returns c =
+pub returns-else-i-work : goal.returns-else-i-work
+returns-else-i-work c =
     let a = c.args in
     ap (λ (o : Order). record { quantity = a.quantity; level = a.level; other = o.mpid; first = a.n; liquidity = 1 }) c.load-o.ensures
     ∙ first a.t.now a.n a.i a.other a.quantity a.level (λ h. c.if-i-work.false (h ∙ sym c.work.ensures.0))

@@ -1,11 +1,28 @@
--- `ticket::order_of` meets its contract, event by event.
+-- `ticket::order_of` meets its contract, whichever of the eight events it is.
+use Rattle.std.proofs.Common.{inl, inr}
 use Rattle.ticket.proofs.order_of.Goals as goal
 
 pub returns-in-Accepted : goal.returns-in-Accepted
-returns-in-Accepted c = rw c.in-Accepted.is
-
-pub returns-in-Replaced : goal.returns-in-Replaced
-returns-in-Replaced c = rw c.in-Replaced.is
-
-pub returns-in-Traded : goal.returns-in-Traded
-returns-in-Traded c = rw c.in-Traded.is
+returns-in-Accepted c =
+    elim c.in-Accepted.is [
+      | inl w ↦ rw w.1
+      | inr w ↦ elim w [
+        | inl w ↦ rw w.3
+        | inr w ↦ elim w [
+          | inl w ↦ rw w.1
+          | inr w ↦ elim w [
+            | inl w ↦ rw w.1
+            | inr w ↦ elim w [
+              | inl w ↦ rw w.1
+              | inr w ↦ elim w [
+                | inl w ↦ rw w.3
+                | inr w ↦ elim w [
+                  | inl w ↦ rw w.1
+                  | inr w ↦ rw w.1
+                ]
+              ]
+            ]
+          ]
+        ]
+      ]
+    ]

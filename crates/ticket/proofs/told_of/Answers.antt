@@ -1,5 +1,6 @@
 -- `ticket::told_of` meets its contract, event by event.
 use Rattle.ticket.proofs.Events.{shown_sound, fill_ready, accepted_told_lem, replaced_told_lem, withdrawn_told, canceled_told_lem, decremented_told, traded_told_lem, killed_told, expired_told}
+use Rattle.std.proofs.Common.{inl, inr}
 use Rattle.ticket.proofs.told_of.Goals as goal
 
 pub fill_on-requires : goal.fill_on-requires
@@ -27,7 +28,8 @@ pub returns-in-Traded : goal.returns-in-Traded
 returns-in-Traded c = traded_told_lem c.args.t.now c.args.n c.args.orig c.args.e c.args.i c.args.o c.requires.2 _ _ c.in-Traded.is c.requires.1 c.fill_on.ensures c.traded.ensures
 
 pub returns-in-Killed : goal.returns-in-Killed
-returns-in-Killed c = killed_told c.args.t.now c.args.n c.args.orig c.args.e c.args.i c.args.o c.requires.2 _ _ c.in-Killed.is c.expired.ensures c.canceled-in-Killed.ensures
-
-pub returns-in-Expired : goal.returns-in-Expired
-returns-in-Expired c = expired_told c.args.t.now c.args.n c.args.orig c.args.e c.args.i c.args.o c.requires.2 _ _ c.in-Expired.is c.expired-in-Expired.ensures c.canceled-in-Expired.ensures
+returns-in-Killed c =
+    elim c.in-Killed.is [
+      | inl w ↦ killed_told c.args.t.now c.args.n c.args.orig c.args.e c.args.i c.args.o c.requires.2 _ _ w.2 c.expired.ensures c.canceled-in-Killed.ensures
+      | inr w ↦ expired_told c.args.t.now c.args.n c.args.orig c.args.e c.args.i c.args.o c.requires.2 _ _ w.2 c.expired.ensures c.canceled-in-Killed.ensures
+    ]

@@ -35,11 +35,11 @@ somebody t i id orig reason response orderid o status n d e s = rw (ne_eqb i 0 n
 pub returns-then-i-eq0 : goal.returns-then-i-eq0
 returns-then-i-eq0 c = let a = c.args in nobody a.t.now a.i a.id a.orig a.reason a.response c.if-i-eq0.true
 
-pub status_of-status-requires : goal.status_of-status-requires
-status_of-status-requires c = search (rules, held_covered)
+pub status_of-requires : goal.status_of-requires
+status_of-requires c = search (rules, held_covered)
 
-pub returns : goal.returns
-returns c =
+pub returns-else-i-eq0 : goal.returns-else-i-eq0
+returns-else-i-eq0 c =
     let a = c.args in
-    somebody a.t.now a.i a.id a.orig a.reason a.response c.order_id-orderid.result c.load-o.result c.status_of-status.result
-    c.if-i-eq0.false c.order_id-orderid.ensures.0 c.load-o.ensures c.status_of-status.ensures
+    somebody a.t.now a.i a.id a.orig a.reason a.response c.order_id.result c.load-o.result c.status_of.result
+    c.if-i-eq0.false c.order_id.ensures.0 c.load-o.ensures c.status_of.ensures

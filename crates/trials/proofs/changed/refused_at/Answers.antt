@@ -10,7 +10,7 @@ pub overflow_add-k : goal.overflow_add-k
 overflow_add-k c = search (rules, at_fits)
 
 pub loop-b-preserved : goal.loop-b-preserved
-loop-b-preserved c = (search rules, search (rules, at_on), search (rules, at_few))
+loop-b-preserved c = (search (rules, at_on), search (rules, at_few))
 
 pub returns : goal.returns
 returns c = search (rules, at_end)

@@ -10,7 +10,7 @@ pub overflow_add-k : goal.overflow_add-k
 overflow_add-k c = search (rules, in_fits)
 
 pub loop-i-preserved : goal.loop-i-preserved
-loop-i-preserved c = (search rules, search (rules, in_on), search (rules, in_few))
+loop-i-preserved c = (search (rules, in_on), search (rules, in_few))
 
 pub returns : goal.returns
 returns c = search (rules, in_end)

@@ -1,0 +1,10 @@
+-- Invariant: there are no more marks than bytes.
+use Prim.Native.Nat.{◌-◌, ◌≤◌}
+use lib.ListN.{length}
+use Rattle.vectors.proofs.text.marks.Given as goal
+
+abbrev pub invariant-loop-i : goal.invariant-loop-i
+invariant-loop-i l = (l.n ≤ l.i) × (l.i ≤ length l.s)
+
+abbrev pub decreases-loop-i : goal.decreases-loop-i
+decreases-loop-i l = length l.s - l.i
