@@ -8,7 +8,7 @@ use native.Mathlib.Numerals.{add-one}
 use native.Mathlib.Omega.{arith}
 use lib.Dec.{ltb, leb, eqb}
 use lib.ListN.{length, get_or}
-use borrow.Author.Tests.{eqb-true, eqb-false, ltb-true, lt-ltb, le-ltb, leb-true, le-leb, lt-leb, ne_eqb, not-true, not-false}
+use borrow.Author.Tests.{eqb-true, eqb-false, ltb-true, lt-ltb, le-ltb, leb-true, le-leb, lt-leb, ne_eqb, not-false}
 use Rattle.octets.specs.Tests.{all_up_to}
 use Rattle.octets.proofs.Bools.{split, both_i, both_l, both_r, or_r}
 use Rattle.octets.proofs.Ranges.{all_at}
@@ -315,13 +315,13 @@ module _ (s : List ℕ) where
 
 -- ---- a time, by its shape and then by its ranges
 module _ (s : List ℕ) (x : Bool) (e : x ≡ time_shaped s) where
-  pub shape_not : not x ≡ true → false ≡ is_time s
+  pub shape_not : x ≡ false → false ≡ is_time s
   unfolding is_time
-  shape_not h = rw (← e, not-true x h)
+  shape_not h = rw (← e, h)
 
   pub shape_yes : not x ≡ false → time_shaped s ≡ true
   shape_yes h = sym e ∙ not-false x h
 
-  pub range_is : not x ≡ false → (r : Bool) → r ≡ time_ranged s → r ≡ is_time s
+  pub range_is : x ≡ true → (r : Bool) → r ≡ time_ranged s → r ≡ is_time s
   unfolding is_time
-  range_is h r q = rw (← e, not-false x h) q
+  range_is h r q = rw (← e, h) q

@@ -29,18 +29,6 @@ ten_some k = omega (arith, pow-le-pow_right {n = 10} (omega arith) {i = 0} {j = 
 pub under_both : (a b w k : ℕ) → a < 10 ^ w → b < 10 ^ k → a * 10 ^ k + b < 10 ^ w * 10 ^ k
 under_both a b w k h l = omega (arith, mul-le-mul_right (10 ^ k) h, add-mul a 1 (10 ^ k), l)
 
-pub tens_none : (j : ℕ) → j ≡ 0 → 1 ≡ 10 ^ j
-tens_none j e = rw e
-
-pub tens_one : (j : ℕ) → j ≡ 1 → 10 ≡ 10 ^ j
-tens_one j e = rw e
-
-pub tens_two : (j : ℕ) → j ≡ 2 → 100 ≡ 10 ^ j
-tens_two j e = rw e
-
-pub tens_three : (j : ℕ) → (j ≡ 0 → ⊥) → (j ≡ 1 → ⊥) → (j ≡ 2 → ⊥) → j ≤ 3 → 1000 ≡ 10 ^ j
-tens_three j a b c l = let e : j ≡ 3 = omega arith in rw e
-
 -- ---- what stands behind the whole digits
 module _ (k : ℕ) (s : List ℕ) where
   pub fraction_none : length s ≡ 0 → Some 0 ≡ fraction_of k s

@@ -58,7 +58,8 @@ fn read_amount(s: &[u8], most: usize, k: usize, unit: u64) -> Option<u64>
     Some(whole * unit + part)
 }
 
-// What stands for the yield, or the average of yields, with k decimals that a text is.
+// What stands for the yield, or the average of yields, with k decimals that a text is. Prices have a function of their own, since they know
+// no minus and lie below what stands for zero.
 fn read_signed(s: &[u8], k: usize, unit: u64) -> Option<u64>
     requires { Scale k unit × (k ≤ 6) }
     ensures { result ≡ fixed_of Bonds k s.now }

@@ -11,14 +11,18 @@ use crate::{EVEN, Instrument};
 pub fn is_digit(b: u8) -> bool
     ensures { result ≡ is_digit b }
 {
-    (48 <= b) & (b <= 57)
+    (b'0' <= b) & (b <= b'9')
 }
 
 // The digit that a byte is, and 100 where it is none.
 pub fn digit(b: u8) -> u64
     ensures { (result ≡ digit_of b) × (result ≤ 100) }
 {
-    if is_digit(b) { (b - 48) as u64 } else { 100 }
+    if is_digit(b) {
+        u64::from(b - b'0')
+    } else {
+        100
+    }
 }
 
 // The byte at place `i`, and 0 past the end.
@@ -32,14 +36,12 @@ pub fn byte_at(s: &[u8], i: usize) -> u8
 pub fn digit_run(s: &[u8]) -> usize
     ensures { result ≡ digit_run s.now }
 {
-    let mut i = 0;
-    while i < s.len() {
-        if !is_digit(s[i]) {
+    for (i, b) in s.iter().enumerate() {
+        if !is_digit(*b) {
             return i;
         }
-        i += 1;
     }
-    i
+    s.len()
 }
 
 // The number that up to nine digits say.
@@ -47,12 +49,9 @@ pub fn number(s: &[u8]) -> u64
     requires { (length s.now ≤ 9) × (digit_run s.now ≡ length s.now) }
     ensures { result ≡ number s.now }
 {
-    let mut n: u64 = 0;
-    let mut i = 0;
-    while i < s.len() {
-        let d = s[i] - 48;
-        n = n * 10 + d as u64;
-        i += 1;
+    let mut n = 0;
+    for b in s {
+        n = n * 10 + u64::from(*b - b'0');
     }
     n
 }
@@ -68,15 +67,13 @@ pub fn read_number(s: &[u8], most: usize) -> Option<u64>
     if most < s.len() {
         return None;
     }
-    let mut n: u64 = 0;
-    let mut i = 0;
-    while i < s.len() {
-        let d = digit(s[i]);
+    let mut n = 0;
+    for b in s {
+        let d = digit(*b);
         if 9 < d {
             return None;
         }
         n = n * 10 + d;
-        i += 1;
     }
     Some(n)
 }
@@ -86,16 +83,12 @@ fn tens(j: usize) -> u64
     requires { j ≤ 3 }
     ensures { result ≡ 10 ^ j }
 {
-    if j == 0 {
-        return 1;
+    match j {
+        0 => 1,
+        1 => 10,
+        2 => 100,
+        _ => 1000,
     }
-    if j == 1 {
-        return 10;
-    }
-    if j == 2 {
-        return 100;
-    }
-    1000
 }
 
 // What stands behind the whole digits, in units of the last of k decimals: nothing, or a point and 1 to k digits.
@@ -129,7 +122,8 @@ fn read_size(s: &[u8], most: usize, k: usize, unit: u64) -> Option<u64>
     Some(number(&s[..w]) * unit + f)
 }
 
-// A yield as a level: EVEN and its thousandths, or EVEN less them where a minus stands before it.
+// A yield as a level: EVEN and its thousandths, or EVEN less them where a minus stands before it. A price has a function of its own, since
+// it knows no minus and lies below EVEN.
 fn read_yield(s: &[u8]) -> Option<u64>
     ensures { result ≡ level_of Bonds s.now }
 {
@@ -170,10 +164,8 @@ fn between(s: &[u8], least: &[u8], most: &[u8]) -> bool
         (length least.now) }
 {
     let mut good = true;
-    let mut i = 0;
-    while i < least.len() {
+    for i in 0..least.len() {
         good = good & ((least[i] <= s[i]) & (s[i] <= most[i]));
-        i += 1;
     }
     good
 }
@@ -196,9 +188,7 @@ fn two_at(s: &[u8], i: usize) -> u64
     requires { (i + 1 < length s.now) × (two_at s.now i < 100) }
     ensures { result ≡ two_at s.now i }
 {
-    let a = octets::wide(s[i]);
-    let b = octets::wide(s[i + 1]);
-    a * 10 + b - 528
+    u64::from(s[i]) * 10 + u64::from(s[i + 1]) - 528
 }
 
 // Whether month, day, hour, minute and second are in their ranges, where digits and marks stand as they do in a time.
@@ -221,8 +211,5 @@ pub fn time_ranged(s: &[u8]) -> bool
 pub fn is_time(s: &[u8]) -> bool
     ensures { result ≡ is_time s.now }
 {
-    if !time_shaped(s) {
-        return false;
-    }
-    time_ranged(s)
+    time_shaped(s) && time_ranged(s)
 }

@@ -16,7 +16,7 @@ pub fn put_byte(out: &mut [u8], at: usize, b: u8) -> usize
     at + 1
 }
 
-// The last k digits of n, its zeros with them, two a turn.
+// The last k digits of n, its zeros with them: from the last two on, two a turn, so that there is one division by 100 for both.
 pub fn put_places(out: &mut [u8], at: usize, k: usize, n: u64) -> usize
     requires { Room out.old at (places k n) }
     ensures { Wrote out.old at (places k n) result out.new }
@@ -84,7 +84,8 @@ pub fn put_plain(out: &mut [u8], at: usize, k: usize, unit: u64, m: u64) -> usiz
     put_places(out, b, k, m)
 }
 
-// The yield, or the average of yields, with k decimals that v stands for.
+// The yield, or the average of yields, with k decimals that v stands for. Prices have a function of their own, since they know no minus and
+// lie below what stands for zero; k and the unit are constants at each call, so that nothing is divided by a variable.
 fn put_signed(out: &mut [u8], at: usize, k: usize, unit: u64, v: u64) -> usize
     requires { Scale k unit × Room out.old at (fixed Bonds k v) }
     ensures { Wrote out.old at (fixed Bonds k v) result out.new }
@@ -97,24 +98,13 @@ fn put_signed(out: &mut [u8], at: usize, k: usize, unit: u64, v: u64) -> usize
     put_plain(out, at, k, unit, v - zero)
 }
 
-// a less b, and 0 where b is more.
-fn minus(a: u64, b: u64) -> u64
-    ensures { result ≡ a - b }
-{
-    if a < b {
-        return 0;
-    }
-    a - b
-}
-
 // The price, or the average of prices, with k decimals that v stands for.
 fn put_unsigned(out: &mut [u8], at: usize, k: usize, unit: u64, v: u64) -> usize
     requires { Scale k unit × Room out.old at (fixed Equities k v) }
     ensures { Wrote out.old at (fixed Equities k v) result out.new }
 {
     let zero = unit * 100_000_000;
-    let m = minus(zero, v);
-    put_plain(out, at, k, unit, m)
+    put_plain(out, at, k, unit, zero.saturating_sub(v))
 }
 
 // A yield or a price, from its level.

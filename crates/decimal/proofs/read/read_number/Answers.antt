@@ -9,8 +9,8 @@ returns-then-s-eq0 c = search (rules, num_empty)
 pub returns-then-most-s : goal.returns-then-most-s
 returns-then-most-s c = search (rules, num_long)
 
-pub loop-i-init : goal.loop-i-init
-loop-i-init c = search (rules, tried_start)
+pub loop-b-init : goal.loop-b-init
+loop-b-init c = search (rules, tried_start)
 
 pub returns-then-d-gt9 : goal.returns-then-d-gt9
 returns-then-d-gt9 c = search (rules, tried_wrong)
@@ -21,8 +21,8 @@ overflow_mul-n c = search (rules, tried_times)
 pub overflow_add-n : goal.overflow_add-n
 overflow_add-n c = search (rules, tried_fits)
 
-pub loop-i-preserved : goal.loop-i-preserved
-loop-i-preserved c = search (rules, tried_more)
+pub loop-b-preserved : goal.loop-b-preserved
+loop-b-preserved c = search (rules, tried_more)
 
 pub returns : goal.returns
 returns c = search (rules, num_is)
