@@ -10,11 +10,10 @@ use Rattle.octets.proofs.Places.{below_or}
 use Rattle.decimal.specs.Reading.{is_digit, run_of, digit_run}
 use Rattle.decimal.proofs.Scans.{run_le, run_below}
 use Rattle.decimal.proofs.Numbers.{digit_low, digit_high}
-use Rattle.fix.specs.declared.fields.Tag.{Tag}
 use Rattle.fix.specs.declared.frame.Part.{Part}
 use Rattle.fix.specs.declared.fields.Field.{Field}
 use Rattle.fix.specs.declared.fields.Field.TheVariants.{Good, Broken, End}
-use Rattle.fix.specs.Fields.{Fld, is_text, starts_tag, leading, tag_of, value_from, value_len, field_of, step_of, fields_after, fields_from, fields_of, find_tag, has_tag, clean_fields, last_tag_or}
+use Rattle.fix.specs.Fields.{Fld, is_text, starts_tag, leading, tag_of, tag_number, value_from, value_len, field_of, step_of, fields_after, fields_from, fields_of, find_tag, has_tag, clean_fields, last_tag_or}
 use Rattle.fix.specs.Garbled.{headed_by, header, ordered, header_right, part_of, end_of, ten_at, length_true, sum_true, garbled_message, body_part}
 use Rattle.fix.specs.Steps.{fld, field_at, row_fields, moved, Held}
 use Rattle.fix.proofs.Walk.{Says, step_says}
@@ -117,7 +116,7 @@ ten_two s h e =
     (λ g. ⊎_elim (λ (l : 2 < digit_run s). absurd (omega (arith, long_hundred s l (tag_first s h)))) (λ m. omega arith) (below_or 2 (digit_run s)))
     (below_or (digit_run s) 2)
 
-tag_starts : (t u : Bool) (n k m : ℕ) → cond u (cond {A = Tag} t (record { number = n; digits = k }) (record { number = 0; digits = 0 })).number 0 ≡ suc m
+tag_starts : (t u : Bool) (n k m : ℕ) → cond u (tag_number (cond t (Some (record { number = n; digits = k })) None)) 0 ≡ suc m
     → (t ≡ true) × (n ≡ suc m)
 tag_starts true true n k m e = (refl, e)
 tag_starts false true n k m e = absurd (suc-ne-zero m (sym e))

@@ -1,5 +1,5 @@
 -- The field at a cursor, read from bytes that end with SOH, with the sum of its bytes.
-use Rattle.std.proofs.Common.{◌≡◌, ℕ, ◌+◌, ◌-◌, ◌*◌, ◌%◌, ◌^◌, ◌<◌, ◌≤◌, Bool, true, false, not, ◌&&◌, eqb, ltb, leb, List, length, get_or, take, drop, sym, refl, ap, ◌∙◌, ⊎_elim, suc-ne-zero, arith, length-drop, get_or-drop, w64, Fits, le-ltb, lt-ltb}
+use Rattle.std.proofs.Common.{Option, Some, None, ◌≡◌, ℕ, ◌+◌, ◌-◌, ◌*◌, ◌%◌, ◌^◌, ◌<◌, ◌≤◌, Bool, true, false, not, ◌&&◌, eqb, ltb, leb, List, length, get_or, take, drop, sym, refl, ap, ◌∙◌, subst, ⊎_elim, suc-ne-zero, arith, length-drop, get_or-drop, w64, Fits, le-ltb, lt-ltb}
 use borrow.Author.Tests.{not-true, not-false}
 use Rattle.octets.proofs.Bools.{not_both}
 use Rattle.octets.proofs.Places.{below_or}
@@ -9,9 +9,9 @@ use Rattle.fix.specs.declared.fields.Tag.{Tag}
 use Rattle.fix.specs.declared.fields.Field.{Field}
 use Rattle.fix.specs.declared.fields.Field.TheVariants.{Good, Broken, End}
 use Rattle.fix.specs.declared.pass.Text.{Text}
-use Rattle.fix.specs.Fields.{is_text, step_of}
+use Rattle.fix.specs.Fields.{is_text, tag_of, step_of}
 use Rattle.fix.specs.Steps.{Closed, Carried, Tagged, Ran, Strode, Paced}
-use Rattle.fix.proofs.Spelling.{there, Spelled, spelled_start, spelled_more, tag_times, tag_fits, tag_good, tag_bad, tag_five, digits_none, digits_some, tag_equals, value_from_lem, from_fits, field_none, field_other, field_good}
+use Rattle.fix.proofs.Spelling.{there, Spelled, spelled_start, spelled_more, tag_times, tag_fits, tag_good, tag_bad, tag_five, tag_equals, value_from_lem, from_fits, field_none, field_other, field_good}
 use Rattle.fix.proofs.Sums.{carried_none, carried_byte, carried_then}
 use Rattle.fix.proofs.Walk.{step_good}
 
@@ -87,14 +87,14 @@ module _ (s : List ℕ) (a b first here n i : ℕ) (inv : Spelling s a b first h
       pub spelling_more : (here' : ℕ) → d ≤ 9 → (i ≡ 4 → ⊥) → here' ≡ get_or s (i + 1) 0 → Spelling s a b' first here' (n * 10 + d) (i + 1)
       spelling_more here' h five z = record { closed = inv.closed; spelled = next h five; sums = took; front = inv.front; byte = z }
 
-      pub tagged_five : d ≤ 9 → i ≡ 4 → Tagged s (record { number = 0; digits = 0 }) a b'
-      tagged_five h five = record { tag = tag_five s n i inv.spelled d spelling_in is h five; sums = λ z. absurd (z refl) }
+      pub tagged_five : d ≤ 9 → i ≡ 4 → Tagged s None a b'
+      tagged_five h five = record { tag = tag_five s n i inv.spelled d spelling_in is h five; sums = λ x y. let z : ◌≡◌ {A = ℕ} 0 1 = cc in absurd (suc-ne-zero 0 (sym z)) }
 
-      pub tagged_good : 9 < d → (ltb 0 i && leb i 4 && not (eqb first 48) && eqb here 61) ≡ true → Tagged s (record { number = n; digits = i }) a b'
-      tagged_good h t = record { tag = tag_good s n i inv.spelled d spelling_in is h (rw (inv.front, inv.byte) at t); sums = λ z. took }
+      pub tagged_good : 9 < d → (ltb 0 i && leb i 4 && not (eqb first 48) && eqb here 61) ≡ true → Tagged s (Some (record { number = n; digits = i })) a b'
+      tagged_good h t = record { tag = tag_good s n i inv.spelled d spelling_in is h (rw (inv.front, inv.byte) at t); sums = λ x y. let q : record { number = n; digits = i } ≡ x = cc in subst (λ (u : Tag). Carried s a b' (u.digits + 1)) q took }
 
-      pub tagged_bad : 9 < d → (ltb 0 i && leb i 4 && not (eqb first 48) && eqb here 61) ≡ false → Tagged s (record { number = 0; digits = 0 }) a b'
-      tagged_bad h t = record { tag = tag_bad s n i inv.spelled d spelling_in is h (rw (inv.front, inv.byte) at t); sums = λ z. absurd (z refl) }
+      pub tagged_bad : 9 < d → (ltb 0 i && leb i 4 && not (eqb first 48) && eqb here 61) ≡ false → Tagged s None a b'
+      tagged_bad h t = record { tag = tag_bad s n i inv.spelled d spelling_in is h (rw (inv.front, inv.byte) at t); sums = λ x y. let z : ◌≡◌ {A = ℕ} 0 1 = cc in absurd (suc-ne-zero 0 (sym z)) }
 
   -- behind a digit there is one more byte
   pub spelling_next : (d : ℕ) → d ≤ 9 → (i ≡ 4 → ⊥) → d ≡ digit_of here → i + 1 < length s
@@ -130,23 +130,23 @@ module _ (s : List ℕ) (a b i : ℕ) (inv : Running s a b i) where
     running_more h = record { closed = inv.closed; scan = scan_more is_text s i inv.scan running_in (sym e ∙ not-false t h); sums = took_one }
 
 -- ---- the field that s starts with
-module _ (s : List ℕ) (at a b₁ : ℕ) (t : Tag) (w : Tagged s t a b₁) where
-  pub strode_none : t.digits ≡ 0 → Strode s at Broken a b₁
+module _ (s : List ℕ) (at a b₁ : ℕ) (r : Option Tag) (w : Tagged s r a b₁) where
+  pub strode_none : r ≡ None → Strode s at Broken a b₁
   strode_none h =
       record {
-        field = field_none s at t w.tag (digits_none s t w.tag h);
+        field = field_none s at r w.tag h;
         sums = λ u start len next g. let z : ◌≡◌ {A = ℕ} 0 1 = cc in absurd (suc-ne-zero 0 (sym z));
       }
 
-  module _ (d : t.digits ≡ 0 → ⊥) where
-    h : t.number ≡ 0 → ⊥
-    h = digits_some s t w.tag d
+  module _ (t : Tag) (d : r ≡ Some t) where
+    tag_is : Some t ≡ tag_of s
+    tag_is = sym d ∙ w.tag
 
     pub strode_start : t.digits + 1 ≤ length s
-    strode_start = value_from_lem s t w.tag h
+    strode_start = value_from_lem s t tag_is
 
     pub strode_fits : length s < 2 ^ 64 → Fits w64 (t.digits + 1)
-    strode_fits l = from_fits s t w.tag h l
+    strode_fits l = from_fits s t tag_is l
 
     -- the `=` is not the last byte
     inside : Closed s → t.digits + 1 < length s
@@ -155,7 +155,7 @@ module _ (s : List ℕ) (at a b₁ : ℕ) (t : Tag) (w : Tagged s t a b₁) wher
         (λ (l : length s ≤ t.digits + 1).
         let z : length s - 1 ≡ t.digits = omega (arith, strode_start) in
         let q : get_or s t.digits 0 ≡ 1 = rw z at c.soh in
-        absurd (omega (arith, sym q ∙ tag_equals s t w.tag h)))
+        absurd (omega (arith, sym q ∙ tag_equals s t tag_is)))
         (below_or (t.digits + 1) (length s))
 
     pub strode_rest : Closed s → Closed (take (length s - (t.digits + 1)) (drop (t.digits + 1) s))
@@ -174,13 +174,13 @@ module _ (s : List ℕ) (at a b₁ : ℕ) (t : Tag) (w : Tagged s t a b₁) wher
 
       whole : Carried s a b₂ (t.digits + 1 + x.len + 1)
       whole =
-          let r : Carried (drop (t.digits + 1) s) b₁ b₂ (x.len + 1) = rw rest_is at v.sums in
-          carried_then s a b₁ b₂ (t.digits + 1) (x.len + 1) (t.digits + 1 + x.len + 1) (w.sums d) r (omega arith)
+          let v' : Carried (drop (t.digits + 1) s) b₁ b₂ (x.len + 1) = rw rest_is at v.sums in
+          carried_then s a b₁ b₂ (t.digits + 1) (x.len + 1) (t.digits + 1 + x.len + 1) (w.sums t d) v' (omega arith)
 
       pub strode_other : (x.behind ≡ 1 → ⊥) → Strode s at Broken a b₂
       strode_other y =
           record {
-            field = field_other s at t w.tag x.len v.run (λ q. y (behind ∙ q));
+            field = field_other s at r w.tag t d x.len v.run (λ q. y (behind ∙ q));
             sums = λ u start len next g. let z : ◌≡◌ {A = ℕ} 0 1 = cc in absurd (suc-ne-zero 0 (sym z));
           }
 
@@ -188,7 +188,7 @@ module _ (s : List ℕ) (at a b₁ : ℕ) (t : Tag) (w : Tagged s t a b₁) wher
           → Strode s at (Good t.number (at + (t.digits + 1)) x.len (record { at = at + (t.digits + 1 + x.len) + 1 })) a b₂
       strode_good y =
           record {
-            field = field_good s at t w.tag x.len v.run h (sym behind ∙ y);
+            field = field_good s at r w.tag t d x.len v.run (sym behind ∙ y);
             sums = λ u start len next g k q.
                 let y : at + (t.digits + 1 + x.len) + 1 ≡ next.at = cc in
                 let z : k ≡ t.digits + 1 + x.len + 1 = omega arith in

@@ -1,5 +1,5 @@
 -- A message that is not garbled has no byte but 20 to 7E hex and SOH.
-use Rattle.std.proofs.Common.{◌≡◌, ℕ, zero, suc, ◌+◌, ◌-◌, ◌<◌, ◌≤◌, Bool, true, false, cond, not, ◌&&◌, ◌||◌, eqb, ltb, leb, List, [], ◌∷◌, length, get_or, drop, refl, ⊎_elim, le_of_suc-le-suc, not-suc-le-zero, eq-or-lt_of_le, arith, get_or-drop, eqb-true, le-leb}
+use Rattle.std.proofs.Common.{Some, None, ◌≡◌, ℕ, zero, suc, ◌+◌, ◌-◌, ◌<◌, ◌≤◌, Bool, true, false, cond, not, ◌&&◌, ◌||◌, eqb, ltb, leb, List, [], ◌∷◌, length, get_or, drop, refl, ⊎_elim, le_of_suc-le-suc, not-suc-le-zero, eq-or-lt_of_le, arith, get_or-drop, eqb-true, le-leb}
 use mathlib.Core.Bool.{or-true}
 use borrow.Author.Tests.{eqb-false, not-true, not-false}
 use Rattle.octets.proofs.Bools.{both_i, both_l, both_r, neither_l, neither_r}
@@ -7,8 +7,7 @@ use Rattle.octets.proofs.Places.{below_or}
 use Rattle.decimal.specs.Reading.{is_digit, digit_run}
 use Rattle.decimal.proofs.Scans.{run_below}
 use Rattle.decimal.proofs.Numbers.{digit_low, digit_high}
-use Rattle.fix.specs.declared.fields.Tag.{Tag}
-use Rattle.fix.specs.Fields.{is_text, starts_tag, leading, tag_of, value_from, value_len, field_of, fields_after, fields_from, fields_of, has_tag, repeats, clean_fields, last_tag_or}
+use Rattle.fix.specs.Fields.{is_text, starts_tag, leading, tag_of, tag_number, value_from, value_len, field_of, fields_after, fields_from, fields_of, has_tag, repeats, clean_fields, last_tag_or}
 use Rattle.fix.specs.Garbled.{headed_by, header, ordered, header_right, length_true, sum_true, garbled_message}
 
 -- a byte that a message may have
@@ -24,7 +23,7 @@ unfolding is_text
 digit_text b h = both_i (le-leb 32 b (omega (arith, digit_low b h))) (le-leb b 126 (omega (arith, digit_high b h)))
 
 -- ---- the bytes of one field
-tag_some : (t : Bool) (u : Bool) (n k : ℕ) → eqb (cond u (cond {A = Tag} t (record { number = n; digits = k }) (record { number = 0; digits = 0 })).number 0) 0 ≡ false → (t ≡ true) × (u ≡ true)
+tag_some : (t : Bool) (u : Bool) (n k : ℕ) → eqb (cond u (tag_number (cond t (Some (record { number = n; digits = k })) None)) 0) 0 ≡ false → (t ≡ true) × (u ≡ true)
 tag_some true true n k e = (refl, refl)
 tag_some false true n k e = absurd (eqb-false 0 0 e refl)
 tag_some t false n k e = absurd (eqb-false 0 0 e refl)

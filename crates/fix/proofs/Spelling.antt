@@ -1,5 +1,5 @@
 -- The tag and the field that a message starts with, test by test in the order in which they are read.
-use Rattle.std.proofs.Common.{◌≡◌, ℕ, suc, ◌+◌, ◌-◌, ◌*◌, ◌^◌, ◌<◌, ◌≤◌, Bool, true, false, cond, not, ◌&&◌, eqb, ltb, leb, List, [], ◌∷◌, length, get_or, take, drop, sym, refl, ap, ◌∙◌, ⊎_elim, pow-suc, suc-ne-zero, add-one, arith, drop-cons, w64, Fits, ltb-true, eq-eqb, ne_eqb, eqb-true}
+use Rattle.std.proofs.Common.{Option, Some, None, ◌≡◌, ℕ, suc, ◌+◌, ◌-◌, ◌*◌, ◌^◌, ◌<◌, ◌≤◌, Bool, true, false, cond, not, ◌&&◌, eqb, ltb, leb, List, [], ◌∷◌, length, get_or, take, drop, sym, refl, ap, ◌∙◌, ⊎_elim, pow-suc, suc-ne-zero, add-one, arith, drop-cons, w64, Fits, eq-eqb, ne_eqb, eqb-true}
 use mathlib.Core.Bool.{and-false}
 use native.Mathlib.Nat.{pow-le-pow_right}
 use lib.ListN.{get_or-eq_default}
@@ -41,9 +41,6 @@ leading_stop : (n : ℕ) (s : List ℕ) (i : ℕ) → i < length s → is_digit 
 unfolding leading
 leading_stop n s i h e = rw (drop-cons s i 0, e)
 
-abbrev none : Tag
-none = record { number = 0; digits = 0 }
-
 module _ (s : List ℕ) (n i : ℕ) (inv : Spelled s n i) where
   pub tag_times : Fits w64 (n * 10)
   tag_times = record { fits = omega (arith, inv.small, four i inv.few) }
@@ -52,7 +49,7 @@ module _ (s : List ℕ) (n i : ℕ) (inv : Spelled s n i) where
   tag_fits d h = record { fits = omega (arith, inv.small, four i inv.few) }
 
   -- the digits go on to the end: no `=` follows
-  pub tag_end : length s ≤ i → none ≡ tag_of s
+  pub tag_end : length s ≤ i → None ≡ tag_of s
   unfolding tag_of starts_tag
   tag_end h =
       let e : i ≡ digit_run s = scan_end is_digit s i (inv.within, inv.run) h in
@@ -73,7 +70,7 @@ module _ (s : List ℕ) (n i : ℕ) (inv : Spelled s n i) where
         }
 
     -- a fifth digit
-    pub tag_five : d ≤ 9 → i ≡ 4 → none ≡ tag_of s
+    pub tag_five : d ≤ 9 → i ≡ 4 → None ≡ tag_of s
     unfolding tag_of starts_tag
     tag_five b five =
         let r : 4 < digit_run s = omega (arith, inv.run, run_step is_digit s i h (digit_some (get_or s i 0) d e b)) in
@@ -84,22 +81,24 @@ module _ (s : List ℕ) (n i : ℕ) (inv : Spelled s n i) where
       stop : i ≡ digit_run s
       stop = scan_stop is_digit s i (inv.within, inv.run) h (digit_none (get_or s i 0) d e b)
 
-      pub tag_good : (ltb 0 i && leb i 4 && not (eqb (get_or s 0 0) 48) && eqb (get_or s i 0) 61) ≡ true → record { number = n; digits = i } ≡ tag_of s
+      pub tag_good : (ltb 0 i && leb i 4 && not (eqb (get_or s 0 0) 48) && eqb (get_or s i 0) 61) ≡ true → Some (record { number = n; digits = i }) ≡ tag_of s
       unfolding tag_of starts_tag
       tag_good t =
           let l : leading 0 s ≡ n = inv.said ∙ leading_stop n s i h (digit_none (get_or s i 0) d e b) in
           rw (← stop, t, l)
 
-      pub tag_bad : (ltb 0 i && leb i 4 && not (eqb (get_or s 0 0) 48) && eqb (get_or s i 0) 61) ≡ false → none ≡ tag_of s
+      pub tag_bad : (ltb 0 i && leb i 4 && not (eqb (get_or s 0 0) 48) && eqb (get_or s i 0) 61) ≡ false → None ≡ tag_of s
       unfolding tag_of starts_tag
       tag_bad t = rw (← stop, t)
 
 -- ---- what a tag says of s
-number_of : (t : Bool) (n k : ℕ) → ((cond t (record { number = n; digits = k }) none).number ≡ 0 → ⊥) → t ≡ true
-number_of true n k h = refl
-number_of false n k h = absurd (h refl)
+some_by : (b : Bool) (n k : ℕ) (t : Tag) → Some t ≡ cond b (Some (record { number = n; digits = k })) None → (b ≡ true) × (t.number ≡ n) × (t.digits ≡ k)
+some_by true n k t e =
+    let q : t ≡ record { number = n; digits = k } = cc in
+    (refl, ap (λ (x : Tag). x.number) q, ap (λ (x : Tag). x.digits) q)
+some_by false n k t e = let z : ◌≡◌ {A = ℕ} 0 1 = cc in absurd (suc-ne-zero 0 (sym z))
 
--- no digits, no tag; and a tag is not 0, since its first digit is not
+-- a tag is not 0, since its first digit is not
 leading_least : (n : ℕ) (s : List ℕ) → n ≤ leading n s
 unfolding leading
 leading_least n [] = omega arith
@@ -115,61 +114,50 @@ leading_some (b ∷ s) y =
     (λ d. rw d (omega (arith, leading_least (0 * 10 + (b - 48)) s, digit_low b d, eqb-false b 48 n)))
     (λ d. absurd (not_both (rw d at k) refl))
 
-module _ (s : List ℕ) (t : Tag) (e : t ≡ tag_of s) where
-  pub digits_none : t.digits ≡ 0 → t.number ≡ 0
-  unfolding tag_of starts_tag
-  digits_none h =
-      split (starts_tag s)
-      (λ y.
-      let k : ltb 0 (digit_run s) ≡ true = search both_l in
-      let d : digit_run s ≡ 0 = rw (e, y) at h in
-      absurd (omega (arith, ltb-true 0 (digit_run s) k)))
-      (λ n. rw (e, n))
-
-  pub digits_some : (t.digits ≡ 0 → ⊥) → t.number ≡ 0 → ⊥
+module _ (s : List ℕ) (t : Tag) (e : Some t ≡ tag_of s) where
+  told : (starts_tag s ≡ true) × (t.number ≡ leading 0 s) × (t.digits ≡ digit_run s)
   unfolding tag_of
-  digits_some h z =
-      split (starts_tag s)
-      (λ y.
-      let d : leading 0 s ≡ 0 = rw (e, y) at z in
-      omega (arith, leading_some s y))
-      (λ n. h (rw (e, n)))
+  told = some_by (starts_tag s) (leading 0 s) (digit_run s) t e
 
--- a tag's `=` follows its digits
-pub tag_equals : (s : List ℕ) (t : Tag) → t ≡ tag_of s → (t.number ≡ 0 → ⊥) → get_or s t.digits 0 ≡ 61
-unfolding tag_of starts_tag
-tag_equals s t e h =
-    let a = ltb 0 (digit_run s) && leb (digit_run s) 4 && not (eqb (get_or s 0 0) 48) in
-    let y : starts_tag s ≡ true = number_of (starts_tag s) (leading 0 s) (digit_run s) (rw e at h) in
-    let k : t.digits ≡ digit_run s = rw (e, y) in
-    rw k (eqb-true (get_or s (digit_run s) 0) 61 (both_r a (eqb (get_or s (digit_run s) 0) 61) y))
+  pub tag_nonzero : t.number ≡ 0 → ⊥
+  tag_nonzero z = omega (arith, leading_some s told.0, told.1)
 
--- so they do not reach the end
-pub tag_inside : (s : List ℕ) (t : Tag) → t ≡ tag_of s → (t.number ≡ 0 → ⊥) → t.digits < length s
-tag_inside s t e h = there s t.digits 60 (tag_equals s t e h)
+  -- a tag's `=` follows its digits
+  pub tag_equals : get_or s t.digits 0 ≡ 61
+  unfolding starts_tag
+  tag_equals =
+      let a = ltb 0 (digit_run s) && leb (digit_run s) 4 && not (eqb (get_or s 0 0) 48) in
+      rw told.2 (eqb-true (get_or s (digit_run s) 0) 61 (both_r a (eqb (get_or s (digit_run s) 0) 61) told.0))
 
-pub value_from_lem : (s : List ℕ) (t : Tag) → t ≡ tag_of s → (t.number ≡ 0 → ⊥) → t.digits + 1 ≤ length s
-value_from_lem s t e h = omega (arith, tag_inside s t e h)
+  -- so they do not reach the end
+  pub tag_inside : t.digits < length s
+  tag_inside = there s t.digits 60 tag_equals
 
-pub from_fits : (s : List ℕ) (t : Tag) → t ≡ tag_of s → (t.number ≡ 0 → ⊥) → length s < 2 ^ 64 → Fits w64 (t.digits + 1)
-from_fits s t e h l = record { fits = omega (arith, tag_inside s t e h) }
+  pub value_from_lem : t.digits + 1 ≤ length s
+  value_from_lem = omega (arith, tag_inside)
+
+  pub from_fits : length s < 2 ^ 64 → Fits w64 (t.digits + 1)
+  from_fits l = record { fits = omega (arith, tag_inside) }
 
 -- ---- the field that s starts with
 cond_same : (t : Bool) (n : ℕ) → cond t n n ≡ n
 cond_same true n = refl
 cond_same false n = refl
 
-module _ (s : List ℕ) (at : ℕ) (t : Tag) (e : t ≡ tag_of s) where
-  pub field_none : t.number ≡ 0 → Broken ≡ as_field (field_of at s)
+module _ (s : List ℕ) (at : ℕ) (r : Option Tag) (e : r ≡ tag_of s) where
+  pub field_none : r ≡ None → Broken ≡ as_field (field_of at s)
   unfolding field_of
   field_none h =
-      let z : (tag_of s).number ≡ 0 = rw (← e) h in
+      let z : tag_of s ≡ None = sym e ∙ h in
       simp (z, cond_same)
 
-  module _ (n : ℕ) (en : n ≡ text_run (take (length s - (t.digits + 1)) (drop (t.digits + 1) s))) where
+  module _ (t : Tag) (g : r ≡ Some t) (n : ℕ) (en : n ≡ text_run (take (length s - (t.digits + 1)) (drop (t.digits + 1) s))) where
+    tag_is : Some t ≡ tag_of s
+    tag_is = sym g ∙ e
+
     from : value_from s ≡ t.digits + 1
     unfolding value_from
-    from = rw (← e)
+    from = rw (← tag_is)
 
     len : value_len s ≡ n
     unfolding value_len
@@ -183,16 +171,15 @@ module _ (s : List ℕ) (at : ℕ) (t : Tag) (e : t ≡ tag_of s) where
     unfolding field_of
     field_open h = simp (from, len, get_or-eq_default s 0 {n = t.digits + 1 + n} h)
 
-    pub field_good : (t.number ≡ 0 → ⊥) → get_or s (t.digits + 1 + n) 0 ≡ 1
-        → Good t.number (at + (t.digits + 1)) n (record { at = at + (t.digits + 1 + n) + 1 }) ≡ as_field (field_of at s)
+    pub field_good : get_or s (t.digits + 1 + n) 0 ≡ 1 → Good t.number (at + (t.digits + 1)) n (record { at = at + (t.digits + 1 + n) + 1 }) ≡ as_field (field_of at s)
     unfolding field_of
-    field_good z h =
+    field_good h =
         let p : at + (t.digits + 1 + n) + 1 ≡ at + (t.digits + 1) + n + 1 = omega arith in
-        simp (from, len, eq-eqb (get_or s (t.digits + 1 + n) 0) 1 h, ← e, ne_eqb t.number 0 z, p)
+        simp (from, len, eq-eqb (get_or s (t.digits + 1 + n) 0) 1 h, ← tag_is, ne_eqb t.number 0 (tag_nonzero s t tag_is), p)
 
     -- the value ends within s
-    pub value_in_lem : (t.number ≡ 0 → ⊥) → t.digits + 1 + n ≤ length s
-    value_in_lem z = run_within is_text s (t.digits + 1) n (omega (arith, tag_inside s t e z)) en
+    pub value_in_lem : t.digits + 1 + n ≤ length s
+    value_in_lem = run_within is_text s (t.digits + 1) n (omega (arith, tag_inside s t tag_is)) en
 
-    pub value_fits : (t.number ≡ 0 → ⊥) → length s < 2 ^ 64 → Fits w64 (t.digits + 1 + n)
-    value_fits z h = record { fits = omega (arith, value_in_lem z) }
+    pub value_fits : length s < 2 ^ 64 → Fits w64 (t.digits + 1 + n)
+    value_fits h = record { fits = omega (arith, value_in_lem) }

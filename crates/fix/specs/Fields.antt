@@ -29,13 +29,22 @@ unfoldable pub leading : ℕ → List ℕ → ℕ
 leading n [] = n
 leading n (b ∷ s) = cond (is_digit b) (leading (n * 10 + (b - byte "0")) s) n
 
--- the tag that s starts with and how many digits it has; 0 where it starts with none
-unfoldable pub tag_of : List ℕ → Tag
-tag_of s = cond (starts_tag s) (record { number = leading 0 s; digits = digit_run s }) (record { number = 0; digits = 0 })
+-- the tag that s starts with and how many digits it has
+unfoldable pub tag_of : List ℕ → Option Tag
+tag_of s = cond (starts_tag s) (Some (record { number = leading 0 s; digits = digit_run s })) None
+
+-- its number and its digits, 0 where there is no tag
+abbrev pub tag_number : Option Tag → ℕ
+tag_number (Some t) = t.number
+tag_number None = 0
+
+abbrev pub tag_digits : Option Tag → ℕ
+tag_digits (Some t) = t.digits
+tag_digits None = 0
 
 -- where in s the value starts, behind the tag and its `=`, and how long it is
 unfoldable pub value_from : List ℕ → ℕ
-value_from s = (tag_of s).digits + 1
+value_from s = tag_digits (tag_of s) + 1
 
 unfoldable pub value_len : List ℕ → ℕ
 value_len s = text_run (drop (value_from s) s)
@@ -50,7 +59,7 @@ pub record Fld : Type 0 where
 unfoldable pub field_of : ℕ → List ℕ → Fld
 field_of at s =
     record {
-      tag = cond (slice_index s (value_from s + value_len s) == soh) (tag_of s).number 0;
+      tag = cond (slice_index s (value_from s + value_len s) == soh) (tag_number (tag_of s)) 0;
       start = at + value_from s;
       len = value_len s;
     }

@@ -40,10 +40,10 @@ pub record Carried (s : List ℕ) (a b k : ℕ) : Type 0 where
   pub within : k ≤ length s
   pub sums : (b + sum_of (drop k s)) % 256 ≡ (a + sum_of s) % 256
 
--- the tag, and a sum that took in its digits and its `=`
-pub record Tagged (s : List ℕ) (t : Tag) (a b : ℕ) : Type 0 where
-  pub tag : t ≡ tag_of s
-  pub sums : (t.digits ≢ 0) → Carried s a b (t.digits + 1)
+-- the tag, and where there is one, a sum that took in its digits and its `=`
+pub record Tagged (s : List ℕ) (r : Option Tag) (a b : ℕ) : Type 0 where
+  pub tag : r ≡ tag_of s
+  pub sums : (t : Tag) → r ≡ Some t → Carried s a b (t.digits + 1)
 
 -- the value and the byte behind it, which is within s, and a sum that took in both
 pub record Ran (s : List ℕ) (v : Text) (a b : ℕ) : Type 0 where

@@ -5,7 +5,7 @@ ghost use Rattle.fix.specs.Fields.{is_text, text_run, tag_of, field_of, as_field
 use crate::frame::Part;
 use decimal::read::digit;
 
-// A tag and how many digits it has. The number 0: no tag.
+// A tag and how many digits it has.
 #[derive(Clone, Copy)]
 pub struct Tag {
     pub number: u64,
@@ -51,34 +51,27 @@ pub fn text_run(s: &[u8]) -> usize
 }
 
 // The tag that `s` starts with: 1 to 4 digits, the first not 0, and `=` behind them.
-pub fn tag_of(s: &[u8]) -> Tag
+pub fn tag_of(s: &[u8]) -> Option<Tag>
     ensures { result ≡ tag_of s.now }
 {
-    let none = Tag {
-        number: 0,
-        digits: 0,
-    };
     let mut n: u64 = 0;
-    let mut i = 0;
-    while i < s.len() {
-        let b = s[i];
-        let d = digit(b);
+    for (i, b) in s.iter().enumerate() {
+        let d = digit(*b);
         if 9 < d {
-            if (0 < i) & (i <= 4) & (s[0] != b'0') & (b == b'=') {
-                return Tag {
+            if (0 < i) & (i <= 4) & (s[0] != b'0') & (*b == b'=') {
+                return Some(Tag {
                     number: n,
                     digits: i,
-                };
+                });
             }
-            return none;
+            return None;
         }
         if i == 4 {
-            return none;
+            return None;
         }
         n = n * 10 + d;
-        i += 1;
     }
-    none
+    None
 }
 
 // The field that `s` starts with, where `s` stands at place `at` of the message.
@@ -86,11 +79,9 @@ fn field_of(s: &[u8], at: usize) -> Field
     requires { at + length s.now < 2 ^ 64 }
     ensures { result ≡ as_field (field_of at s.now) }
 {
-    let t = tag_of(s);
-    let tag = t.number;
-    if tag == 0 {
+    let Some(t) = tag_of(s) else {
         return Field::Broken;
-    }
+    };
     let v = t.digits + 1;
     let n = text_run(&s[v..]);
     let e = v + n;
@@ -101,7 +92,7 @@ fn field_of(s: &[u8], at: usize) -> Field
         return Field::Broken;
     }
     Field::Good {
-        tag,
+        tag: t.number,
         start: at + v,
         len: n,
         next: Cursor { at: at + e + 1 },

@@ -38,14 +38,11 @@ pub struct Text {
 }
 
 // The tag that `s` starts with, as `tag_of` reads it; the sum takes in its digits and its `=`.
-fn spelled(s: &[u8], sum: &mut u8) -> Tag
+// No `for`: it would ask for the end of the bytes at each of them.
+fn spelled(s: &[u8], sum: &mut u8) -> Option<Tag>
     requires { Closed s.now }
     ensures { Tagged s.now result sum.old sum.new }
 {
-    let none = Tag {
-        number: 0,
-        digits: 0,
-    };
     let first = s[0];
     let mut b = first;
     let mut n: u64 = 0;
@@ -55,15 +52,15 @@ fn spelled(s: &[u8], sum: &mut u8) -> Tag
         *sum = std::num::wrapping_add_u8(*sum, b);
         if 9 < d {
             if (0 < i) & (i <= 4) & (first != b'0') & (b == b'=') {
-                return Tag {
+                return Some(Tag {
                     number: n,
                     digits: i,
-                };
+                });
             }
-            return none;
+            return None;
         }
         if i == 4 {
-            return none;
+            return None;
         }
         n = n * 10 + d;
         i += 1;
@@ -72,6 +69,7 @@ fn spelled(s: &[u8], sum: &mut u8) -> Tag
 }
 
 // The value that `s` starts with; the sum takes in its characters and the byte behind them.
+// No `for`: it would ask for the end of the bytes at each of them.
 fn run(s: &[u8], sum: &mut u8) -> Text
     requires { Closed s.now }
     ensures { Ran s.now result sum.old sum.new }
@@ -92,11 +90,9 @@ fn strode(s: &[u8], at: usize, sum: &mut u8) -> Field
     requires { Closed s.now × (at + length s.now < 2 ^ 64) }
     ensures { Strode s.now at result sum.old sum.new }
 {
-    let t = spelled(s, sum);
-    let tag = t.number;
-    if t.digits == 0 {
+    let Some(t) = spelled(s, sum) else {
         return Field::Broken;
-    }
+    };
     let v = t.digits + 1;
     let w = run(&s[v..], sum);
     if w.behind != 1 {
@@ -104,7 +100,7 @@ fn strode(s: &[u8], at: usize, sum: &mut u8) -> Field
     }
     let len = w.len;
     Field::Good {
-        tag,
+        tag: t.number,
         start: at + v,
         len,
         next: Cursor {

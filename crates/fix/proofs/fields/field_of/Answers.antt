@@ -3,8 +3,8 @@ use Rattle.fix.proofs.Spelling.{value_from_lem, from_fits, field_none, field_ope
 use Rattle.std.proofs.Common.{rules}
 use Rattle.fix.proofs.fields.field_of.Goals as goal
 
-pub returns-then-tag-eq0 : goal.returns-then-tag-eq0
-returns-then-tag-eq0 c = search (rules, field_none)
+pub returns-in_default : goal.returns-in_default
+returns-in_default c = search (rules, field_none)
 
 pub overflow_add-v : goal.overflow_add-v
 overflow_add-v c = search (rules, from_fits)

@@ -6,8 +6,8 @@ use Rattle.fix.proofs.pass.spelled.Goals as goal
 pub bounds-s-0 : goal.bounds-s-0
 bounds-s-0 c = search (rules, closed_some)
 
-pub loop-none-init : goal.loop-none-init
-loop-none-init c = search (rules, spelling_start)
+pub loop-first-init : goal.loop-first-init
+loop-first-init c = search (rules, spelling_start)
 
 pub returns-then-i-first : goal.returns-then-i-first
 returns-then-i-first c = search (rules, tagged_good)
@@ -28,10 +28,10 @@ pub overflow_add-i : goal.overflow_add-i
 overflow_add-i c = search (rules, spelling_step)
 
 pub bounds-s-i : goal.bounds-s-i
-bounds-s-i c = spelling_next _ _ _ _ _ _ _ c.loop-none.invariant _ (search rules) (search rules) c.digit-d.ensures.0
+bounds-s-i c = spelling_next _ _ _ _ _ _ _ c.loop-first.invariant _ (search rules) (search rules) c.digit-d.ensures.0
 
-pub loop-none-smaller : goal.loop-none-smaller
-loop-none-smaller c = search (rules, spelling_less)
+pub loop-first-smaller : goal.loop-first-smaller
+loop-first-smaller c = search (rules, spelling_less)
 
-pub loop-none-preserved : goal.loop-none-preserved
-loop-none-preserved c = search (rules, spelling_more)
+pub loop-first-preserved : goal.loop-first-preserved
+loop-first-preserved c = search (rules, spelling_more)

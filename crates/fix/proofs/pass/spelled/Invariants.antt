@@ -3,8 +3,8 @@ use Rattle.std.proofs.Common.{◌-◌, length}
 use Rattle.fix.proofs.Paces.{Spelling}
 use Rattle.fix.proofs.pass.spelled.Given as goal
 
-abbrev pub invariant-loop-none : goal.invariant-loop-none
-invariant-loop-none l = Spelling l.s l.initial.sum l.sum l.first l.b l.n l.i
+abbrev pub invariant-loop-first : goal.invariant-loop-first
+invariant-loop-first l = Spelling l.s l.initial.sum l.sum l.first l.b l.n l.i
 
-abbrev pub decreases-loop-none : goal.decreases-loop-none
-decreases-loop-none l = length l.s - l.i
+abbrev pub decreases-loop-first : goal.decreases-loop-first
+decreases-loop-first l = length l.s - l.i

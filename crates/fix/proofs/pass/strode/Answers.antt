@@ -3,8 +3,8 @@ use Rattle.fix.proofs.Paces.{strode_none, strode_start, strode_fits, strode_rest
 use Rattle.std.proofs.Common.{rules}
 use Rattle.fix.proofs.pass.strode.Goals as goal
 
-pub returns-then-t-eq0 : goal.returns-then-t-eq0
-returns-then-t-eq0 c = search (rules, strode_none)
+pub returns-in_default : goal.returns-in_default
+returns-in_default c = search (rules, strode_none)
 
 pub overflow_add-v : goal.overflow_add-v
 overflow_add-v c = search (rules, strode_fits)
