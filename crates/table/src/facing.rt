@@ -1,5 +1,6 @@
 // The orders that the order in work meets: the turn of each is noted once, by its record, and the best of them is the first in
-// turn, again and again as one after the other is passed. So that few turns are looked at, the first of every sixteen is noted too.
+// turn, again and again as one after the other is passed. So that few turns are looked at, the first of every sixteen is noted too. The turns and
+// the firsts are arrays of the caller, and no struct with methods: a struct that owns them is copied when it is made, 2,048 bytes at each Run.
 ghost use Rattle.std.specs.Prelude.{◌≡◌, true, false, cond, ◌+◌, ◌≤◌, ◌<◌, eqb, ltb, length, get_or, set};
 ghost use Rattle.matching.specs.Matching.{is_buy, best, partner};
 ghost use Rattle.table.specs.Heading.{work_of};

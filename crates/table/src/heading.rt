@@ -69,7 +69,7 @@ pub fn decided(t: &[u8]) -> u64
     octets::wide(t[places::DECIDED])
 }
 
-// How it is noted.
+// How it is noted. No `From`: the bytes are the table's, and `Instrument` is decimal's.
 pub fn kind_number(q: Instrument) -> u8
     ensures { result ≡ kind_number q }
 {
