@@ -21,49 +21,28 @@ pub const END: u64 = 2000000000000000000;
 // Above every place.
 const PLACES: u64 = 1000000000;
 
-// The turn of r among the orders that o, a buy, meets; the end if o does not meet it.
-fn due_to_buy(o: Order, r: Order) -> u64
-    requires { Timely 1_000_000_000 r × (is_buy o ≡ true) }
-    ensures { result ≡ due_of o r }
+// Whether a level of the side told is apart from a level of the other side: they do not meet.
+fn is_apart(level: u64, buys: bool, other: u64) -> bool
+    ensures { result ≡ cond buys (ltb other level) (ltb level other) }
 {
-    if r.is_buy() {
-        return END;
-    }
-    if r.level < o.level {
-        return END;
-    }
-    if !r.is_open() {
-        return END;
-    }
-    turn_of(PLACES, r)
+    if buys { other < level } else { level < other }
 }
 
-// The turn of r among the orders that o, a sell, meets; the end if o does not meet it.
-fn due_to_sell(o: Order, r: Order) -> u64
-    requires { Timely 1_000_000_000 r × (is_buy o ≡ false) }
-    ensures { result ≡ due_of o r }
-{
-    if !r.is_buy() {
-        return END;
-    }
-    if o.level < r.level {
-        return END;
-    }
-    if !r.is_open() {
-        return END;
-    }
-    turn_of(PLACES, r)
-}
-
-// The turn of r among the orders that o meets, whose side is told.
+// The turn of r among the orders that o, whose side is told, meets; the end if o does not meet it.
 fn due(o: Order, buys: bool, r: Order) -> u64
     requires { Timely 1_000_000_000 r × (buys ≡ is_buy o) }
     ensures { result ≡ due_of o r }
 {
-    if buys {
-        return due_to_buy(o, r);
+    if r.is_buy() == buys {
+        return END;
     }
-    due_to_sell(o, r)
+    if is_apart(o.level, buys, r.level) {
+        return END;
+    }
+    if !r.is_open() {
+        return END;
+    }
+    turn_of(PLACES, r)
 }
 
 // Notes the turns of those of the n records that o meets, and tells which is the last; 0 if it meets none.
