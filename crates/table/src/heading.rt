@@ -55,10 +55,10 @@ pub fn instrument(t: &[u8]) -> Instrument
     requires { length t.now ≡ table_bytes }
     ensures { result ≡ instrument_of t.now }
 {
-    if octets::wide(t[places::KIND]) == 0 {
-        return Instrument::Bonds;
+    match t[places::KIND] {
+        0 => Instrument::Bonds,
+        _ => Instrument::Equities,
     }
-    Instrument::Equities
 }
 
 // The decision on the minimum of the order in work: 0, or 1 once it is made.

@@ -68,7 +68,8 @@ fn tradable(o: Order, r: Order, offers: u64) -> u64
     offers
 }
 
-// Notes the orders that o meets, and tells how many they are.
+// Notes the orders that o meets, and tells how many they are. In three arrays, not in one of structs: each sum goes through the turns and one kind of
+// quantity, and an array that a struct owns is copied when the struct is made.
 fn note(
     t: &[u8],
     n: usize,
@@ -166,7 +167,7 @@ impl Offers<'_> {
         r
     }
 
-    // The turn behind the last that is before x; 0 if there is none.
+    // The turn behind the last that is before x; 0 if there is none. No twin of `first_from`: each starts at its own end and looks for another turn.
     fn last_before(self, x: u64) -> u64
         ensures { Clear self.entry.turns.now self.entry.n result x }
     {
