@@ -6,7 +6,7 @@ use Prim.Native.Nat.{ℕ, ◌+◌, ◌≤◌, ◌<◌, min}
 use native.Mathlib.Omega.{arith}
 use lib.Dec.{leb}
 use lib.ListN.{length, take, drop, replicate, length-take, length-map}
-use lib.Seq.{sets, sets-eq, length-sets, take_at, take_all}
+use lib.Seq.{sets, sets-eq, take_at, take_all}
 use borrow.Author.Tests.{leb-true, leb-false, lt-leb}
 use Rattle.octets.proofs.Bools.{split, both_not_r}
 use Rattle.decimal.specs.declared.Instrument.{Instrument}

@@ -59,41 +59,45 @@ due_shut o r d s h =
     let f : faces o r ≡ false = rw e in
     sym (due_no o r f)
 
-module _ (o r : Order) (a : Bool) (p : a ≡ is_buy r) where
-  module _ (q : is_buy o ≡ true) where
-    pub buy_beside : a ≡ true → 2_000_000_000_000_000_000 ≡ due_of o r
-    buy_beside h = let e : opposite o r ≡ false = rw (q, sym p ∙ h) in beside o r e
+same_no : (b : Bool) → cond b (not b) b ≡ false
+same_no true = refl
+same_no false = refl
 
-    pub buy_apart : r.level < o.level → 2_000_000_000_000_000_000 ≡ due_of o r
+module _ (o r : Order) (a b : Bool) (p : a ≡ is_buy r) (q : b ≡ is_buy o) where
+  pub side_beside : a ≡ b → 2_000_000_000_000_000_000 ≡ due_of o r
+  side_beside h = let z : is_buy r ≡ is_buy o = sym p ∙ h ∙ q in let e : opposite o r ≡ false = rw z (same_no (is_buy o)) in beside o r e
+
+  module _ (x : Bool) (y : x ≡ cond b (ltb r.level o.level) (ltb o.level r.level)) where
+    pub side_apart : x ≡ true → 2_000_000_000_000_000_000 ≡ due_of o r
     unfolding meets
-    buy_apart h = let e : meets o r ≡ false = rw q (lt-leb o.level r.level h) in apart o r e
+    side_apart h =
+        split b
+        (λ e.
+        let l : ltb r.level o.level ≡ true = rw e at (sym y ∙ h) in
+        let f : meets o r ≡ false = rw (sym q ∙ e) (lt-leb o.level r.level (ltb-true r.level o.level l)) in
+        apart o r f)
+        (λ e.
+        let l : ltb o.level r.level ≡ true = rw e at (sym y ∙ h) in
+        let f : meets o r ≡ false = rw (sym q ∙ e) (lt-leb r.level o.level (ltb-true o.level r.level l)) in
+        apart o r f)
 
-    pub buy_met : (d : Bool) (x : ℕ) → d ≡ is_open r → a ≡ false → o.level ≤ r.level → not d ≡ false → x ≡ turn_of 1_000_000_000 r → x ≡ due_of o r
+    pub side_met : (d : Bool) (v : ℕ) → d ≡ is_open r → (a ≡ b → ⊥) → x ≡ false → not d ≡ false → v ≡ turn_of 1_000_000_000 r → v ≡ due_of o r
     unfolding faces meets
-    buy_met d x s h l g e =
+    side_met d v s h l g e =
         let z : is_open r ≡ true = sym s ∙ not-false d g in
-        let f : faces o r ≡ true = rw (z, q, sym p ∙ h) (le-leb o.level r.level l) in
-        e ∙ sym (due_yes o r f)
-
-  module _ (q : is_buy o ≡ false) where
-    pub sell_beside : not a ≡ true → 2_000_000_000_000_000_000 ≡ due_of o r
-    sell_beside h = let e : opposite o r ≡ false = rw (q, sym p ∙ not-true a h) in beside o r e
-
-    pub sell_apart : o.level < r.level → 2_000_000_000_000_000_000 ≡ due_of o r
-    unfolding meets
-    sell_apart h = let e : meets o r ≡ false = rw q (lt-leb r.level o.level h) in apart o r e
-
-    pub sell_met : (d : Bool) (x : ℕ) → d ≡ is_open r → not a ≡ false → r.level ≤ o.level → not d ≡ false → x ≡ turn_of 1_000_000_000 r → x ≡ due_of o r
-    unfolding faces meets
-    sell_met d x s h l g e =
-        let z : is_open r ≡ true = sym s ∙ not-false d g in
-        let f : faces o r ≡ true = rw (z, q, sym p ∙ not-false a h) (le-leb r.level o.level l) in
-        e ∙ sym (due_yes o r f)
+        split b
+        (λ k.
+        let n : is_buy r ≡ false = split (is_buy r) (λ m. absurd (h (p ∙ m ∙ sym k))) (λ m. m) in
+        let w : ltb r.level o.level ≡ false = rw k at (sym y ∙ l) in
+        let f : faces o r ≡ true = rw (z, sym q ∙ k, n) (le-leb o.level r.level (ltb-false r.level o.level w)) in
+        e ∙ sym (due_yes o r f))
+        (λ k.
+        let n : is_buy r ≡ true = split (is_buy r) (λ m. m) (λ m. absurd (h (p ∙ m ∙ sym k))) in
+        let w : ltb o.level r.level ≡ false = rw k at (sym y ∙ l) in
+        let f : faces o r ≡ true = rw (z, sym q ∙ k, n) (le-leb r.level o.level (ltb-false o.level r.level w)) in
+        e ∙ sym (due_yes o r f))
 
 -- the side of an order, once it is known
-pub side_is : (o : Order) (f s : Bool) → f ≡ is_buy o → f ≡ s → is_buy o ≡ s
-side_is o f s e h = sym e ∙ h
-
 pub side_told : (o : Order) (f s : Bool) → f ≡ is_buy o → f ≡ s → s ≡ is_buy o
 side_told o f s e h = sym h ∙ e
 

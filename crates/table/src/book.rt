@@ -6,7 +6,7 @@ ghost use Rattle.table.specs.Orders.{filled, record_for};
 use crate::places;
 use crate::record::open_at;
 
-// The number of filled records.
+// The number of filled records. Record by record, for bytes that need not be a market: `ids::count` halves, which asks for one.
 pub fn filled(t: &[u8]) -> usize
     requires { length t.now ≡ table_bytes }
     ensures { (result ≡ filled t.now) × (result ≤ 255) }
@@ -19,7 +19,7 @@ pub fn filled(t: &[u8]) -> usize
     places::MOST_ORDERS
 }
 
-// The record that a new order takes, n records being filled; 0 if every order is open.
+// The record that a new order takes, n records being filled; 0 if every order is open, as the definition `record_for`, which theorems name, numbers none.
 pub fn record_for(t: &[u8], n: usize) -> usize
     requires { (length t.now ≡ table_bytes) × (n ≡ filled t.now) }
     ensures { (result ≡ record_for t.now) × (result ≤ 255) }

@@ -35,7 +35,7 @@ pub fn entries(t: &[u8]) -> usize
     places::MOST_MPIDS
 }
 
-// The entry that has MPID m; the number of entries, n, if none has.
+// The entry that has MPID m; the number of entries, n, if none has, as the definition `entry_of` says it.
 pub fn entry_of(t: &[u8], n: usize, m: u64) -> usize
     requires { (length t.now ≡ table_bytes) × (n ≡ entries t.now) × (n ≤ 8) }
     ensures { (result ≡ entry_of t.now m) × (result ≤ n) }

@@ -55,10 +55,10 @@ pub fn instrument(t: &[u8]) -> Instrument
     requires { length t.now ≡ table_bytes }
     ensures { result ≡ instrument_of t.now }
 {
-    if octets::wide(t[places::KIND]) == 0 {
-        return Instrument::Bonds;
+    match t[places::KIND] {
+        0 => Instrument::Bonds,
+        _ => Instrument::Equities,
     }
-    Instrument::Equities
 }
 
 // The decision on the minimum of the order in work: 0, or 1 once it is made.
@@ -69,7 +69,7 @@ pub fn decided(t: &[u8]) -> u64
     octets::wide(t[places::DECIDED])
 }
 
-// How it is noted.
+// How it is noted. No `From`: the bytes are the table's, and `Instrument` is decimal's.
 pub fn kind_number(q: Instrument) -> u8
     ensures { result ≡ kind_number q }
 {

@@ -57,7 +57,8 @@ fn key_of(m: &[u8]) -> Key
     }
 }
 
-// Whether the ClOrdID of record i is m: the numbers of its key are compared first, and its characters only where those are the same.
+// Whether the ClOrdID of record i is m: the numbers of its key are compared first, and its characters only where those are the same. The second
+// number comes before the first, since it differs oftener; `==` of two keys would read all four of each record.
 fn is_named(t: &[u8], i: usize, key: Key, m: &[u8]) -> bool
     requires { Market t.now × (1 ≤ i) × (i ≤ filled t.now) × (i ≤ 255) × Keyed m.now key }
     ensures { result ≡ same_bytes (cl_ord_id_at t.now i) m.now }
@@ -78,7 +79,7 @@ fn is_named(t: &[u8], i: usize, key: Key, m: &[u8]) -> bool
     octets::text_is(t, p, m)
 }
 
-// The record among the n of a market whose ClOrdID is m; 0 if none has it.
+// The record among the n of a market whose ClOrdID is m; 0 if none has it, as the definition `record_with`, which theorems name, numbers none.
 pub fn find_id(t: &[u8], n: usize, m: &[u8]) -> usize
     requires { Market t.now × (n ≡ filled t.now) }
     ensures { (result ≡ record_with t.now n m.now) × (result ≤ n) }

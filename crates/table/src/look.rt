@@ -26,6 +26,15 @@ struct Window {
     high: u64,
 }
 
+// What is noted: n turns, each with a quantity, few and small enough to be added up.
+#[derive(Clone, Copy)]
+struct Offers<'a> {
+    turns: &'a [u64; 256],
+    amounts: &'a [u64; 256],
+    n: usize,
+    ghost noted: { Notes turns.now amounts.now n },
+}
+
 // The turn of an order among those of its side.
 pub fn turn_of(next: u64, r: Order) -> u64
     requires { Timely next r }
@@ -59,7 +68,8 @@ fn tradable(o: Order, r: Order, offers: u64) -> u64
     offers
 }
 
-// Notes the orders that o meets, and tells how many they are.
+// Notes the orders that o meets, and tells how many they are. In three arrays, not in one of structs: each sum goes through the turns and one kind of
+// quantity, and an array that a struct owns is copied when the struct is made.
 fn note(
     t: &[u8],
     n: usize,
@@ -95,18 +105,6 @@ fn counted(turn: u64, amount: u64, x: u64) -> u64
     amount * ((HALF + x - turn - 1) / HALF)
 }
 
-// The first n quantities whose turn is before x, added up.
-fn sum_of(turns: &[u64; 256], amounts: &[u64; 256], x: u64, n: usize) -> u64
-    requires { Notes turns.now amounts.now n × (x ≤ 4_000_000_000_000_000_000) }
-    ensures { (result ≡ sum_of turns.now amounts.now x n) × (result ≤ n * 999_999_999) }
-{
-    let mut r: u64 = 0;
-    for i in 0..n {
-        r += counted(turns[i], amounts[i], x);
-    }
-    r
-}
-
 // The nearer of turn x, found so far, and that of an order that offers more than is tradable.
 fn nearer_own(turn: u64, offers: u64, trades: u64, x: u64) -> u64
     ensures { result ≡ cond (ltb trades offers) (min turn x) x }
@@ -133,18 +131,6 @@ fn earlier(turn: u64, x: u64, r: u64) -> u64
     if (x <= turn) & (turn < r) { turn } else { r }
 }
 
-// The first of n turns that is not before x; the end if there is none.
-fn first_from(turns: &[u64; 256], n: usize, x: u64, end: u64) -> u64
-    requires { (n ≤ 255) × (x ≤ end) }
-    ensures { Clear turns.now n x result }
-{
-    let mut r = end;
-    for i in 0..n {
-        r = earlier(turns[i], x, r);
-    }
-    r
-}
-
 // The later of turn r, found so far, and the one behind a turn that is before x.
 fn later(turn: u64, x: u64, r: u64) -> u64
     ensures { result ≡ cond (ltb turn x && leb r turn) (turn + 1) r }
@@ -156,104 +142,122 @@ fn later(turn: u64, x: u64, r: u64) -> u64
     }
 }
 
-// The turn behind the last of n that is before x; 0 if there is none.
-fn last_before(turns: &[u64; 256], n: usize, x: u64) -> u64
-    requires { n ≤ 255 }
-    ensures { Clear turns.now n result x }
-{
-    let mut r: u64 = 0;
-    for i in 0..n {
-        r = later(turns[i], x, r);
+impl Offers<'_> {
+    // The quantities whose turn is before x, added up.
+    fn sum_before(self, x: u64) -> u64
+        requires { x ≤ 4_000_000_000_000_000_000 }
+        ensures { (result ≡ sum_of self.entry.turns.now self.entry.amounts.now x self.entry.n) × (result ≤ self.entry.n * 999_999_999) }
+    {
+        let mut r: u64 = 0;
+        for i in 0..self.n {
+            r += counted(self.turns[i], self.amounts[i], x);
+        }
+        r
     }
-    r
-}
 
-// The same turns of a window, from its first on and up to its last.
-fn narrowed(turns: &[u64; 256], n: usize, w: Window) -> Window
-    requires { (n ≤ 255) × (w.low ≤ w.high) }
-    ensures { Clear turns.now n w.low result.low × Clear turns.now n result.high w.high }
-{
-    let low = first_from(turns, n, w.low, w.high);
-    let high = last_before(turns, n, w.high);
-    Window { low, high }
-}
-
-// The half of a window that q reaches into; a window of one turn stays.
-fn half(turns: &[u64; 256], amounts: &[u64; 256], n: usize, q: u64, w: Window) -> Window
-    requires { Notes turns.now amounts.now n × Between turns.now amounts.now n q w.low w.high }
-    ensures { Between turns.now amounts.now n q result.low result.high × Shrunk w.low w.high result.low result.high }
-{
-    let l = w.low;
-    let h = w.high;
-    if h - l <= 1 {
-        return w;
+    // The first turn that is not before x; the end if there is none.
+    fn first_from(self, x: u64, end: u64) -> u64
+        requires { x ≤ end }
+        ensures { Clear self.entry.turns.now self.entry.n x result }
+    {
+        let mut r = end;
+        for i in 0..self.n {
+            r = earlier(self.turns[i], x, r);
+        }
+        r
     }
-    let x = l + (h - l) / 2;
-    if sum_of(turns, amounts, x, n) <= q {
-        return Window { low: x, high: h };
+
+    // The turn behind the last that is before x; 0 if there is none. No twin of `first_from`: each starts at its own end and looks for another turn.
+    fn last_before(self, x: u64) -> u64
+        ensures { Clear self.entry.turns.now self.entry.n result x }
+    {
+        let mut r: u64 = 0;
+        for i in 0..self.n {
+            r = later(self.turns[i], x, r);
+        }
+        r
     }
-    Window { low: l, high: x }
-}
 
-// The same, eight times: of 255 turns that lie evenly one is left.
-fn halved(turns: &[u64; 256], amounts: &[u64; 256], n: usize, q: u64, w: Window) -> Window
-    requires { Notes turns.now amounts.now n × Between turns.now amounts.now n q w.low w.high }
-    ensures { Between turns.now amounts.now n q result.low result.high × Shrunk w.low w.high result.low result.high }
-{
-    let mut v = half(turns, amounts, n, q, w);
-    for _ in 1..8 {
-        v = half(turns, amounts, n, q, v);
+    // The same turns of a window, from its first on and up to its last.
+    fn narrowed(self, w: Window) -> Window
+        requires { w.low ≤ w.high }
+        ensures { Clear self.entry.turns.now self.entry.n w.low result.low × Clear self.entry.turns.now self.entry.n result.high w.high }
+    {
+        let low = self.first_from(w.low, w.high);
+        let high = self.last_before(w.high);
+        Window { low, high }
     }
-    v
-}
 
-// The turn that q reaches to before the end, where it is not enough for all.
-fn reach(turns: &[u64; 256], amounts: &[u64; 256], n: usize, q: u64, end: u64) -> u64
-    requires { Notes turns.now amounts.now n × Between turns.now amounts.now n q 0 end }
-    ensures { Between turns.now amounts.now n q result (result + 1) }
-{
-    let mut w = Window { low: 0, high: end };
-    while 1 < w.high - w.low {
-        let v = narrowed(turns, n, w);
-        w = halved(turns, amounts, n, q, v);
+    // The half of a window that q reaches into; a window of one turn stays.
+    fn half(self, q: u64, w: Window) -> Window
+        requires { Between self.turns.now self.amounts.now self.n q w.low w.high }
+        ensures { Between self.entry.turns.now self.entry.amounts.now self.entry.n q result.low result.high × Shrunk w.low w.high result.low result.high }
+    {
+        let l = w.low;
+        let h = w.high;
+        if h - l <= 1 {
+            return w;
+        }
+        let x = l + (h - l) / 2;
+        if self.sum_before(x) <= q {
+            return Window { low: x, high: h };
+        }
+        Window { low: l, high: x }
     }
-    w.low
-}
 
-// How far q reaches: to a turn, or to the end where it is enough for all.
-fn reached(turns: &[u64; 256], amounts: &[u64; 256], n: usize, q: u64, end: u64) -> u64
-    requires { Notes turns.now amounts.now n × (end ≤ 2_000_000_000_000_000_000) }
-    ensures { Reached turns.now amounts.now n q end result }
-{
-    if sum_of(turns, amounts, end, n) <= q {
-        return end;
+    // The same, eight times: of 255 turns that lie evenly one is left.
+    fn halved(self, q: u64, w: Window) -> Window
+        requires { Between self.turns.now self.amounts.now self.n q w.low w.high }
+        ensures { Between self.entry.turns.now self.entry.amounts.now self.entry.n q result.low result.high × Shrunk w.low w.high result.low result.high }
+    {
+        let mut v = self.half(q, w);
+        for _ in 1..8 {
+            v = self.half(q, v);
+        }
+        v
     }
-    reach(turns, amounts, n, q, end)
-}
 
-// What an order with q open trades if it can trade with all that is tradable before x.
-fn traded_to(turns: &[u64; 256], others: &[u64; 256], n: usize, q: u64, x: u64) -> u64
-    requires { Notes turns.now others.now n × (x ≤ 4_000_000_000_000_000_000) }
-    ensures { result ≡ min q (sum_of turns.now others.now x n) }
-{
-    q.min(sum_of(turns, others, x, n))
-}
+    // The turn that q reaches to before the end, where it is not enough for all.
+    fn reach(self, q: u64, end: u64) -> u64
+        requires { Between self.turns.now self.amounts.now self.n q 0 end }
+        ensures { Between self.entry.turns.now self.entry.amounts.now self.entry.n q result (result + 1) }
+    {
+        let mut w = Window { low: 0, high: end };
+        while 1 < w.high - w.low {
+            let v = self.narrowed(w);
+            w = self.halved(q, v);
+        }
+        w.low
+    }
 
-// What it trades if it reaches to x and its owner's orders take their share of it.
-fn traded_at(
-    turns: &[u64; 256],
-    all: &[u64; 256],
-    others: &[u64; 256],
-    n: usize,
-    q: u64,
-    x: u64,
-) -> u64
-    requires { Notes turns.now all.now n × Notes turns.now others.now n × (q ≤ 999_999_999) × (x < 4_000_000_000_000_000_000) × (sum_of turns.now all.now x n ≤ q) }
-    ensures { result ≡ min (sum_of turns.now others.now x n + (q - sum_of turns.now all.now x n)) (sum_of turns.now others.now (x + 1) n) }
-{
-    let before = sum_of(turns, others, x, n);
-    let left = q - sum_of(turns, all, x, n);
-    (before + left).min(sum_of(turns, others, x + 1, n))
+    // How far q reaches: to a turn, or to the end where it is enough for all.
+    fn reached(self, q: u64, end: u64) -> u64
+        requires { end ≤ 2_000_000_000_000_000_000 }
+        ensures { Reached self.entry.turns.now self.entry.amounts.now self.entry.n q end result }
+    {
+        if self.sum_before(end) <= q {
+            return end;
+        }
+        self.reach(q, end)
+    }
+
+    // What an order with q open trades of them if it can trade with all before x.
+    fn traded_to(self, q: u64, x: u64) -> u64
+        requires { x ≤ 4_000_000_000_000_000_000 }
+        ensures { result ≡ min q (sum_of self.entry.turns.now self.entry.amounts.now x self.entry.n) }
+    {
+        q.min(self.sum_before(x))
+    }
+
+    // What it trades of these if it reaches to x in all, and its owner's orders take their share of it.
+    fn traded_at(self, all: Offers<'_>, q: u64, x: u64) -> u64
+        requires { (q ≤ 999_999_999) × (x < 4_000_000_000_000_000_000) × (sum_of all.turns.now all.amounts.now x all.n ≤ q) }
+        ensures { result ≡ min (sum_of self.entry.turns.now self.entry.amounts.now x self.entry.n + (q - sum_of all.entry.turns.now all.entry.amounts.now x all.entry.n)) (sum_of self.entry.turns.now self.entry.amounts.now (x + 1) self.entry.n) }
+    {
+        let before = self.sum_before(x);
+        let left = q - all.sum_before(x);
+        (before + left).min(self.sum_before(x + 1))
+    }
 }
 
 // The quantity that the matching steps would trade of the order in work, w, among n records, by its mode.
@@ -269,13 +273,23 @@ pub fn would_trade(t: &[u8], n: usize, w: usize, mode: u64) -> u64
     let m = note(t, n, number, o, &mut turns, &mut all, &mut others);
     let q = o.open_of();
     let end = LEVELS * number;
+    let tradable = Offers {
+        turns: &turns,
+        amounts: &others,
+        n: m,
+    };
     if mode == 1 {
         let x = least_own(&turns, &all, &others, end, m);
-        return traded_to(&turns, &others, m, q, x);
+        return tradable.traded_to(q, x);
     }
     if mode == 2 {
-        return traded_to(&turns, &others, m, q, end);
+        return tradable.traded_to(q, end);
     }
-    let x = reached(&turns, &all, m, q, end);
-    traded_at(&turns, &all, &others, m, q, x)
+    let offered = Offers {
+        turns: &turns,
+        amounts: &all,
+        n: m,
+    };
+    let x = offered.reached(q, end);
+    tradable.traded_at(offered, q, x)
 }

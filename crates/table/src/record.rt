@@ -77,7 +77,7 @@ pub fn four_at(t: &[u8], p: usize) -> u64
     a + 256 * b + 65536 * c + 16777216 * d
 }
 
-// The number whose eight bytes start at place p, by its two halves.
+// The number whose eight bytes start at place p, by its two halves: the compiler reads them as one too, which it does not in the loop of `le_at`.
 pub fn eight_at(t: &[u8], p: usize) -> u64
     requires { p + 8 ≤ length t.now }
     ensures { result ≡ le_at 8 t.now p }

@@ -10,7 +10,7 @@ pub open_of-q-requires : goal.open_of-q-requires
 open_of-q-requires c = search (rules, look_covered)
 
 pub traded_to-requires : goal.traded_to-requires
-traded_to-requires c = (search rules, search (rules, own_small))
+traded_to-requires c = search (rules, own_small)
 
 pub returns-then-mode-eq1 : goal.returns-then-mode-eq1
 returns-then-mode-eq1 c = search (rules, would_newest)
@@ -19,7 +19,7 @@ pub returns-then-mode-eq2 : goal.returns-then-mode-eq2
 returns-then-mode-eq2 c = search (rules, would_oldest)
 
 pub traded_at-requires : goal.traded_at-requires
-traded_at-requires c = (search rules, search rules, search (rules, open_small), search rules, search rules)
+traded_at-requires c = (search (rules, open_small), search rules, search rules)
 
 pub returns : goal.returns
 returns c = search (rules, would_other)

@@ -1,7 +1,7 @@
--- `table::look::sum_of` meets its contract: r is the sum of the notes passed.
+-- `table::look::Offers::sum_before` meets its contract: r is the sum of the notes passed.
 use Rattle.table.proofs.Notes.{summing_none, summing_fits, summing_more, summing_end, summing_most, notes_early, notes_small}
 use borrow.Author.Rules.{rules}
-use Rattle.table.proofs.look.sum_of.Goals as goal
+use Rattle.table.proofs.look.Offers.sum_before.Goals as goal
 
 pub loop-i-init : goal.loop-i-init
 loop-i-init c = summing_none

@@ -1,7 +1,0 @@
--- `table::look::reached` meets its contract.
-use Rattle.table.proofs.Notes.{between_all}
-use borrow.Author.Rules.{rules}
-use Rattle.table.proofs.look.reached.Goals as goal
-
-pub reach-requires : goal.reach-requires
-reach-requires c = (search rules, search (rules, between_all))
