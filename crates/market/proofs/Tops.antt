@@ -14,6 +14,7 @@ use Rattle.decimal.specs.Instruments.{highest}
 use Rattle.refusals.specs.declared.Refusal.{Refusal}
 use Rattle.refusals.specs.declared.Refusal.TheVariants.{NoMarket, InWork, BadSide}
 use Rattle.matching.specs.declared.Level.{Level}
+use Rattle.matching.specs.Matching.{buys}
 use Rattle.matching.specs.Depth.{next, level_at, depth}
 use Rattle.table.specs.Places.{table_bytes}
 use Rattle.table.specs.Heading.{work_of, kind_number, instrument_of, decided_of}
@@ -87,6 +88,22 @@ words_none b z = rw (eq-eqb b.orders 0 z)
 pub words_level : (b : Level) → (b.orders ≡ 0 → ⊥) → Some b ≡ in_words b
 unfolding in_words
 words_level b z = rw (ne_eqb b.orders 0 z)
+
+-- of both best levels, that of a side
+module _ (t : List ℕ) (side : ℕ) where
+  same_buys : buys side ≡ true → best_at t 1 ≡ best_at t side
+  unfolding best_at
+  same_buys e = rw e
+
+  same_sells : buys side ≡ false → best_at t 2 ≡ best_at t side
+  unfolding best_at
+  same_sells e = rw e
+
+  pub side_picked : (buy sell b : Level) → buy ≡ best_at t 1 → sell ≡ best_at t 2 → b ≡ cond (buys side) buy sell → b ≡ best_at t side
+  side_picked buy sell b d e h =
+      split (buys side)
+      (λ z. (rw z at h) ∙ d ∙ same_buys z)
+      (λ z. (rw z at h) ∙ e ∙ same_sells z)
 
 -- what Depth and Top ask of the work and of the side, before they answer x
 abbrev pub asked : {A : Type 0} → List ℕ → ℕ → Result A Refusal → Result A Refusal

@@ -1,8 +1,9 @@
 // The heading of a table by itself: whether it is in its ranges, and the best level that it keeps. No record is looked at.
-ghost use Rattle.std.specs.Prelude.{◌≡◌, length};
+ghost use Rattle.std.specs.Prelude.{◌≡◌, length, cond};
 ghost use Rattle.decimal.specs.Instruments.{highest};
+ghost use Rattle.matching.specs.Matching.{buys};
 ghost use Rattle.table.specs.Places.{table_bytes};
-ghost use Rattle.table.specs.Best.{in_words};
+ghost use Rattle.table.specs.Best.{best_at, in_words};
 ghost use Rattle.table.specs.Market.{is_of};
 ghost use Rattle.market.specs.Top.{is_none, is_best, has_levels, has_note, has_gaps, has_heading};
 
@@ -13,6 +14,33 @@ use table::best::best_at;
 use table::entries::entries;
 use table::heading::{decided, kind_number, work};
 use table::places;
+
+// The best level of each side that a heading keeps, read once.
+#[derive(Clone, Copy)]
+pub(crate) struct Kept {
+    buy: Level,
+    sell: Level,
+}
+
+impl Kept {
+    // Those of a table.
+    pub(crate) fn of(t: &[u8]) -> Kept
+        requires { length t.now ≡ table_bytes }
+        ensures { (result.buy ≡ best_at t.now 1) × (result.sell ≡ best_at t.now 2) }
+    {
+        Kept {
+            buy: best_at(t, 1),
+            sell: best_at(t, 2),
+        }
+    }
+
+    // That of a side, 1 the buys and any other the sells.
+    pub(crate) fn of_side(self, side: u64) -> Level
+        ensures { result ≡ cond (buys side) self.buy self.sell }
+    {
+        if side == 1 { self.buy } else { self.sell }
+    }
+}
 
 // Whether the numbers say that there is no level.
 fn is_none(b: Level) -> bool
@@ -49,16 +77,14 @@ fn is_best(q: Instrument, b: Level) -> bool
 }
 
 // Whether both best levels that the heading keeps are such, and none while an order is in work.
-fn has_levels(q: Instrument, t: &[u8]) -> bool
-    requires { length t.now ≡ table_bytes }
+fn has_levels(q: Instrument, t: &[u8], kept: Kept) -> bool
+    requires { (length t.now ≡ table_bytes) × (kept.buy ≡ best_at t.now 1) × (kept.sell ≡ best_at t.now 2) }
     ensures { result ≡ has_levels q t.now }
 {
-    let buy = best_at(t, 1);
-    let sell = best_at(t, 2);
     if work(t) == 0 {
-        return is_best(q, buy) & is_best(q, sell);
+        return is_best(q, kept.buy) & is_best(q, kept.sell);
     }
-    is_none(buy) & is_none(sell)
+    is_none(kept.buy) & is_none(kept.sell)
 }
 
 // Whether the decision is one that a heading can have.
@@ -86,9 +112,9 @@ fn is_of(q: Instrument, t: &[u8]) -> bool
     t[places::KIND] == kind_number(q)
 }
 
-// Whether the heading is one of such a market, and in its ranges.
-pub(crate) fn has_heading(q: Instrument, t: &[u8]) -> bool
-    requires { length t.now ≡ table_bytes }
+// Whether the heading is one of such a market, and in its ranges; with the best levels that it keeps.
+pub(crate) fn has_heading(q: Instrument, t: &[u8], kept: Kept) -> bool
+    requires { (length t.now ≡ table_bytes) × (kept.buy ≡ best_at t.now 1) × (kept.sell ≡ best_at t.now 2) }
     ensures { result ≡ has_heading q t.now }
 {
     if !is_of(q, t) {
@@ -100,7 +126,7 @@ pub(crate) fn has_heading(q: Instrument, t: &[u8]) -> bool
         & has_stamp(t)
         & has_note(t)
         & has_gaps(t)
-        & has_levels(q, t)
+        & has_levels(q, t, kept)
 }
 
 // The level that the numbers say, or that there is none.

@@ -10,7 +10,7 @@ use table::best::stands_on;
 use table::ids::count;
 use table::record::load;
 
-// The best level of a side behind level x; 0 if there is none.
+// The best level of a side behind level x; 0 if there is none, as the definition has it: level 0 also begins the walk over a side.
 pub fn next_level(t: &[u8], n: usize, side: u64, x: u64) -> u64
     requires { Market t.now × (n ≡ filled t.now) }
     ensures { result ≡ next (book_of t.now) side x n }

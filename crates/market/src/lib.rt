@@ -20,7 +20,7 @@ ghost use Rattle.calls.specs.Submit.{submitted};
 ghost use Rattle.market.specs.Depth.{is_side, depth_answer};
 ghost use Rattle.market.specs.Top.{top_answer};
 
-use crate::front::{has_heading, in_words};
+use crate::front::{Kept, has_heading, in_words};
 use crate::levels::level;
 use audit::is_market_of;
 use calls::{OpenAnswer, RunAnswer, SubmitAnswer};
@@ -114,11 +114,12 @@ pub fn top(q: Instrument, table: &[u8], side: u64) -> Result<Option<Level>, Refu
     if table.len() != places::TABLE {
         return Err(Refusal::NoMarket);
     }
-    if !has_heading(q, table) {
+    let kept = Kept::of(table);
+    if !has_heading(q, table, kept) {
         return Err(Refusal::NoMarket);
     }
     asked(table, side)?;
-    Ok(in_words(best_at(table, side)))
+    Ok(in_words(kept.of_side(side)))
 }
 
 // The kind and the fields of a report, or that the bytes are none.

@@ -9,5 +9,8 @@ returns-then-not-is_of c = search (rules, heading_other)
 pub has_settings-requires : goal.has_settings-requires
 has_settings-requires c = (search rules, search (rules, heading_of), search rules, search rules)
 
+pub has_levels-requires : goal.has_levels-requires
+has_levels-requires c = (search rules, search rules, search rules)
+
 pub returns : goal.returns
 returns c = search (rules, heading_is)
