@@ -32,13 +32,16 @@ fn column(t: &[u8], p: usize) -> Added
     Added { sum, turned }
 }
 
-// What the columns come to: each row is 32 positions behind the one above it, each column one behind the one before.
+// What the columns come to: each row is 32 positions behind the one above it, each column one behind the one before. Its
+// position has a number of its own, w: to turn c into one takes more instructions.
 fn come_to(sums: &[u16; 32], turns: &[u16; 32]) -> u32
     ensures { result ≡ sum_to (column_part sums.now turns.now) 32 }
 {
     let mut r: u32 = 0;
+    let mut w: u32 = 0;
     for c in 0..COLUMNS {
-        r = r + (32 * u32::from(turns[c]) + (1 + c as u32) * u32::from(sums[c]));
+        w += 1;
+        r = r + (32 * u32::from(turns[c]) + w * u32::from(sums[c]));
     }
     r
 }

@@ -10,19 +10,19 @@ loop-c-init c = came_none
 pub overflow_mul-r-in-loop-c : goal.overflow_mul-r-in-loop-c
 overflow_mul-r-in-loop-c c =
     let y : c.from-in-loop-c.result < 65536 = rw c.from-in-loop-c.ensures (c.fits-sums c.loop-c.c) in
-    omega (arith, part_small (1 + c.loop-c.c) c.from-in-loop-c.result (omega arith) y)
+    omega (arith, part_small (c.loop-c.w + 1) c.from-in-loop-c.result (omega arith) y)
+
+pub overflow_add-r : goal.overflow_add-r
+overflow_add-r c =
+    let x : c.from.result < 65536 = rw c.from.ensures (c.fits-turns c.loop-c.c) in
+    let y : c.from-in-loop-c.result < 65536 = rw c.from-in-loop-c.ensures (c.fits-sums c.loop-c.c) in
+    omega (arith, part_small (c.loop-c.w + 1) c.from-in-loop-c.result (omega arith) y)
 
 pub overflow_add-r-in-loop-c : goal.overflow_add-r-in-loop-c
 overflow_add-r-in-loop-c c =
     let x : c.from.result < 65536 = rw c.from.ensures (c.fits-turns c.loop-c.c) in
     let y : c.from-in-loop-c.result < 65536 = rw c.from-in-loop-c.ensures (c.fits-sums c.loop-c.c) in
-    omega (arith, part_small (1 + c.loop-c.c) c.from-in-loop-c.result (omega arith) y)
-
-pub overflow_add-r-in-loop-c-2 : goal.overflow_add-r-in-loop-c-2
-overflow_add-r-in-loop-c-2 c =
-    let x : c.from.result < 65536 = rw c.from.ensures (c.fits-turns c.loop-c.c) in
-    let y : c.from-in-loop-c.result < 65536 = rw c.from-in-loop-c.ensures (c.fits-sums c.loop-c.c) in
-    omega (arith, part_small (1 + c.loop-c.c) c.from-in-loop-c.result (omega arith) y)
+    omega (arith, part_small (c.loop-c.w + 1) c.from-in-loop-c.result (omega arith) y)
 
 pub loop-c-preserved : goal.loop-c-preserved
 loop-c-preserved c =
