@@ -8,18 +8,6 @@ use Rattle.image.proofs.weigh.come_to.Goals as goal
 pub loop-c-init : goal.loop-c-init
 loop-c-init c = came_none
 
-pub overflow_add-w : goal.overflow_add-w
-overflow_add-w c = omega arith
-
-pub offset_bounds-turns-c : goal.offset_bounds-turns-c
-offset_bounds-turns-c c = omega arith
-
-pub overflow_mul-r : goal.overflow_mul-r
-overflow_mul-r c = omega arith
-
-pub offset_bounds-sums-c : goal.offset_bounds-sums-c
-offset_bounds-sums-c c = omega arith
-
 pub overflow_mul-r-in-loop-c : goal.overflow_mul-r-in-loop-c
 overflow_mul-r-in-loop-c c = omega (arith, part_small (c.loop-c.w + 1) c.wider-in-loop-c.result (omega arith) (omega arith))
 
@@ -28,12 +16,6 @@ overflow_add-r c = omega (arith, part_small (c.loop-c.w + 1) c.wider-in-loop-c.r
 
 pub overflow_add-r-in-loop-c : goal.overflow_add-r-in-loop-c
 overflow_add-r-in-loop-c c = omega (arith, part_small (c.loop-c.w + 1) c.wider-in-loop-c.result (omega arith) (omega arith))
-
-pub overflow_add-c : goal.overflow_add-c
-overflow_add-c c = omega arith
-
-pub loop-c-smaller : goal.loop-c-smaller
-loop-c-smaller c = omega arith
 
 pub loop-c-preserved : goal.loop-c-preserved
 loop-c-preserved c = search (rules, came_more)
