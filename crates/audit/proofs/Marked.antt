@@ -1,6 +1,6 @@
 -- Marks at keys against comparing every two: keys that were passed have a mark, so one without a mark is new; and the keys
 -- of ClOrdIDs, of places and OrderIDs.
-use Rattle.std.proofs.Common.{◌≡◌, ℕ, suc, ◌+◌, ◌<◌, ◌≤◌, Bool, true, false, not, ◌&&◌, ◌||◌, eqb, ltb, List, length, get_or, set, sym, ap, ◌∙◌, not-suc-le-zero, add-one, arith, length-set, get_or-set_other, get_or-set_same, le-ltb, lt-ltb, ne_eqb, eqb-true}
+use Rattle.std.proofs.Common.{◌≡◌, ℕ, suc, ◌+◌, ◌<◌, ◌≤◌, Bool, true, false, not, ◌&&◌, eqb, ltb, List, length, get_or, set, sym, ap, ◌∙◌, not-suc-le-zero, add-one, arith, length-set, get_or-set_other, get_or-set_same, le-ltb, lt-ltb, ne_eqb, eqb-true}
 use native.Mathlib.Decide.{ℕ_discrete}
 use borrow.Author.Tests.{not-false}
 use Rattle.octets.specs.Octets.{same_bytes, Bytes}
@@ -68,9 +68,10 @@ module _ (t : List ℕ) (long : length t ≡ 32768) (n : ℕ) (e : n ≡ filled 
       f i l (ap key_of (id_is t long n e most h i (omega arith) ∙ ap (λ (xs : List ℕ). id_from xs 0) g ∙ sym (id_is t long n e most h j m))))))
 
   -- the same by the marks of both parts, of which one is not there
-  pub id_unmarked : (j x y : ℕ) {low high : List ℕ} → j < n → Marked (low_key t) low j → Marked (high_key t) high j → x ≡ low_key t j → y ≡ high_key t j
-      → (not (eqb (get_or low x 0) 0) && not (eqb (get_or high y 0) 0)) ≡ false → is_fresh_id t j ≡ true
-  id_unmarked j x y {low} {high} l m k p q f =
+  pub id_unmarked : (j x y : ℕ) {low high : List ℕ} (a b : Bool) → j < n → Marked (low_key t) low j → Marked (high_key t) high j → x ≡ low_key t j → y ≡ high_key t j
+      → a ≡ not (eqb (get_or low x 0) 0) → b ≡ not (eqb (get_or high y 0) 0) → (a && b) ≡ false → is_fresh_id t j ≡ true
+  id_unmarked j x y {low} {high} a b l m k p q c d h =
+      let f : (not (eqb (get_or low x 0) 0) && not (eqb (get_or high y 0) 0)) ≡ false = rw (c, d) at h in
       split (eqb (get_or low x 0) 0)
       (λ z. id_new j l (λ i o same. unmarked x m p (eqb-true _ 0 z) i o (ap low_part same)))
       (λ z.
@@ -139,14 +140,6 @@ pub unseen_fresh : {f : ℕ → ℕ} {seen : List ℕ} {j : ℕ} (x : ℕ) (r : 
 unfolding is_unseen is_fresh
 unseen_fresh {f} {seen} {j} x r m e h =
     h ∙ all_ext (λ i. not (eqb (get_or seen i 0) x)) (λ i. not (eqb (f (i + 1)) (f (j + 1)))) j (λ i l. rw (m.seen_at i l, e))
-
--- a number without a mark is new as well
-pub new_fresh : {f : ℕ → ℕ} {marks numbers : List ℕ} {j : ℕ} (x : ℕ) (r : Bool) → Marked (key_at f) marks j → Noted f numbers j → x ≡ f (j + 1)
-    → r ≡ (eqb (get_or marks (number_key x) 0) 0 || is_unseen numbers x j) → r ≡ is_fresh f j
-new_fresh {f} {marks} {numbers} {j} x r m o e h =
-    split (eqb (get_or marks (number_key x) 0) 0)
-    (λ z. rw z at h ∙ sym (number_new f j (unmarked (number_key x) m (ap number_key e) (eqb-true _ 0 z))))
-    (λ z. unseen_fresh x r o e (rw z at h))
 
 -- looked for among the first i
 pub record Unseen (seen : List ℕ) (x n : ℕ) (u : Bool) (i : ℕ) : Type 0 where

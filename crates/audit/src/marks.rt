@@ -44,14 +44,32 @@ fn key_of(x: Id) -> usize
     (s % 4294967296 * 1865102357 + s / 4294967296 * 1300110261) as usize
 }
 
-// A mark for each value of either part of the keys seen.
+// A mark for each number below 2,048. One struct with all marks of a pass, or with the numbers seen, would be cleared at once, which takes more
+// instructions.
 #[derive(Drop)]
 struct Marks {
-    low: [u8; 2048],
-    high: [u8; 2048],
+    at: [u8; 2048],
 }
 
-// Where the marks of a key stand: the place of either part.
+impl Marks {
+    // Whether k is marked.
+    fn has(&self, k: usize) -> bool
+        requires { k < 2048 }
+        ensures { result ≡ not (slice_index self.now.at k == 0) }
+    {
+        self.at[k] != 0
+    }
+
+    // Marks k.
+    fn put(&mut self, k: usize)
+        requires { k < 2048 }
+        ensures { self.new.at ≡ set self.old.at k 1 }
+    {
+        self.at[k] = 1;
+    }
+}
+
+// The two parts of a key, each of which names a mark.
 fn low_part(key: usize) -> usize
     ensures { (result ≡ low_part key) × (result < 2048) }
 {
@@ -62,23 +80,6 @@ fn high_part(key: usize) -> usize
     ensures { (result ≡ high_part key) × (result < 2048) }
 {
     key / 34359738368 % 2048
-}
-
-impl Marks {
-    // Whether both marks of a key are there.
-    fn are_there(&self, key: usize) -> bool
-        ensures { result ≡ (not (slice_index self.now.low (low_part key) == 0) && not (slice_index self.now.high (high_part key) == 0)) }
-    {
-        (self.low[low_part(key)] != 0) & (self.high[high_part(key)] != 0)
-    }
-
-    // Puts them there.
-    fn put(&mut self, key: usize)
-        ensures { (self.new.low ≡ set self.old.low (low_part key) 1) × (self.new.high ≡ set self.old.high (high_part key) 1) }
-    {
-        self.low[low_part(key)] = 1;
-        self.high[high_part(key)] = 1;
-    }
 }
 
 // Whether the ClOrdID of record j + 1 is that of no record before it, j of n that are filled with orders.
@@ -115,14 +116,14 @@ pub fn has_ids(t: &[u8], n: usize) -> bool
     if n == 0 {
         return true;
     }
-    let mut marks = Marks {
-        low: [0; 2048],
-        high: [0; 2048],
-    };
+    let mut low = Marks { at: [0; 2048] };
+    let mut high = Marks { at: [0; 2048] };
     let mut old: u64 = 0;
     for j in 0..n {
         let key = key_of(id_at(t, j + 1));
-        if marks.are_there(key) {
+        let a = low_part(key);
+        let b = high_part(key);
+        if low.has(a) & high.has(b) {
             old = old.wrapping_add(1);
             if let Some(distinct) = are_chosen(t, n, old) {
                 return distinct;
@@ -131,7 +132,8 @@ pub fn has_ids(t: &[u8], n: usize) -> bool
                 return false;
             }
         }
-        marks.put(key);
+        low.put(a);
+        high.put(b);
     }
     true
 }
@@ -148,32 +150,6 @@ fn is_unseen(seen: &[u32; 256], n: usize, x: u32) -> bool
     unseen
 }
 
-// Numbers seen, and a mark for each value of their key.
-#[derive(Drop)]
-struct Seen {
-    marks: [u8; 2048],
-    numbers: [u32; 256],
-}
-
-impl Seen {
-    // Whether x is none of the first n numbers; they are looked through only where the mark of its key is there.
-    fn is_new(&self, n: usize, x: u64) -> bool
-        requires { (n ≤ 255) × (x < 4294967296) }
-        ensures { result ≡ (slice_index self.now.marks (number_key x) == 0 || is_unseen self.now.numbers x n) }
-    {
-        (self.marks[(x % 2048) as usize] == 0) || is_unseen(&self.numbers, n, x as u32)
-    }
-
-    // Adds x as number n.
-    fn add(&mut self, n: usize, x: u64)
-        requires { (n ≤ 255) × (x < 4294967296) }
-        ensures { (self.new.marks ≡ set self.old.marks (number_key x) 1) × (self.new.numbers ≡ set self.old.numbers n x) }
-    {
-        self.marks[(x % 2048) as usize] = 1;
-        self.numbers[n] = x as u32;
-    }
-}
-
 // Whether the numbers at byte p of the first n records are distinct and below the next number.
 fn are_fresh(t: &[u8], p: usize, n: usize, next: u64) -> bool
     requires { (length t.now ≡ table_bytes) × (p ≤ 124) × (n ≤ 255) }
@@ -182,19 +158,19 @@ fn are_fresh(t: &[u8], p: usize, n: usize, next: u64) -> bool
     if n == 0 {
         return true;
     }
-    let mut seen = Seen {
-        marks: [0; 2048],
-        numbers: [0; 256],
-    };
+    let mut marks = Marks { at: [0; 2048] };
+    let mut seen = [0u32; 256];
     for j in 0..n {
         let x = four_at(t, places::RECORD * (j + 1) + p);
         if next <= x {
             return false;
         }
-        if !seen.is_new(j, x) {
+        let key = (x % 2048) as usize;
+        if marks.has(key) && !is_unseen(&seen, j, x as u32) {
             return false;
         }
-        seen.add(j, x);
+        marks.put(key);
+        seen[j] = x as u32;
     }
     true
 }

@@ -21,17 +21,20 @@ use table::entries::mpid_at;
 use table::places;
 use table::record::{capacity, classification, four_at, load, order_id};
 
-// The records of a table, with what an order is checked against: what the market trades, the characters of texts, and the number of MPIDs.
+// The records of a table, with what an order is checked against: what the market trades, its highest level, the characters
+// of texts, and the number of MPIDs.
 #[derive(Drop)]
 struct Records<'a> {
     table: &'a [u8],
     instrument: Instrument,
-    characters: Characters,
+    top: u64,
+    characters: &'a Characters,
     mpids: usize,
     ghost long: { length table.now ≡ table_bytes },
     ghost traded: { instrument ≡ instrument_of table.now },
-    ghost low: { characters.low ≡ bounds_of 32 },
-    ghost span: { characters.span ≡ bounds_of 94 },
+    ghost highest_level: { top ≡ highest instrument },
+    ghost low: { characters.now.low ≡ bounds_of 32 },
+    ghost span: { characters.now.span ≡ bounds_of 94 },
     ghost listed: { mpids ≡ entries table.now },
     ghost few: { mpids ≤ 8 },
 }
@@ -141,8 +144,9 @@ fn highest(q: Instrument) -> u64
     }
 }
 
-// Whether each number of an order is in its range.
-fn is_ranged(q: Instrument, o: Order) -> bool
+// Whether each number of an order is in its range; top is the market's highest level.
+fn is_ranged(q: Instrument, top: u64, o: Order) -> bool
+    requires { top ≡ highest q }
     ensures { result ≡ is_ranged q o }
 {
     if !is_side(q, o.side) {
@@ -151,7 +155,7 @@ fn is_ranged(q: Instrument, o: Order) -> bool
     if !is_timed(o) {
         return false;
     }
-    (1 <= o.level) & (o.level <= highest(q)) & (1 <= o.qty) & (o.qty <= 999999999) & (1 <= o.place)
+    (1 <= o.level) & (o.level <= top) & (1 <= o.qty) & (o.qty <= 999999999) & (1 <= o.place)
 }
 
 // Whether an MPID is none, or one of the n that are listed. All places of the list are looked at, so that no way out depends on where it
@@ -207,12 +211,12 @@ fn is_shut(o: Order) -> bool
     (o.canceled == 0) | (o.qty <= used(o))
 }
 
-// Whether the sum is what the executed quantity can come to at levels up to the market's highest.
-fn is_priced(q: Instrument, o: Order) -> bool
-    requires { Narrow o }
+// Whether the sum is what the executed quantity can come to at levels up to top, the market's highest.
+fn is_priced(q: Instrument, top: u64, o: Order) -> bool
+    requires { Narrow o × (top ≡ highest q) }
     ensures { result ≡ is_priced q o }
 {
-    (o.executed <= o.sum) & (o.sum <= o.executed * highest(q))
+    (o.executed <= o.sum) & (o.sum <= o.executed * top)
 }
 
 impl Records<'_> {
@@ -226,7 +230,7 @@ impl Records<'_> {
         if !self.characters.is_text(t, b, 1, places::CL_ORD_ID_ROOM) {
             return false;
         }
-        if !is_account(&self.characters, t, b + places::ACCOUNT) {
+        if !is_account(self.characters, t, b + places::ACCOUNT) {
             return false;
         }
         if !is_marked(self.instrument, t, i) {
@@ -253,10 +257,10 @@ impl Records<'_> {
         if !is_shut(o) {
             return false;
         }
-        if !is_priced(self.instrument, o) {
+        if !is_priced(self.instrument, self.top, o) {
             return false;
         }
-        if !is_ranged(self.instrument, o) {
+        if !is_ranged(self.instrument, self.top, o) {
             return false;
         }
         is_known(self.table, self.mpids, o.mpid)
@@ -268,10 +272,12 @@ pub fn has_orders(q: Instrument, t: &[u8], n: usize, m: usize) -> bool
     requires { (length t.now ≡ table_bytes) × (q ≡ instrument_of t.now) × (n ≡ entries t.now) × (n ≤ 8) × (m ≡ filled t.now) × (m ≤ 255) }
     ensures { result ≡ has_orders t.now }
 {
+    let characters = Characters::between(b' ', b'~');
     let records = Records {
         table: t,
         instrument: q,
-        characters: Characters::between(b' ', b'~'),
+        top: highest(q),
+        characters: &characters,
         mpids: n,
     };
     for k in 0..m {

@@ -148,31 +148,34 @@ downs_more {t} {sums} {turns} {p} {n} {x} {y} d l m e f =
       turn = set_one turns (λ c. turned t (p + c) 16) n y m f d.turn;
     }
 
--- ---- what the columns come to: c of them are added
-pub record Came (sums turns : List ℕ) (r c : ℕ) : Type 0 where
+-- ---- what the columns come to: c of them are added, and w is their number
+pub record Came (sums turns : List ℕ) (r c w : ℕ) : Type 0 where
   pub within : c ≤ 32
+  pub counted : w ≡ c
   pub come : r ≡ sum_to (column_part sums turns) c
   pub most : r ≤ 4194240 * c
 
-pub came_none : {sums turns : List ℕ} → Came sums turns 0 0
-came_none {sums} {turns} = record { within = omega arith; come = sym (sum_none (column_part sums turns)); most = omega arith }
+pub came_none : {sums turns : List ℕ} → Came sums turns 0 0 0
+came_none {sums} {turns} = record { within = omega arith; counted = refl; come = sym (sum_none (column_part sums turns)); most = omega arith }
 
 -- a sum of a column times its position is small
 pub part_small : (w y : ℕ) → w < 33 → y < 65536 → w * y ≤ 2097120
 part_small w y h l = mul-le-mul {n₁ = w} {m₁ = y} {n₂ = 32} {m₂ = 65535} (omega arith) (omega arith)
 
-pub came_more : {sums turns : List ℕ} {r c x y : ℕ} → Came sums turns r c → c < 32 → x ≡ get_or turns c 0 → x < 65536 → y ≡ get_or sums c 0 → y < 65536
-    → Came sums turns (r + (32 * x + (1 + c) * y)) (c + 1)
+pub came_more : {sums turns : List ℕ} {r c w x y : ℕ} → Came sums turns r c w → c < 32 → x ≡ get_or turns c 0 → x < 65536 → y ≡ get_or sums c 0 → y < 65536
+    → Came sums turns (r + (32 * x + (w + 1) * y)) (c + 1) (w + 1)
 unfolding column_part
-came_more {sums} {turns} {r} {c} {x} {y} a l e s f u =
-    let b : (1 + c) * y ≤ 2097120 = part_small (1 + c) y (omega arith) u in
+came_more {sums} {turns} {r} {c} {w} {x} {y} a l e s f u =
+    let z : w + 1 ≡ 1 + c = omega (arith, a.counted) in
+    let b : (w + 1) * y ≤ 2097120 = part_small (w + 1) y (omega (arith, a.counted)) u in
     record {
       within = omega arith;
-      come = rw (a.come, e, f) (sym (sum_more (column_part sums turns) c));
+      counted = omega (arith, a.counted);
+      come = rw (a.come, z, e, f) (sym (sum_more (column_part sums turns) c));
       most = omega (arith, a.most);
     }
 
-pub came_end : {sums turns : List ℕ} {r c : ℕ} → Came sums turns r c → 32 ≤ c → r ≡ sum_to (column_part sums turns) 32
+pub came_end : {sums turns : List ℕ} {r c w : ℕ} → Came sums turns r c w → 32 ≤ c → r ≡ sum_to (column_part sums turns) 32
 came_end {c = c} a l =
     let e : c ≡ 32 = omega (arith, a.within) in
     rw e at a.come

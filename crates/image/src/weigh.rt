@@ -18,6 +18,13 @@ struct Added {
     turned: u16,
 }
 
+// A number of a column as a wider one, with the bound that adding up asks for.
+fn wider(x: u16) -> u32
+    ensures { (result ≡ x) × (result < 65536) }
+{
+    x as u32
+}
+
 // The column from place p on, from its last row up: what is summed so far counts once more for each row above it.
 fn column(t: &[u8], p: usize) -> Added
     requires { p + 481 ≤ length t.now }
@@ -32,13 +39,18 @@ fn column(t: &[u8], p: usize) -> Added
     Added { sum, turned }
 }
 
-// What the columns come to: each row is 32 positions behind the one above it, each column one behind the one before.
+// What the columns come to: each row is 32 positions behind the one above it, each column one behind the one before. With a `for` the
+// compiler takes 64 instructions more for a block.
 fn come_to(sums: &[u16; 32], turns: &[u16; 32]) -> u32
     ensures { result ≡ sum_to (column_part sums.now turns.now) 32 }
 {
     let mut r: u32 = 0;
-    for c in 0..COLUMNS {
-        r = r + (32 * u32::from(turns[c]) + (1 + c as u32) * u32::from(sums[c]));
+    let mut c = 0;
+    let mut w: u32 = 0;
+    while c < COLUMNS {
+        w += 1;
+        r = r + (32 * wider(turns[c]) + w * wider(sums[c]));
+        c += 1;
     }
     r
 }

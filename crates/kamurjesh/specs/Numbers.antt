@@ -1,14 +1,14 @@
 -- The numbers that the C interface gives for a level that Depth finds, for the place of a field and for the bad block of an image, each 0
 -- where there is nothing to say (document 01, "The table and its calls"; document 02, T-08 and T-12). The yield is signed, in thousandths;
 -- so is the price, in tenths, though it is never below zero. Assumes nothing.
-use Rattle.std.specs.Prelude.{ℕ, ℤ, pos, Option, Some, None, Ok, Err}
+use Rattle.std.specs.Prelude.{ℕ, ℤ, pos, Option, Some, None, Result, Ok, Err}
 use Rattle.std.proofs.Math.IntN.{sub_ℕ}
 use Rattle.decimal.specs.declared.Instrument.{Instrument}
 use Rattle.decimal.specs.declared.Instrument.TheVariants.{Bonds, Equities}
 use Rattle.matching.specs.declared.Level.{Level}
 use Rattle.market.specs.Depth.{DepthAnswer}
-use Rattle.image.specs.declared.RestoreAnswer.{RestoreAnswer}
-use Rattle.image.specs.declared.RestoreAnswer.TheVariants as restore
+use Rattle.refusals.specs.declared.Refusal.{Refusal}
+use Rattle.refusals.specs.declared.Refusal.TheVariants.{BadBlock}
 use Rattle.report.specs.declared.Part.{Part}
 use Rattle.report.specs.declared.Part.TheVariants.{At, Nowhere}
 
@@ -44,8 +44,6 @@ len_of Nowhere = 0
 
 -- ---- the bad block of an image, which counts from 0
 
-abbrev pub bad_block : RestoreAnswer → ℕ
-bad_block restore.BadLength = 0
-bad_block (restore.BadBlock k) = k
-bad_block restore.NoMarket = 0
-bad_block restore.Restored = 0
+abbrev pub bad_block : Result (Unit {0}) Refusal → ℕ
+bad_block (Err (BadBlock k)) = k
+bad_block _ = 0

@@ -6,40 +6,16 @@ ghost use Rattle.image.specs.Answers.{saved_answer, save_number, image_after, re
 ghost use Rattle.kamurjesh.specs.Numbers.{bad_block};
 
 use decimal::Instrument;
-use image::{RestoreAnswer, SaveAnswer, restore, save};
-
-// The paper's number of what writing answers.
-fn save_number(answer: SaveAnswer) -> u64
-    ensures { result ≡ save_number answer }
-{
-    match answer {
-        SaveAnswer::BadLength => 12,
-        SaveAnswer::NoMarket => 2,
-        SaveAnswer::Saved => 0,
-    }
-}
-
-// The paper's number of what reading answers.
-fn restore_number(answer: RestoreAnswer) -> u64
-    ensures { result ≡ restore_number answer }
-{
-    match answer {
-        RestoreAnswer::BadLength => 12,
-        RestoreAnswer::BadBlock(_) => 13,
-        RestoreAnswer::NoMarket => 2,
-        RestoreAnswer::Restored => 0,
-    }
-}
+use image::{restore, save};
+use refusals::{Refusal, answer_number};
 
 // The number of the bad block, 0 where there is none.
-fn bad_block(answer: RestoreAnswer) -> u64
+fn bad_block(answer: Result<(), Refusal>) -> u64
     ensures { result ≡ bad_block answer }
 {
     match answer {
-        RestoreAnswer::BadLength => 0,
-        RestoreAnswer::BadBlock(k) => k as u64,
-        RestoreAnswer::NoMarket => 0,
-        RestoreAnswer::Restored => 0,
+        Err(Refusal::BadBlock(k)) => k as u64,
+        _ => 0,
     }
 }
 
@@ -48,7 +24,7 @@ pub fn save_of(q: Instrument, table: &[u8], image: &mut [u8]) -> u64
     ensures { (result ≡ save_number (saved_answer q table.now image.old))
         × (image.new ≡ image_after q table.now image.old) }
 {
-    save_number(save(q, table, image))
+    answer_number(&save(q, table, image))
 }
 
 // Reads a market back from its image: 0, or a refusal with nothing changed but the number of the bad block.
@@ -59,7 +35,7 @@ pub fn restore_of(q: Instrument, table: &mut [u8], image: &[u8], block: &mut u64
 {
     let answer = restore(q, table, image);
     *block = bad_block(answer);
-    restore_number(answer)
+    answer_number(&answer)
 }
 
 // Writes the image of a market of bonds: 0, or a refusal with nothing changed.

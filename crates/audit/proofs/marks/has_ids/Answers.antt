@@ -1,11 +1,11 @@
 -- `audit::has_ids` meets its contract: the ClOrdIDs passed are distinct, and both parts of their keys have marks.
-use Rattle.std.proofs.Common.{◌≡◌, ℕ, true, refl, sym, ap, ◌∙◌, arith}
+use Rattle.std.proofs.Common.{◌≡◌, ℕ, true, refl, sym, ap, ◌∙◌}
 use Rattle.octets.proofs.Ranges.{passed_none, passed_more, passed_stop, passed_end}
 use Rattle.table.specs.Market.{is_fresh_id, has_ids}
 use Rattle.audit.specs.Checking.{key_of, low_part, high_part}
 use Rattle.audit.proofs.Marked.{none_ids, marked_none, marked_more, id_key, low_key, high_key, id_unmarked}
 use Rattle.audit.proofs.marks.has_ids.Goals as goal
-use Rattle.audit.proofs.marks.has_ids.Goals.{then-are_there+in_default+else-not-is_fresh_id, else-are_there}
+use Rattle.audit.proofs.marks.has_ids.Goals.{then-has+in_default+else-not-is_fresh_id, else-has}
 
 pub returns-then-n-eq0 : goal.returns-then-n-eq0
 returns-then-n-eq0 c = none_ids _ _ c.requires.1 c.if-n-eq0.true
@@ -25,19 +25,18 @@ loop-j-preserved c =
     let t = c.args.t.now in
     let l = c.loop-j.invariant in
     let j : ℕ = c.loop-j.j in
-    let k : ℕ = c.key_of-key.result in
-    let e : k ≡ id_key t j = c.key_of-key.ensures ∙ ap key_of c.id_at.ensures in
-    let x : low_part k ≡ low_key t j = ap low_part e in
-    let y : high_part k ≡ high_key t j = ap high_part e in
+    let e : c.key_of-key.result ≡ id_key t j = c.key_of-key.ensures ∙ ap key_of c.id_at.ensures in
+    let x : c.low_part-a.result ≡ low_key t j = c.low_part-a.ensures.0 ∙ ap low_part e in
+    let y : c.high_part-b.result ≡ high_key t j = c.high_part-b.ensures.0 ∙ ap high_part e in
     let m = c.loop-j-test.true in
     let h : is_fresh_id t j ≡ true =
-    elim c.if-are_there.branch [
-      | then-are_there+in_default+else-not-is_fresh_id w ↦ sym w.is_fresh_id.ensures ∙ w.if-not-is_fresh_id.false
-      | else-are_there w ↦ id_unmarked t p.0 _ p.1 p.2 p.3 j (low_part k) (high_part k) m l.1 l.2 x y (sym c.are_there.ensures ∙ w.if-are_there.false)
+    elim c.if-has.branch [
+      | then-has+in_default+else-not-is_fresh_id w ↦ sym w.is_fresh_id.ensures ∙ w.if-not-is_fresh_id.false
+      | else-has w ↦ id_unmarked t p.0 _ p.1 p.2 p.3 j _ _ _ _ m l.1 l.2 x y c.has.ensures c.has-in-loop-j.ensures w.if-has.false
     ] in (
       passed_more l.0 m h,
-      rw c.put.ensures.0 (marked_more _ l.1 x (omega arith)),
-      rw c.put.ensures.1 (marked_more _ l.2 y (omega arith)),
+      rw c.put.ensures (marked_more _ l.1 x c.low_part-a.ensures.1),
+      rw c.put-in-loop-j.ensures (marked_more _ l.2 y c.high_part-b.ensures.1),
     )
 
 pub returns : goal.returns

@@ -5,4 +5,4 @@ use Rattle.audit.proofs.Marked.{Marked, low_key, high_key}
 use Rattle.audit.proofs.marks.has_ids.Given as goal
 
 abbrev pub invariant-loop-j : goal.invariant-loop-j
-invariant-loop-j l = Passed (is_fresh_id l.t) l.n l.j × Marked (low_key l.t) l.marks.low l.j × Marked (high_key l.t) l.marks.high l.j
+invariant-loop-j l = Passed (is_fresh_id l.t) l.n l.j × Marked (low_key l.t) l.low.at l.j × Marked (high_key l.t) l.high.at l.j

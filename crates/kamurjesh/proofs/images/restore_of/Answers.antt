@@ -7,4 +7,4 @@ use Rattle.kamurjesh.proofs.images.restore_of.Goals as goal
 pub returns : goal.returns
 returns c =
     let answer = c.restore-answer.ensures in
-    (c.restore_number.ensures ∙ ap restore_number answer.0, c.bad_block.ensures ∙ ap bad_block answer.0, answer.1)
+    (c.answer_number.ensures ∙ ap restore_number answer.0, c.bad_block.ensures ∙ ap bad_block answer.0, answer.1)

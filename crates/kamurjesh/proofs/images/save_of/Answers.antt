@@ -6,4 +6,4 @@ use Rattle.kamurjesh.proofs.images.save_of.Goals as goal
 pub returns : goal.returns
 returns c =
     let answer = c.save.ensures in
-    (c.save_number.ensures ∙ ap save_number answer.0, answer.1)
+    (c.answer_number.ensures ∙ ap save_number answer.0, answer.1)
