@@ -1,4 +1,5 @@
-// What is printed for a table: a heading, then a line for each level, the buys before the sells, the best first.
+// What is printed for a table: a heading, then a line for each level, the buys before the sells, the best first. It is written into a
+// buffer, and not through Display, since what Display writes no contract can name, and the program's contract names each byte.
 ghost use Rattle.std.specs.Prelude.{◌≡◌, ◌+◌, ◌≤◌, ◌<◌, length};
 ghost use Rattle.octets.specs.Written.{Room, Wrote};
 ghost use Rattle.table.specs.Heading.{instrument_of};
@@ -61,15 +62,13 @@ fn put_side(q: Instrument, t: &[u8], n: usize, out: &mut [u8], at: usize, side: 
 {
     let mut next = at;
     let mut x = next_level(t, n, side, 0);
-    let mut k = 0;
-    while k < n {
+    for _ in 0..n {
         if x == 0 {
             return next;
         }
         let s = sums(t, n, side, x);
         next = put_line(out, next, q, side, x, s.total, s.orders);
         x = next_level(t, n, side, x);
-        k += 1;
     }
     next
 }

@@ -1,6 +1,7 @@
 // The program `book`: reads standard input to its end, and prints the sheet of the market that its lines leave. The market trades bonds;
 // with the argument --equities it trades equities.
 ghost use Rattle.std.specs.Prelude.{◌≡◌, ◌≤◌, length};
+ghost use Rattle.std.specs.Option.{unwrap_or};
 ghost use Rattle.book.specs.Book.{area_bytes, traded, rehearsal};
 ghost use Rattle.book.specs.Reading.{line_bytes, Held, Came, Printed};
 
@@ -8,25 +9,18 @@ use crate::print::write_sheet;
 use crate::take::{take_bytes, take_end};
 use decimal::Instrument;
 use market::open;
-use octets::{part_at, same};
+use octets::part_at;
 use std::io::{Read, Result};
 use std::rt::Env;
 
-// How many bytes of a line are held after a read, and whether there may be more to read.
-#[derive(Clone, Copy)]
-struct Chunk {
-    held: usize,
-    more: bool,
-}
-
-// The market of the program, with the code of its bond or the symbol of its share.
-fn open_coded(q: Instrument, t: &mut [u8], code: &[u8])
-    requires { (length t.old ≡ 32768) × (code.now ≡ traded q) }
-    ensures { t.new ≡ rehearsal q }
+// The code of the bond that the program's market trades, or the symbol of its share.
+fn code_of(q: Instrument) -> &'static [u8]
+    ensures { result.now ≡ traded q }
 {
-    let mpids = [10u64, 11, 12, 13, 14];
-    let modes = [1u64, 1, 1, 1, 1];
-    open(q, t, b"V", b"P", code, 1, &mpids, &modes);
+    match q {
+        Instrument::Bonds => b"350",
+        Instrument::Equities => b"7203",
+    }
 }
 
 // The market of the program.
@@ -34,23 +28,19 @@ fn open_rehearsal(q: Instrument, t: &mut [u8])
     requires { length t.old ≡ 32768 }
     ensures { t.new ≡ rehearsal q }
 {
-    match q {
-        Instrument::Bonds => open_coded(q, t, b"350"),
-        Instrument::Equities => open_coded(q, t, b"7203"),
-    }
+    let mpids = [10u64, 11, 12, 13, 14];
+    let modes = [1u64, 1, 1, 1, 1];
+    open(q, t, b"V", b"P", code_of(q), 1, &mpids, &modes);
 }
 
 // Reads a part of the input, and gives how many bytes that are: none at its end, which a read that fails is taken for.
 fn read_part(input: &mut impl Read, part: &mut [u8]) -> usize
     ensures { result ≤ length part.new }
 {
-    match input.read(part) {
-        Ok(n) => n,
-        Err(_) => 0,
-    }
+    input.read(part).unwrap_or(0)
 }
 
-// Reads a part of the input and takes its bytes.
+// Reads a part of the input and takes its bytes. How many bytes of the line are held then is given back, if there may be more to read.
 fn read_some(
     input: &mut impl Read,
     q: Instrument,
@@ -58,20 +48,17 @@ fn read_some(
     line: &mut [u8],
     held: usize,
     area: &mut [u8],
-) -> Chunk
+) -> Option<usize>
     requires { Held line.old held × (length area.old ≡ area_bytes) }
-    ensures { Came q t.old line.old held t.new line.new result.held × (length area.new ≡ area_bytes) }
+    ensures came { Came q t.old line.old held t.new line.new (unwrap_or result held) }
+    ensures area { length area.new ≡ area_bytes }
 {
     let mut b = [0u8; 65536];
     let n = read_part(input, &mut b);
     if n == 0 {
-        return Chunk { held, more: false };
+        return None;
     }
-    let h = take_bytes(q, t, line, held, area, &b[..n]);
-    Chunk {
-        held: h,
-        more: true,
-    }
+    Some(take_bytes(q, t, line, held, area, &b[..n]))
 }
 
 // Reads the input to its end and takes its bytes, in more turns than any run uses up.
@@ -87,11 +74,10 @@ fn read_all(
 {
     let mut held = 0;
     for _ in 0..u64::MAX {
-        let c = read_some(input, q, t, line, held, area);
-        held = c.held;
-        if !c.more {
+        let Some(more) = read_some(input, q, t, line, held, area) else {
             return held;
-        }
+        };
+        held = more;
     }
     held
 }
@@ -121,10 +107,10 @@ fn asked(rt: &impl Env) -> Instrument {
 
 // What the market trades that is asked for by this word: bonds, unless it is --equities.
 fn traded_at(word: &[u8]) -> Instrument {
-    if same(word, b"--equities") {
-        return Instrument::Equities;
+    match word {
+        b"--equities" => Instrument::Equities,
+        _ => Instrument::Bonds,
     }
-    Instrument::Bonds
 }
 
 // All that the program does.

@@ -21,10 +21,8 @@ fn byte_for(c: u8) -> u8
 fn as_message(line: &mut [u8])
     ensures { line.new ≡ message_of line.old }
 {
-    let mut i = 0;
-    while i < line.len() {
-        line[i] = byte_for(line[i]);
-        i += 1;
+    for c in line.iter_mut() {
+        *c = byte_for(*c);
     }
 }
 
@@ -74,10 +72,8 @@ pub fn take_bytes(
     ensures { Onward q t.old line.old held part.now t.new line.new result × (length area.new ≡ area_bytes) }
 {
     let mut n = held;
-    let mut i = 0;
-    while i < part.len() {
-        n = take_byte(q, t, line, n, area, part[i]);
-        i += 1;
+    for c in part {
+        n = take_byte(q, t, line, n, area, *c);
     }
     n
 }

@@ -1,4 +1,5 @@
-// The rows of the seven kinds of report, each a table of its fields.
+// The rows of the seven kinds of report, each a table of its fields. Numbers that stand for kinds (851, 434, 103 and the like) are FIX's
+// own and are written as they are; OrderID 0 is that of no order, as the definitions have it.
 #![tactic(auto)]
 
 pub mod telling;

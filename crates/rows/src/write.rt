@@ -1,5 +1,6 @@
 // The bytes of an execution report's row, part by part. Each function answers the place behind what it wrote. The bytes of the message
 // (`sent`) and of the table (`stored`) stay two parameters: report::write takes two, so that a struct would be taken apart at each call.
+// The same goes for where is written (`out`, `at`).
 ghost use Rattle.std.specs.Prelude.{[], ◌∷◌, ◌+◌, ◌%◌};
 ghost use Rattle.octets.specs.Written.{Room, Wrote};
 ghost use Rattle.matching.specs.Held.{Covered, Sound};

@@ -6,5 +6,5 @@ use Rattle.book.proofs.program.read_all.Goals as goal
 pub loop-preserved : goal.loop-preserved
 loop-preserved g c = search (rules, sofar_more)
 
-pub returns-then-not-c : goal.returns-then-not-c
-returns-then-not-c g c = (search (rules, came_then), search rules)
+pub returns-in_default : goal.returns-in_default
+returns-in_default g c = (search (rules, came_then), search rules)

@@ -3,8 +3,8 @@ use borrow.Author.Rules.{rules}
 use Rattle.book.proofs.Messages.{changed_one, changed_all}
 use Rattle.book.proofs.take.as_message.Goals as goal
 
-pub loop-i-preserved : goal.loop-i-preserved
-loop-i-preserved c = search (rules, changed_one)
+pub loop-c-preserved : goal.loop-c-preserved
+loop-c-preserved c = search (rules, changed_one)
 
 pub returns : goal.returns
 returns c = search (rules, changed_all)

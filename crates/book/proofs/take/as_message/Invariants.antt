@@ -1,11 +1,6 @@
--- `book::take::as_message` meets its contract: the first i characters are changed, and changing the rest gives the message.
-use Prim.Native.Nat.{◌-◌}
-use lib.ListN.{length}
+-- `book::take::as_message` meets its contract: the first characters are changed, and changing the rest gives the message.
 use Rattle.book.proofs.Messages.{Changed}
 use Rattle.book.proofs.take.as_message.Given as goal
 
-abbrev pub invariant-loop-i : goal.invariant-loop-i
-invariant-loop-i l = Changed l.initial.line l.line l.i
-
-abbrev pub decreases-loop-i : goal.decreases-loop-i
-decreases-loop-i l = length l.line - l.i
+abbrev pub invariant-loop-c : goal.invariant-loop-c
+invariant-loop-c l = Changed l.initial.line l.line l.c-index

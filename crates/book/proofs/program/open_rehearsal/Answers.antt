@@ -1,7 +1,7 @@
--- `book::program::open_coded` meets its contract: the settings are right.
+-- `book::program::open_rehearsal` meets its contract: the settings are right.
 use borrow.Author.Rules.{rules}
 use Rattle.book.proofs.Programs.{rehearsal_opened}
-use Rattle.book.proofs.program.open_coded.Goals as goal
+use Rattle.book.proofs.program.open_rehearsal.Goals as goal
 
 pub returns : goal.returns
 returns c = search (rules, rehearsal_opened)
