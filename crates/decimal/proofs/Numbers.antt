@@ -1,26 +1,22 @@
 -- Digits and the numbers that they say: the bounds, and what a loop over the digits wants.
 use Prim.Native.Nat.{ℕ, suc, ◌+◌, ◌-◌, ◌*◌, ◌^◌, ◌≤◌, ◌<◌}
-use mathlib.Core.Path.{◌≡◌, refl, sym, ◌∙◌}
+use mathlib.Core.Path.{◌≡◌, refl, ◌∙◌}
 use mathlib.Core.List.{List, [], ◌∷◌}
 use mathlib.Core.Bool.{Bool, true, false, cond, ◌&&◌, and-false}
 use native.Mathlib.Omega.{arith}
 use native.Mathlib.Numerals.{add-one}
-use native.Mathlib.Nat.{pow-le-pow_right, pow-suc, add-zero, zero-add, add-suc, suc-add, suc-ne-zero}
+use native.Mathlib.Nat.{pow-le-pow_right, pow-suc, add-zero, zero-add, add-suc, suc-add}
 use lib.Dec.{ltb, leb, eqb}
 use lib.ListN.{length, get_or, take, drop, length-take, drop_of_length-le}
 use lib.Seq.{drop-cons}
 use mir.Syntax.{w64}
 use mir.Val.{Fits}
 use borrow.Author.Tests.{leb-true, eqb-true, eq-eqb, ne_eqb, lt-ltb, le-leb, lt-leb}
+use Rattle.std.proofs.lemmas.Option.{cond_some}
+use Rattle.std.specs.Prelude.{Some, None}
 use Rattle.octets.proofs.Bools.{split, both_l, both_r}
-use Rattle.decimal.specs.declared.Said.TheVariants.{Value, Wrong}
 use Rattle.decimal.specs.Reading.{is_digit, digit_of, run_of, digit_run, number, number_after, is_number, num_of}
 use Rattle.decimal.proofs.Scans.{passed, run_below, run_take, scan_more, scan_stop, scan_end}
-
--- a test that passed, and the number that it lets through
-pub let_through : (t : Bool) (n m : ℕ) → cond t (Value n) Wrong ≡ Value m → (t ≡ true) × (n ≡ m)
-let_through true n m e = (refl, cc)
-let_through false n m e = let z : ◌≡◌ {A = ℕ} 0 1 = cc in absurd (suc-ne-zero 0 (sym z))
 
 -- ---- digits
 pub digit_low : (b : ℕ) → is_digit b ≡ true → 48 ≤ b
@@ -121,7 +117,7 @@ module _ (s : List ℕ) (n i d : ℕ) (inv : Tried s n i) (h : i < length s) (e 
         said = rw z (inv.said ∙ number_more n s i h);
       }
 
-  pub tried_wrong : (m : ℕ) → 9 < d → Wrong ≡ num_of m s
+  pub tried_wrong : (m : ℕ) → 9 < d → None ≡ num_of m s
   unfolding num_of is_number
   tried_wrong m b =
       let r : i ≡ digit_run s = scan_stop is_digit s i (inv.within, inv.run) h (digit_none (get_or s i 0) d e b) in
@@ -129,15 +125,15 @@ module _ (s : List ℕ) (n i d : ℕ) (inv : Tried s n i) (h : i < length s) (e 
 
 -- ---- what 1 to n digits say
 module _ (m : ℕ) (s : List ℕ) where
-  pub num_empty : length s ≡ 0 → Wrong ≡ num_of m s
+  pub num_empty : length s ≡ 0 → None ≡ num_of m s
   unfolding num_of is_number
   num_empty h = simp h
 
-  pub num_long : m < length s → Wrong ≡ num_of m s
+  pub num_long : m < length s → None ≡ num_of m s
   unfolding num_of is_number
   num_long h = simp (lt-leb (length s) m h, and-false)
 
-  pub num_is : (n i : ℕ) → (length s ≡ 0 → ⊥) → length s ≤ m → Tried s n i → length s ≤ i → Value n ≡ num_of m s
+  pub num_is : (n i : ℕ) → (length s ≡ 0 → ⊥) → length s ≤ m → Tried s n i → length s ≤ i → Some n ≡ num_of m s
   unfolding num_of is_number
   num_is n i p q inv h =
       let r : digit_run s ≡ length s = omega (arith, scan_end is_digit s i (inv.within, inv.run) h, inv.within) in
@@ -145,10 +141,10 @@ module _ (m : ℕ) (s : List ℕ) where
       simp (lt-ltb 0 (length s) (omega arith), le-leb (length s) m q, eq-eqb (digit_run s) (length s) r, z)
 
 -- a number of 1 to m digits is below the power of ten of its length, and of m
-module _ (m : ℕ) (s : List ℕ) (n : ℕ) (e : num_of m s ≡ Value n) where
+module _ (m : ℕ) (s : List ℕ) (n : ℕ) (e : num_of m s ≡ Some n) where
   tested : (is_number m s ≡ true) × (number s ≡ n)
   unfolding num_of
-  tested = let_through (is_number m s) (number s) n e
+  tested = cond_some (is_number m s) (number s) n e
 
   pub num_length : length s ≤ m
   unfolding is_number

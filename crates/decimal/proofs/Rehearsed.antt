@@ -2,9 +2,9 @@
 use mathlib.Core.Path.{◌≡◌, refl}
 use mathlib.Core.Bool.{true, false}
 use Prim.Native.Nat.{ℕ}
+use Rattle.std.specs.Prelude.{Some, None}
 use Rattle.octets.specs.Characters.{bytes}
 use Rattle.decimal.specs.declared.Instrument.TheVariants.{Bonds, Equities}
-use Rattle.decimal.specs.declared.Said.TheVariants.{Value, Wrong}
 use Rattle.decimal.specs.Reading.{is_digit, digit_of, run_of, number_after, is_number, num_of, fraction_of, size_of, level_of, is_time_length, two_at, time_shaped, time_ranged, is_time}
 
 opened : ℕ
@@ -12,68 +12,68 @@ unfolding is_digit digit_of run_of number_after is_number num_of fraction_of siz
 opened = 0
 
 -- -0.005 (case 9) is five thousandths below the level of zero
-pub case_9 : level_of Bonds (bytes "-0.005") ≡ Value 999999995
+pub case_9 : level_of Bonds (bytes "-0.005") ≡ Some 999999995
 unfolding opened
 case_9 = refl
 
 -- -0 and -0.000 are zero
-pub minus_zero : level_of Bonds (bytes "-0") ≡ Value 1000000000
+pub minus_zero : level_of Bonds (bytes "-0") ≡ Some 1000000000
 unfolding opened
 minus_zero = refl
 
-pub minus_zeros : level_of Bonds (bytes "-0.000") ≡ Value 1000000000
+pub minus_zeros : level_of Bonds (bytes "-0.000") ≡ Some 1000000000
 unfolding opened
 minus_zeros = refl
 
 -- "1." and four decimals are no yield
-pub bare_point : level_of Bonds (bytes "1.") ≡ Wrong
+pub bare_point : level_of Bonds (bytes "1.") ≡ None
 unfolding opened
 bare_point = refl
 
-pub four_decimals : level_of Bonds (bytes "0.0000") ≡ Wrong
+pub four_decimals : level_of Bonds (bytes "0.0000") ≡ None
 unfolding opened
 four_decimals = refl
 
 -- 0.5 is five hundred thousandths
-pub one_decimal : level_of Bonds (bytes "0.5") ≡ Value 1000000500
+pub one_decimal : level_of Bonds (bytes "0.5") ≡ Some 1000000500
 unfolding opened
 one_decimal = refl
 
 -- prices: 100.1, the highest, and zero; no minus, no second decimal, no ninth whole digit
-pub price : level_of Equities (bytes "100.1") ≡ Value 999998999
+pub price : level_of Equities (bytes "100.1") ≡ Some 999998999
 unfolding opened
 price = refl
 
-pub price_whole : level_of Equities (bytes "100") ≡ Value 999999000
+pub price_whole : level_of Equities (bytes "100") ≡ Some 999999000
 unfolding opened
 price_whole = refl
 
-pub price_most : level_of Equities (bytes "99999999.9") ≡ Value 1
+pub price_most : level_of Equities (bytes "99999999.9") ≡ Some 1
 unfolding opened
 price_most = refl
 
-pub price_zero : level_of Equities (bytes "0.0") ≡ Value 1000000000
+pub price_zero : level_of Equities (bytes "0.0") ≡ Some 1000000000
 unfolding opened
 price_zero = refl
 
-pub price_minus : level_of Equities (bytes "-0.1") ≡ Wrong
+pub price_minus : level_of Equities (bytes "-0.1") ≡ None
 unfolding opened
 price_minus = refl
 
-pub price_two_decimals : level_of Equities (bytes "100.10") ≡ Wrong
+pub price_two_decimals : level_of Equities (bytes "100.10") ≡ None
 unfolding opened
 price_two_decimals = refl
 
-pub price_nine_digits : level_of Equities (bytes "000000001") ≡ Wrong
+pub price_nine_digits : level_of Equities (bytes "000000001") ≡ None
 unfolding opened
 price_nine_digits = refl
 
 -- 999999999 is the largest quantity; ten digits are none
-pub nine_digits : num_of 9 (bytes "999999999") ≡ Value 999999999
+pub nine_digits : num_of 9 (bytes "999999999") ≡ Some 999999999
 unfolding opened
 nine_digits = refl
 
-pub ten_digits : num_of 9 (bytes "0000000001") ≡ Wrong
+pub ten_digits : num_of 9 (bytes "0000000001") ≡ None
 unfolding opened
 ten_digits = refl
 

@@ -12,18 +12,18 @@ use lib.Dec.{ltb, leb, eqb}
 use lib.ListN.{length, length-append, get_or, take, drop, take-append-drop}
 use lib.Seq.{take_at, drop_at, drop-cons}
 use borrow.Author.Tests.{eq-eqb, ne_eqb, lt-ltb, le-ltb, le-leb, eqb-true, eqb-false, ltb-true, not-true}
+use Rattle.std.proofs.lemmas.Option.{cond_some}
+use Rattle.std.specs.Prelude.{Option, Some, None}
 use Rattle.octets.proofs.Bools.{split, both_l, both_r, or_l, or_r}
 use Rattle.decimal.specs.declared.Instrument.{Instrument}
 use Rattle.decimal.specs.declared.Instrument.TheVariants.{Bonds, Equities}
-use Rattle.decimal.specs.declared.Said.{Said}
-use Rattle.decimal.specs.declared.Said.TheVariants.{Value, Wrong}
 use Rattle.decimal.specs.Reading.{is_digit, run_of, digit_run, number, number_after, is_number, num_of}
 use Rattle.decimal.specs.Instruments.{stands_for, highest, highest_mean}
 use Rattle.decimal.specs.Writing.{decimal, places, zero_of, plain, fixed, level_text, mean_text}
 use Rattle.decimal.specs.Canonical.{bare, bare_of, exactly_of, joined, amount_of, below_zero, above_zero, fixed_of, level_in, mean_in}
 use Rattle.decimal.proofs.Scans.{run_below, byte_within}
 use Rattle.decimal.proofs.Yields.{ten_some, under_both}
-use Rattle.decimal.proofs.Numbers.{digit_low, digit_high, number_below, num_below, let_through}
+use Rattle.decimal.proofs.Numbers.{digit_low, digit_high, number_below, num_below}
 use Rattle.decimal.proofs.Digits.{decimal_small, decimal_more, decimal_few, length_small, length_more, length_places}
 use Rattle.decimal.proofs.Afters.{digits_head, digits_tail, run_append, after_shift, said_decimal, digits_decimal, digits_places, said_places, written_places, written_decimal}
 
@@ -65,7 +65,7 @@ bare_decimal n f =
     or_true false = refl
 
 -- what was written is read back
-pub bare_back : (k n : ℕ) → n < 10 ^ suc k → n < 2 ^ 64 → bare_of (suc k) (decimal n) ≡ Value n
+pub bare_back : (k n : ℕ) → n < 10 ^ suc k → n < 2 ^ 64 → bare_of (suc k) (decimal n) ≡ Some n
 unfolding bare_of num_of is_number
 bare_back k n h f =
     rw (bare_decimal n f)
@@ -95,18 +95,18 @@ bare_is (x ∷ y ∷ s) n b e l q f =
     decimal_small (0 * 10 + (x - 48)) (omega (arith, digit_high x d)) ∙ ap (λ (k : ℕ). k ∷ []) (omega arith) in
     sym (w ∙ ap (λ (l : List ℕ). l ++ (y ∷ s)) h)
 
-both : (a b : Bool) (v n : ℕ) → cond a (cond b (Value v) Wrong) Wrong ≡ Value n → (a ≡ true) × (b ≡ true) × (v ≡ n)
+both : (a b : Bool) (v n : ℕ) → cond a (cond b (Some v) None) None ≡ Some n → (a ≡ true) × (b ≡ true) × (v ≡ n)
 both true true v n e = (refl, refl, cc)
 both true false v n e = let z : ◌≡◌ {A = ℕ} 0 1 = cc in absurd (omega arith)
 both false b v n e = let z : ◌≡◌ {A = ℕ} 0 1 = cc in absurd (omega arith)
 
 -- only what would be written is read
-module _ (m : ℕ) (s : List ℕ) (n : ℕ) (h : m ≤ 19) (e : bare_of m s ≡ Value n) where
+module _ (m : ℕ) (s : List ℕ) (n : ℕ) (h : m ≤ 19) (e : bare_of m s ≡ Some n) where
   pub bare_small : n < 10 ^ m
   unfolding bare_of num_of
   bare_small =
       let p = both (bare s) (is_number m s) (number s) n e in
-      num_below m s n (rw p.1 (ap Value p.2))
+      num_below m s n (rw p.1 (ap Some p.2))
 
   pub bare_only : s ≡ decimal n
   unfolding bare_of num_of is_number
@@ -119,16 +119,16 @@ module _ (m : ℕ) (s : List ℕ) (n : ℕ) (h : m ≤ 19) (e : bare_of m s ≡ 
       p.2 fits
 
 -- ---- exactly k digits
-pub exactly_back : (k m : ℕ) → exactly_of k (places k m) ≡ Value (number (places k m))
+pub exactly_back : (k m : ℕ) → exactly_of k (places k m) ≡ Some (number (places k m))
 unfolding exactly_of
 exactly_back k m =
     let l = length_places k m in
     simp (eq-eqb (length (places k m)) k l, eq-eqb (digit_run (places k m)) k (digits_places k m ∙ l))
 
-module _ (k : ℕ) (s : List ℕ) (b : ℕ) (e : exactly_of k s ≡ Value b) where
+module _ (k : ℕ) (s : List ℕ) (b : ℕ) (e : exactly_of k s ≡ Some b) where
   tested : (eqb (length s) k && eqb (digit_run s) k ≡ true) × (number s ≡ b)
   unfolding exactly_of
-  tested = let_through (eqb (length s) k && eqb (digit_run s) k) (number s) b e
+  tested = cond_some (eqb (length s) k && eqb (digit_run s) k) (number s) b e
 
   exactly_length : length s ≡ k
   exactly_length = eqb-true (length s) k (both_l (eqb (length s) k) (eqb (digit_run s) k) tested.0)
@@ -153,11 +153,11 @@ module _ (k : ℕ) (s : List ℕ) (b : ℕ) (e : exactly_of k s ≡ Value b) whe
   exactly_only = exactly_after 0 ∙ ap (places k) (omega arith)
 
 -- ---- amounts with k decimals
-pub record Joined (k : ℕ) (p q : Said) (m : ℕ) : Type 0 where
+pub record Joined (k : ℕ) (p q : Option ℕ) (m : ℕ) : Type 0 where
   pub whole : ℕ
   pub part : ℕ
-  pub whole_is : p ≡ Value whole
-  pub part_is : q ≡ Value part
+  pub whole_is : p ≡ Some whole
+  pub part_is : q ≡ Some part
   pub sum : whole * 10 ^ k + part ≡ m
 
 -- digits, a point, and what follows
@@ -182,7 +182,7 @@ module _ (x y : List ℕ) (e : digit_run x ≡ length x) where
       ∙ drop_at (x ++ (46 ∷ [])) y (length x + 1) (length-append x (46 ∷ []))
 
 -- a number below a power of ten has at most so many digits
-bare_most : (w n : ℕ) → 0 < w → n < 10 ^ w → n < 2 ^ 64 → bare_of w (decimal n) ≡ Value n
+bare_most : (w n : ℕ) → 0 < w → n < 10 ^ w → n < 2 ^ 64 → bare_of w (decimal n) ≡ Some n
 bare_most zero n p h f = absurd (not-suc-le-zero p)
 bare_most (suc w) n p h f = bare_back w n h f
 
@@ -193,7 +193,7 @@ decimal_most (suc w) n p h = decimal_few w n h
 whole_small : (w k m : ℕ) → m < 10 ^ k * 10 ^ w → m / 10 ^ k < 10 ^ w
 whole_small w k m h = (div-lt_iff_lt-mul {k = 10 ^ k} (ten_some k)).1 (omega (arith, h, mul_comm (10 ^ k) (10 ^ w)))
 
-pub amount_back : (w k m : ℕ) → 0 < w → m < 10 ^ k * 10 ^ w → m < 2 ^ 64 → amount_of w k (plain k m) ≡ Value m
+pub amount_back : (w k m : ℕ) → 0 < w → m < 10 ^ k * 10 ^ w → m < 2 ^ 64 → amount_of w k (plain k m) ≡ Some m
 unfolding amount_of plain
 amount_back w k m p h f =
     let a : ℕ = m / 10 ^ k in
@@ -203,12 +203,12 @@ amount_back w k m p h f =
     let d : digit_run x ≡ length x = digits_decimal a small in
     let s_is : x ++ (46 ∷ []) ++ y ≡ x ++ (46 ∷ y) = append_assoc x (46 ∷ []) y in
     rw (s_is, point_run x y d, point_at x y d, point_before x y d, point_behind x y d, bare_most w a p (whole_small w k m h) small, exactly_back k m)
-    (ap Value (said_places k m))
+    (ap Some (said_places k m))
 
-joined_value : (k : ℕ) (p q : Said) (m : ℕ) → joined k p q ≡ Value m → Joined k p q m
-joined_value k (Value a) (Value b) m e = record { whole = a; part = b; whole_is = refl; part_is = refl; sum = cc }
-joined_value k (Value a) Wrong m e = let z : ◌≡◌ {A = ℕ} 0 1 = cc in absurd (omega arith)
-joined_value k Wrong q m e = let z : ◌≡◌ {A = ℕ} 0 1 = cc in absurd (omega arith)
+joined_value : (k : ℕ) (p q : Option ℕ) (m : ℕ) → joined k p q ≡ Some m → Joined k p q m
+joined_value k (Some a) (Some b) m e = record { whole = a; part = b; whole_is = refl; part_is = refl; sum = cc }
+joined_value k (Some a) None m e = let z : ◌≡◌ {A = ℕ} 0 1 = cc in absurd (omega arith)
+joined_value k None q m e = let z : ◌≡◌ {A = ℕ} 0 1 = cc in absurd (omega arith)
 
 split_at : (s : List ℕ) (i b : ℕ) → get_or s i 0 ≡ suc b → s ≡ take i s ++ (suc b ∷ []) ++ drop (i + 1) s
 split_at s i b e =
@@ -216,11 +216,11 @@ split_at s i b e =
     ∙ ap (λ (l : List ℕ). take i s ++ l) (drop-cons s i 0 (byte_within s i b e) ∙ rw (e, add-one))
     ∙ sym (append_assoc (take i s) (suc b ∷ []) (drop (i + 1) s))
 
-cond_value : (t : Bool) (p : Said) (m : ℕ) → cond t p Wrong ≡ Value m → (t ≡ true) × (p ≡ Value m)
+cond_value : (t : Bool) (p : Option ℕ) (m : ℕ) → cond t p None ≡ Some m → (t ≡ true) × (p ≡ Some m)
 cond_value true p m e = (refl, e)
 cond_value false p m e = let z : ◌≡◌ {A = ℕ} 0 1 = cc in absurd (omega arith)
 
-module _ (w k : ℕ) (s : List ℕ) (m : ℕ) (most : w ≤ 19) (e : amount_of w k s ≡ Value m) where
+module _ (w k : ℕ) (s : List ℕ) (m : ℕ) (most : w ≤ 19) (e : amount_of w k s ≡ Some m) where
   parts : (get_or s (digit_run s) 0 ≡ 46) × Joined k (bare_of w (take (digit_run s) s)) (exactly_of k (drop (digit_run s + 1) s)) m
   unfolding amount_of
   parts =
@@ -251,9 +251,9 @@ module _ (w k : ℕ) (s : List ℕ) (m : ℕ) (most : w ≤ 19) (e : amount_of w
 -- ---- numbers with k decimals
 
 -- an amount was said, and it stands so
-record Signed (p : Said) (P : ℕ → Type 0) : Type 0 where
+record Signed (p : Option ℕ) (P : ℕ → Type 0) : Type 0 where
   pub amount : ℕ
-  pub said : p ≡ Value amount
+  pub said : p ≡ Some amount
   pub stands : P amount
 
 -- an amount begins with a digit, and not with a minus
@@ -269,7 +269,7 @@ plain_first k m f e =
     omega (arith, l)
 
 -- what was written is read back
-signed_back : (k v : ℕ) → zero_of Bonds k ≤ 2 ^ 63 → 0 < v → v < zero_of Bonds k + zero_of Bonds k → fixed_of Bonds k (fixed Bonds k v) ≡ Value v
+signed_back : (k v : ℕ) → zero_of Bonds k ≤ 2 ^ 63 → 0 < v → v < zero_of Bonds k + zero_of Bonds k → fixed_of Bonds k (fixed Bonds k v) ≡ Some v
 unfolding fixed_of fixed
 signed_back k v z h l =
     elim (dec_lt v (zero_of Bonds k)) [
@@ -278,43 +278,43 @@ signed_back k v z h l =
           rw (lt-ltb v (zero_of Bonds k) p)
           (ap (below_zero Bonds k) (amount_back 6 k m (omega arith) (omega arith) (omega arith))
           ∙ simp (ne_eqb m 0 (λ e. omega (arith, e, p)))
-          (ap Value (omega (arith, p))))
+          (ap Some (omega (arith, p))))
       | no p ↦
           let m : ℕ = v - zero_of Bonds k in
           let big : zero_of Bonds k ≤ v = omega (arith, p) in
           let f : m / 10 ^ k < 2 ^ 64 = omega (arith, div-le_self m (10 ^ k)) in
           rw (le-ltb v (zero_of Bonds k) big)
           (rw (ne_eqb (get_or (plain k m) 0 0) 45 (plain_first k m f))
-          (ap (above_zero Bonds k) (amount_back 6 k m (omega arith) (omega arith) (omega arith)) ∙ ap Value (omega arith)))
+          (ap (above_zero Bonds k) (amount_back 6 k m (omega arith) (omega arith) (omega arith)) ∙ ap Some (omega arith)))
     ]
 
-unsigned_back : (k v : ℕ) → zero_of Equities k ≤ 2 ^ 63 → 0 < v → v ≤ zero_of Equities k → fixed_of Equities k (fixed Equities k v) ≡ Value v
+unsigned_back : (k v : ℕ) → zero_of Equities k ≤ 2 ^ 63 → 0 < v → v ≤ zero_of Equities k → fixed_of Equities k (fixed Equities k v) ≡ Some v
 unfolding fixed_of fixed
 unsigned_back k v z h l =
     let m : ℕ = zero_of Equities k - v in
     let f : m / 10 ^ k < 2 ^ 64 = omega (arith, div-le_self m (10 ^ k)) in
     rw (ne_eqb (get_or (plain k m) 0 0) 45 (plain_first k m f))
-    (ap (above_zero Equities k) (amount_back 8 k m (omega arith) (omega arith) (omega arith)) ∙ ap Value (omega arith))
+    (ap (above_zero Equities k) (amount_back 8 k m (omega arith) (omega arith) (omega arith)) ∙ ap Some (omega arith))
 
-below_value : (k : ℕ) (p : Said) (v : ℕ) → below_zero Bonds k p ≡ Value v → Signed p (λ m. (0 < m) × (zero_of Bonds k - m ≡ v))
-below_value k (Value m) v e = pick (eqb m 0) refl e
+below_value : (k : ℕ) (p : Option ℕ) (v : ℕ) → below_zero Bonds k p ≡ Some v → Signed p (λ m. (0 < m) × (zero_of Bonds k - m ≡ v))
+below_value k (Some m) v e = pick (eqb m 0) refl e
   where
-    pick : (t : Bool) → eqb m 0 ≡ t → cond (not t) (Value (zero_of Bonds k - m)) Wrong ≡ Value v → Signed (Value m) (λ m. (0 < m) × (zero_of Bonds k - m ≡ v))
+    pick : (t : Bool) → eqb m 0 ≡ t → cond (not t) (Some (zero_of Bonds k - m)) None ≡ Some v → Signed (Some m) (λ m. (0 < m) × (zero_of Bonds k - m ≡ v))
     pick true q e = let z : ◌≡◌ {A = ℕ} 0 1 = cc in absurd (omega arith)
     pick false q e = record { amount = m; said = refl; stands = (omega (arith, eqb-false m 0 q), cc) }
-below_value k Wrong v e = let z : ◌≡◌ {A = ℕ} 0 1 = cc in absurd (omega arith)
+below_value k None v e = let z : ◌≡◌ {A = ℕ} 0 1 = cc in absurd (omega arith)
 
 -- no price has a minus
-below_never : (k : ℕ) (p : Said) (v : ℕ) → below_zero Equities k p ≡ Value v → ⊥
-below_never k (Value m) v e = let z : ◌≡◌ {A = ℕ} 0 1 = cc in omega arith
-below_never k Wrong v e = let z : ◌≡◌ {A = ℕ} 0 1 = cc in omega arith
+below_never : (k : ℕ) (p : Option ℕ) (v : ℕ) → below_zero Equities k p ≡ Some v → ⊥
+below_never k (Some m) v e = let z : ◌≡◌ {A = ℕ} 0 1 = cc in omega arith
+below_never k None v e = let z : ◌≡◌ {A = ℕ} 0 1 = cc in omega arith
 
-above_value : (q : Instrument) (k : ℕ) (p : Said) (v : ℕ) → above_zero q k p ≡ Value v → Signed p (λ m. stands_for q (zero_of q k) m ≡ v)
-above_value q k (Value m) v e = record { amount = m; said = refl; stands = cc }
-above_value q k Wrong v e = let z : ◌≡◌ {A = ℕ} 0 1 = cc in absurd (omega arith)
+above_value : (q : Instrument) (k : ℕ) (p : Option ℕ) (v : ℕ) → above_zero q k p ≡ Some v → Signed p (λ m. stands_for q (zero_of q k) m ≡ v)
+above_value q k (Some m) v e = record { amount = m; said = refl; stands = cc }
+above_value q k None v e = let z : ◌≡◌ {A = ℕ} 0 1 = cc in absurd (omega arith)
 
 -- only what would be written is read
-module _ (k : ℕ) (s : List ℕ) (v : ℕ) (e : fixed_of Bonds k s ≡ Value v) where
+module _ (k : ℕ) (s : List ℕ) (v : ℕ) (e : fixed_of Bonds k s ≡ Some v) where
   signed_range : (0 < v) × (v < zero_of Bonds k + zero_of Bonds k)
   unfolding fixed_of
   signed_range =
@@ -339,7 +339,7 @@ module _ (k : ℕ) (s : List ℕ) (v : ℕ) (e : fixed_of Bonds k s ≡ Value v)
       let m : v - zero_of Bonds k ≡ a.amount = omega (arith, a.stands) in
       rw (le-ltb v (zero_of Bonds k) (omega (arith, a.stands)), m) (amount_only 6 k s a.amount (omega arith) a.said))
 
-module _ (k : ℕ) (s : List ℕ) (v : ℕ) (e : fixed_of Equities k s ≡ Value v) where
+module _ (k : ℕ) (s : List ℕ) (v : ℕ) (e : fixed_of Equities k s ≡ Some v) where
   unsigned_parts : Signed (amount_of 8 k s) (λ m. zero_of Equities k - m ≡ v)
   unfolding fixed_of
   unsigned_parts =
@@ -387,18 +387,18 @@ unsigned_length k v h = omega (arith, plain_length 8 k (zero_of Equities k - v) 
 -- ---- yields and prices, from 1 to the highest level
 
 -- what was written is read back
-pub level_back : (q : Instrument) (v : ℕ) → 0 < v → v ≤ highest q → level_in q (level_text q v) ≡ Value v
+pub level_back : (q : Instrument) (v : ℕ) → 0 < v → v ≤ highest q → level_in q (level_text q v) ≡ Some v
 unfolding level_in level_text
 level_back Bonds v h l = signed_back 3 v (omega arith) h (omega arith)
 level_back Equities v h l = unsigned_back 1 v (omega arith) h (omega arith)
 
 -- only what would be written is read, and what is read is in its range
-pub level_only : (q : Instrument) (s : List ℕ) (v : ℕ) → level_in q s ≡ Value v → s ≡ level_text q v
+pub level_only : (q : Instrument) (s : List ℕ) (v : ℕ) → level_in q s ≡ Some v → s ≡ level_text q v
 unfolding level_in level_text
 level_only Bonds s v e = signed_only 3 s v e
 level_only Equities s v e = unsigned_only 1 s v e
 
-pub level_within : (q : Instrument) (s : List ℕ) (v : ℕ) → level_in q s ≡ Value v → (0 < v) × (v ≤ highest q)
+pub level_within : (q : Instrument) (s : List ℕ) (v : ℕ) → level_in q s ≡ Some v → (0 < v) × (v ≤ highest q)
 unfolding level_in
 level_within Bonds s v e = let r = signed_range 3 s v e in (omega arith, omega arith)
 level_within Equities s v e = let r = unsigned_range 1 s v e in (omega arith, omega arith)
@@ -410,17 +410,17 @@ level_length Bonds v h l = signed_length 3 v h (omega arith)
 level_length Equities v h l = omega (arith, unsigned_length 1 v h)
 
 -- ---- AvgPx, from 1 to the highest mean
-pub mean_back : (q : Instrument) (v : ℕ) → 0 < v → v ≤ highest_mean q → mean_in q (mean_text q v) ≡ Value v
+pub mean_back : (q : Instrument) (v : ℕ) → 0 < v → v ≤ highest_mean q → mean_in q (mean_text q v) ≡ Some v
 unfolding mean_in mean_text
 mean_back Bonds v h l = signed_back 6 v (omega arith) h (omega arith)
 mean_back Equities v h l = unsigned_back 4 v (omega arith) h (omega arith)
 
-pub mean_only : (q : Instrument) (s : List ℕ) (v : ℕ) → mean_in q s ≡ Value v → s ≡ mean_text q v
+pub mean_only : (q : Instrument) (s : List ℕ) (v : ℕ) → mean_in q s ≡ Some v → s ≡ mean_text q v
 unfolding mean_in mean_text
 mean_only Bonds s v e = signed_only 6 s v e
 mean_only Equities s v e = unsigned_only 4 s v e
 
-pub mean_within : (q : Instrument) (s : List ℕ) (v : ℕ) → mean_in q s ≡ Value v → (0 < v) × (v ≤ highest_mean q)
+pub mean_within : (q : Instrument) (s : List ℕ) (v : ℕ) → mean_in q s ≡ Some v → (0 < v) × (v ≤ highest_mean q)
 unfolding mean_in
 mean_within Bonds s v e = let r = signed_range 6 s v e in (omega arith, omega arith)
 mean_within Equities s v e = let r = unsigned_range 4 s v e in (omega arith, omega arith)

@@ -1,10 +1,8 @@
 -- What a text says: a number of some digits, a yield or a price as a level, a time. From "Reading a message" of document 01 and
 -- T-08 of document 02. A text is the list of its bytes; what is past its end reads as no digit. Assumes nothing.
-use Rattle.std.specs.Prelude.{ℕ, suc, ◌+◌, ◌-◌, ◌*◌, ◌^◌, List, [], ◌∷◌, Bool, cond, ◌&&◌, ◌||◌, length, get_or, take, drop, ltb, leb, eqb}
+use Rattle.std.specs.Prelude.{ℕ, suc, ◌+◌, ◌-◌, ◌*◌, ◌^◌, List, [], ◌∷◌, Option, Some, None, option_map, Bool, cond, ◌&&◌, ◌||◌, length, get_or, take, drop, ltb, leb, eqb}
 use Rattle.octets.specs.Characters.{byte}
 use Rattle.decimal.specs.declared.Instrument.{Instrument}
-use Rattle.decimal.specs.declared.Said.{Said}
-use Rattle.decimal.specs.declared.Said.TheVariants.{Value, Wrong}
 use Rattle.decimal.specs.Instruments.{whole_digits, decimals, stands_for, signed}
 
 -- ---- digits
@@ -42,41 +40,36 @@ unfoldable pub is_number : ℕ → List ℕ → Bool
 is_number n s = ltb 0 (length s) && leb (length s) n && eqb (digit_run s) (length s)
 
 -- what s says as a number of 1 to n digits
-unfoldable pub num_of : ℕ → List ℕ → Said
-num_of n s = cond (is_number n s) (Value (number s)) Wrong
+unfoldable pub num_of : ℕ → List ℕ → Option ℕ
+num_of n s = cond (is_number n s) (Some (number s)) None
 
 -- ---- yields and prices: 1 to 6 digits, or 1 to 8 of a price, then optionally a point and 1 to 3 digits, or 1 of a price; a
 -- minus may stand before a yield
 
--- f of what is said
-abbrev pub map_said : (ℕ → ℕ) → Said → Said
-map_said f (Value n) = Value (f n)
-map_said f Wrong = Wrong
-
 -- what stands behind the whole digits, in units of the last of k decimals: nothing, or a point and 1 to k digits, where those that
 -- are not written count as 0
-unfoldable pub fraction_of : ℕ → List ℕ → Said
+unfoldable pub fraction_of : ℕ → List ℕ → Option ℕ
 fraction_of k s =
-    cond (eqb (length s) 0) (Value 0)
-    (cond (eqb (get_or s 0 0) (byte ".")) (map_said (λ n. n * 10 ^ (k + 1 - length s)) (num_of k (drop 1 s))) Wrong)
+    cond (eqb (length s) 0) (Some 0)
+    (cond (eqb (get_or s 0 0) (byte ".")) (option_map (λ n. n * 10 ^ (k + 1 - length s)) (num_of k (drop 1 s))) None)
 
 -- what has no minus, of 1 to w whole digits and up to k decimals, in units of the last of these
-unfoldable pub size_of : ℕ → ℕ → List ℕ → Said
+unfoldable pub size_of : ℕ → ℕ → List ℕ → Option ℕ
 size_of w k s =
     cond (ltb 0 (digit_run s) && leb (digit_run s) w)
-    (map_said (λ f. number (take (digit_run s) s) * 10 ^ k + f) (fraction_of k (drop (digit_run s) s)))
-    Wrong
+    (option_map (λ f. number (take (digit_run s) s) * 10 ^ k + f) (fraction_of k (drop (digit_run s) s)))
+    None
 
 -- the level of a yield or a price of zero
 abbrev pub even : ℕ
 even = 1000000000
 
 -- a yield or a price as a level; a minus before zero changes nothing, and no price has one
-unfoldable pub level_of : Instrument → List ℕ → Said
+unfoldable pub level_of : Instrument → List ℕ → Option ℕ
 level_of q s =
     cond (eqb (get_or s 0 0) (byte "-"))
-    (cond (signed q) (map_said (λ t. even - t) (size_of (whole_digits q) (decimals q) (drop 1 s))) Wrong)
-    (map_said (stands_for q even) (size_of (whole_digits q) (decimals q) s))
+    (cond (signed q) (option_map (λ t. even - t) (size_of (whole_digits q) (decimals q) (drop 1 s))) None)
+    (option_map (stands_for q even) (size_of (whole_digits q) (decimals q) s))
 
 -- ---- times: YYYYMMDD-HH:MM:SS, or YYYYMMDD-HH:MM:SS.sss
 

@@ -5,109 +5,91 @@ ghost use Rattle.decimal.specs.Writing.{Scale};
 ghost use Rattle.decimal.specs.declared.Instrument.TheVariants.{Bonds, Equities};
 ghost use Rattle.decimal.specs.Canonical.{bare_of, within, exactly_of, amount_of, fixed_of, level_in, mean_in};
 
-use crate::{Instrument, Said, read};
+use crate::{Instrument, read};
 
 // 1 to `most` digits with no needless zero.
-pub fn read_bare(s: &[u8], most: usize) -> Said
+pub fn read_bare(s: &[u8], most: usize) -> Option<u64>
     requires { most ≤ 9 }
     ensures { result ≡ bare_of most s.now }
 {
     if (s.len() == 1) | (read::byte_at(s, 0) != b'0') {
         return read::read_number(s, most);
     }
-    Said::Wrong
+    None
 }
 
 // The same, where the number lies in a range.
-pub fn read_within(s: &[u8], most: usize, low: u64, high: u64) -> Said
+pub fn read_within(s: &[u8], most: usize, low: u64, high: u64) -> Option<u64>
     requires { most ≤ 9 }
     ensures { result ≡ within low high (bare_of most s.now) }
 {
-    match read_bare(s, most) {
-        Said::Value(v) => {
-            if (low <= v) & (v <= high) {
-                return Said::Value(v);
-            }
-            Said::Wrong
-        }
-        Said::Wrong => Said::Wrong,
-    }
+    read_bare(s, most).filter(|v| (low <= *v) & (*v <= high))
 }
 
 // Exactly k digits.
-pub fn read_exactly(s: &[u8], k: usize) -> Said
+pub fn read_exactly(s: &[u8], k: usize) -> Option<u64>
     requires { k ≤ 9 }
     ensures { result ≡ exactly_of k s.now }
 {
     if s.len() != k {
-        return Said::Wrong;
+        return None;
     }
     if read::digit_run(s) != k {
-        return Said::Wrong;
+        return None;
     }
-    Said::Value(read::number(s))
+    Some(read::number(s))
 }
 
 // The amount of a text with no minus, at most `most` whole digits and k decimals, in its smallest unit.
-fn read_amount(s: &[u8], most: usize, k: usize, unit: u64) -> Said
+fn read_amount(s: &[u8], most: usize, k: usize, unit: u64) -> Option<u64>
     requires { Scale k unit × (k ≤ 6) × (most ≤ 8) }
     ensures { result ≡ amount_of most k s.now }
 {
     let w = read::digit_run(s);
     if w >= s.len() {
-        return Said::Wrong;
+        return None;
     }
     if s[w] != b'.' {
-        return Said::Wrong;
+        return None;
     }
-    let Said::Value(whole) = read_bare(&s[..w], most) else {
-        return Said::Wrong;
-    };
+    let whole = read_bare(&s[..w], most)?;
     let d = w + 1;
-    let Said::Value(part) = read_exactly(&s[d..], k) else {
-        return Said::Wrong;
-    };
-    Said::Value(whole * unit + part)
+    let part = read_exactly(&s[d..], k)?;
+    Some(whole * unit + part)
 }
 
 // What stands for the yield, or the average of yields, with k decimals that a text is.
-fn read_signed(s: &[u8], k: usize, unit: u64) -> Said
+fn read_signed(s: &[u8], k: usize, unit: u64) -> Option<u64>
     requires { Scale k unit × (k ≤ 6) }
     ensures { result ≡ fixed_of Bonds k s.now }
 {
     let zero = unit * 1_000_000;
     if read::byte_at(s, 0) == b'-' {
-        let Said::Value(m) = read_amount(&s[1..], 6, k, unit) else {
-            return Said::Wrong;
-        };
+        let m = read_amount(&s[1..], 6, k, unit)?;
         if m == 0 {
-            return Said::Wrong;
+            return None;
         }
-        return Said::Value(zero - m);
+        return Some(zero - m);
     }
-    let Said::Value(m) = read_amount(s, 6, k, unit) else {
-        return Said::Wrong;
-    };
-    Said::Value(zero + m)
+    let m = read_amount(s, 6, k, unit)?;
+    Some(zero + m)
 }
 
 // What stands for the price, or the average of prices, with k decimals that a text is.
-fn read_unsigned(s: &[u8], k: usize, unit: u64) -> Said
+fn read_unsigned(s: &[u8], k: usize, unit: u64) -> Option<u64>
     requires { Scale k unit × (k ≤ 6) }
     ensures { result ≡ fixed_of Equities k s.now }
 {
     let zero = unit * 100_000_000;
     if read::byte_at(s, 0) == b'-' {
-        return Said::Wrong;
+        return None;
     }
-    let Said::Value(m) = read_amount(s, 8, k, unit) else {
-        return Said::Wrong;
-    };
-    Said::Value(zero - m)
+    let m = read_amount(s, 8, k, unit)?;
+    Some(zero - m)
 }
 
 // What stands for the number with k decimals that a text is.
-fn read_fixed(q: Instrument, s: &[u8], k: usize, unit: u64) -> Said
+fn read_fixed(q: Instrument, s: &[u8], k: usize, unit: u64) -> Option<u64>
     requires { Scale k unit × (k ≤ 6) }
     ensures { result ≡ fixed_of q k s.now }
 {
@@ -138,14 +120,14 @@ fn unit(q: Instrument) -> u64
 }
 
 // The level of a yield or a price.
-pub fn read_level(q: Instrument, s: &[u8]) -> Said
+pub fn read_level(q: Instrument, s: &[u8]) -> Option<u64>
     ensures { result ≡ level_in q s.now }
 {
     read_fixed(q, s, decimals(q), unit(q))
 }
 
 // The mean that AvgPx says, which has three decimals more.
-pub fn read_mean(q: Instrument, s: &[u8]) -> Said
+pub fn read_mean(q: Instrument, s: &[u8]) -> Option<u64>
     ensures { result ≡ mean_in q s.now }
 {
     let k = decimals(q) + 3;

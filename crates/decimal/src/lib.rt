@@ -12,12 +12,5 @@ pub enum Instrument {
     Equities,
 }
 
-// What a text says: a number, or none because it is not written as one.
-#[derive(Clone, Copy)]
-pub enum Said {
-    Value(u64),
-    Wrong,
-}
-
 // The level of zero: that of a yield is this and its thousandths, or this less them; that of a price is this less its tenths.
 pub const EVEN: u64 = 1_000_000_000;

@@ -5,7 +5,7 @@ ghost use Rattle.decimal.specs.declared.Instrument.TheVariants.{Bonds, Equities}
 ghost use Rattle.decimal.specs.Writing.{Scale};
 ghost use Rattle.decimal.specs.Reading.{is_digit, digit_of, digit_run, number, num_of, fraction_of, size_of, level_of, two_at, time_shaped, time_ranged, is_time};
 
-use crate::{EVEN, Instrument, Said};
+use crate::{EVEN, Instrument};
 
 // Whether a byte is a digit.
 pub fn is_digit(b: u8) -> bool
@@ -58,27 +58,27 @@ pub fn number(s: &[u8]) -> u64
 }
 
 // The number that 1 to `most` digits say.
-pub fn read_number(s: &[u8], most: usize) -> Said
+pub fn read_number(s: &[u8], most: usize) -> Option<u64>
     requires { most ≤ 9 }
     ensures { result ≡ num_of most s.now }
 {
     if s.len() == 0 {
-        return Said::Wrong;
+        return None;
     }
     if most < s.len() {
-        return Said::Wrong;
+        return None;
     }
     let mut n: u64 = 0;
     let mut i = 0;
     while i < s.len() {
         let d = digit(s[i]);
         if 9 < d {
-            return Said::Wrong;
+            return None;
         }
         n = n * 10 + d;
         i += 1;
     }
-    Said::Value(n)
+    Some(n)
 }
 
 // Ten to the j.
@@ -99,71 +99,61 @@ fn tens(j: usize) -> u64
 }
 
 // What stands behind the whole digits, in units of the last of k decimals: nothing, or a point and 1 to k digits.
-fn read_fraction(s: &[u8], k: usize) -> Said
+fn read_fraction(s: &[u8], k: usize) -> Option<u64>
     requires { k ≤ 3 }
     ensures { result ≡ fraction_of k s.now }
 {
     if s.len() == 0 {
-        return Said::Value(0);
+        return Some(0);
     }
     if s[0] != b'.' {
-        return Said::Wrong;
+        return None;
     }
-    match read_number(&s[1..], k) {
-        Said::Value(n) => Said::Value(n * tens(k + 1 - s.len())),
-        Said::Wrong => Said::Wrong,
-    }
+    let n = read_number(&s[1..], k)?;
+    Some(n * tens(k + 1 - s.len()))
 }
 
 // What has no minus, of 1 to `most` whole digits and up to k decimals, in units of the last of these.
-fn read_size(s: &[u8], most: usize, k: usize, unit: u64) -> Said
+fn read_size(s: &[u8], most: usize, k: usize, unit: u64) -> Option<u64>
     requires { (most ≤ 8) × (k ≤ 3) × Scale k unit }
     ensures { result ≡ size_of most k s.now }
 {
     let w = digit_run(s);
     if w == 0 {
-        return Said::Wrong;
+        return None;
     }
     if most < w {
-        return Said::Wrong;
+        return None;
     }
-    match read_fraction(&s[w..], k) {
-        Said::Value(f) => Said::Value(number(&s[..w]) * unit + f),
-        Said::Wrong => Said::Wrong,
-    }
+    let f = read_fraction(&s[w..], k)?;
+    Some(number(&s[..w]) * unit + f)
 }
 
 // A yield as a level: EVEN and its thousandths, or EVEN less them where a minus stands before it.
-fn read_yield(s: &[u8]) -> Said
+fn read_yield(s: &[u8]) -> Option<u64>
     ensures { result ≡ level_of Bonds s.now }
 {
     if byte_at(s, 0) == b'-' {
-        return match read_size(&s[1..], 6, 3, 1000) {
-            Said::Value(t) => Said::Value(EVEN - t),
-            Said::Wrong => Said::Wrong,
-        };
+        let t = read_size(&s[1..], 6, 3, 1000)?;
+        return Some(EVEN - t);
     }
-    match read_size(s, 6, 3, 1000) {
-        Said::Value(t) => Said::Value(EVEN + t),
-        Said::Wrong => Said::Wrong,
-    }
+    let t = read_size(s, 6, 3, 1000)?;
+    Some(EVEN + t)
 }
 
 // A price as a level: EVEN less its tenths.
-fn read_price(s: &[u8]) -> Said
+fn read_price(s: &[u8]) -> Option<u64>
     ensures { result ≡ level_of Equities s.now }
 {
     if byte_at(s, 0) == b'-' {
-        return Said::Wrong;
+        return None;
     }
-    match read_size(s, 8, 1, 10) {
-        Said::Value(t) => Said::Value(EVEN - t),
-        Said::Wrong => Said::Wrong,
-    }
+    let t = read_size(s, 8, 1, 10)?;
+    Some(EVEN - t)
 }
 
 // A yield or a price as a level.
-pub fn read_level(q: Instrument, s: &[u8]) -> Said
+pub fn read_level(q: Instrument, s: &[u8]) -> Option<u64>
     ensures { result ≡ level_of q s.now }
 {
     match q {

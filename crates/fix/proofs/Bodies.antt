@@ -1,6 +1,6 @@
 -- The fields between 56 and 10 of a message that is not garbled: they are fields of the message, so nothing else stands there.
 -- And the tags that a field may have.
-use Rattle.std.proofs.Common.{◌≡◌, ℕ, zero, suc, ◌+◌, ◌-◌, ◌*◌, ◌^◌, ◌<◌, ◌≤◌, Bool, true, false, cond, not, ◌&&◌, eqb, ltb, leb, List, [], ◌∷◌, length, get_or, take, drop, sym, refl, ap, ◌∙◌, ⊎_elim, not-suc-le-zero, add-zero, add-suc, suc-add, pow-suc, zero-add, suc-ne-zero, arith, get_or-take, ltb-true, ne_eqb, eqb-true, leb-true}
+use Rattle.std.proofs.Common.{Option, Some, None, ◌≡◌, ℕ, zero, suc, ◌+◌, ◌-◌, ◌*◌, ◌^◌, ◌<◌, ◌≤◌, Bool, true, false, cond, not, ◌&&◌, eqb, ltb, leb, List, [], ◌∷◌, length, get_or, take, drop, sym, refl, ap, ◌∙◌, ⊎_elim, not-suc-le-zero, add-zero, add-suc, suc-add, pow-suc, zero-add, suc-ne-zero, arith, get_or-take, ltb-true, ne_eqb, eqb-true, leb-true}
 use native.Mathlib.Nat.{pow-le-pow_right, sub-zero}
 use lib.Seq.{take-nil}
 use borrow.Author.Tests.{eqb-false, not-true, not-false}
@@ -11,8 +11,6 @@ use Rattle.decimal.specs.Reading.{is_digit, run_of, digit_run}
 use Rattle.decimal.proofs.Scans.{run_le, run_below}
 use Rattle.decimal.proofs.Numbers.{digit_low, digit_high}
 use Rattle.fix.specs.declared.fields.Tag.{Tag}
-use Rattle.fix.specs.declared.fields.Found.{Found}
-use Rattle.fix.specs.declared.fields.Found.TheVariants.{At, Nothing}
 use Rattle.fix.specs.declared.frame.Part.{Part}
 use Rattle.fix.specs.declared.fields.Field.{Field}
 use Rattle.fix.specs.declared.fields.Field.TheVariants.{Good, Broken, End}
@@ -22,6 +20,7 @@ use Rattle.fix.specs.Steps.{fld, field_at, row_fields, moved, Held}
 use Rattle.fix.proofs.Walk.{Says, step_says}
 use Rattle.fix.proofs.Verdict.{plain_none}
 use Rattle.fix.proofs.Plain.{clear_unbroken}
+use Rattle.fix.proofs.Loops.{parts_same}
 use Rattle.fix.proofs.Values.{found_behind}
 
 no : ◌≡◌ {A = ℕ} 0 1 → ⊥
@@ -194,15 +193,15 @@ unfolding field_of
 length_cut at b s n m e h k = len_cut at (b ∷ s) (suc n) m e h
 
 -- ---- the field 10
-behind_ten : (s : List ℕ) (k at start len : ℕ) → find_tag 10 (fields_after k at s) ≡ At start len → at + k + 3 ≤ start
+behind_ten : (s : List ℕ) (k at start len : ℕ) → find_tag 10 (fields_after k at s) ≡ Some (record { start = start; len = len }) → at + k + 3 ≤ start
 behind_ten s k at start len e = found_behind 3 10 (λ at s q. omega (arith, ten_from at s q)) s k at start len e
 
 -- a list that starts with the field 10 has its value 3 bytes on
-ten_first : (at b : ℕ) (s : List ℕ) (start len n : ℕ) → (field_of at (b ∷ s)).tag ≡ 10 → At (field_of at (b ∷ s)).start (field_of at (b ∷ s)).len ≡ At start len
+ten_first : (at b : ℕ) (s : List ℕ) (start len n : ℕ) → (field_of at (b ∷ s)).tag ≡ 10 → ◌≡◌ {A = Option Part} (Some (record { start = (field_of at (b ∷ s)).start; len = (field_of at (b ∷ s)).len })) (Some (record { start = start; len = len }))
     → start ≡ at + suc n + 3 → ⊥
 unfolding field_of
 ten_first at b s start len n t e q =
-    let p : at + value_from (b ∷ s) ≡ start = cc in
+    let p = (parts_same _ _ start len e).0 in
     omega (arith, ten_from at (b ∷ s) t)
 
 -- a field, and the fields behind it, where the cut is behind it
@@ -217,7 +216,7 @@ cut_first at b s n p some h r =
     rw (t, l, from_cut at (b ∷ s) (suc n) m e h) r
 
 -- ---- the fields before the field 10, cut off where that starts: still nothing but fields
-cut_unbroken : (s : List ℕ) (k at n start len p : ℕ) → has_tag 0 (fields_after k at s) ≡ false → find_tag 10 (fields_after k at s) ≡ At start len
+cut_unbroken : (s : List ℕ) (k at n start len p : ℕ) → has_tag 0 (fields_after k at s) ≡ false → find_tag 10 (fields_after k at s) ≡ Some (record { start = start; len = len })
     → start ≡ at + n + 3 → has_tag 0 (fields_after k p (take n s)) ≡ false
 unfolding fields_after has_tag find_tag field_of
 cut_unbroken [] k at n start len p h e q = let z : ◌≡◌ {A = ℕ} 0 1 = cc in absurd (no z)
@@ -231,7 +230,7 @@ cut_unbroken (b ∷ s) zero at (suc n) start len p h e q =
     let f = field_of at (b ∷ s) in
     let some = neither_l (eqb f.tag 0) _ h in
     let r : has_tag 0 (fields_after (value_from (b ∷ s) + f.len) (suc at) s) ≡ false = rw some at (neither_r (eqb f.tag 0) _ h) in
-    let g : find_tag 10 (fields_after (value_from (b ∷ s) + f.len) (suc at) s) ≡ At start len = rw (d, some) at e in
+    let g : find_tag 10 (fields_after (value_from (b ∷ s) + f.len) (suc at) s) ≡ Some (record { start = start; len = len }) = rw (d, some) at e in
     cut_first at b s n p some (omega (arith, behind_ten s (value_from (b ∷ s) + value_len (b ∷ s)) (suc at) start len g))
     (cut_unbroken s (value_from (b ∷ s) + f.len) (suc at) n start len (suc p) r g (omega arith)))
 
@@ -276,7 +275,7 @@ cut_held at b s n p d row j some h here ten q room r =
     let v = from_cut at (b ∷ s) (suc n) m e h in
     (record { here = here ∙ moved_is at p d (b ∷ s) (b ∷ take n s) (e ∙ sym c) v l q; other = λ z. ten (e ∙ sym c ∙ z); room = room }, rw (t, l, v) r)
 
-held : (s : List ℕ) (k at d p n start len : ℕ) (row : List ℕ) (j c : ℕ) → has_tag 0 (fields_after k at s) ≡ false → find_tag 10 (fields_after k at s) ≡ At start len
+held : (s : List ℕ) (k at d p n start len : ℕ) (row : List ℕ) (j c : ℕ) → has_tag 0 (fields_after k at s) ≡ false → find_tag 10 (fields_after k at s) ≡ Some (record { start = start; len = len })
     → start ≡ at + n + 3 → at ≡ d + p → row_fields row j c ≡ fields_after k at s → j + c ≤ 341 → Held row d j (fields_after k p (take n s))
 unfolding fields_after has_tag find_tag field_of
 held [] k at d p n start len row j c h e q z y r = let z : ◌≡◌ {A = ℕ} 0 1 = cc in absurd (no z)
@@ -294,7 +293,7 @@ held (b ∷ s) zero at d p (suc n) start len row j c h e q z y r =
     let f = field_of at (b ∷ s) in
     let some = neither_l (eqb f.tag 0) _ h in
     let u : has_tag 0 (fields_after (value_from (b ∷ s) + f.len) (suc at) s) ≡ false = rw some at (neither_r (eqb f.tag 0) _ h) in
-    let g : find_tag 10 (fields_after (value_from (b ∷ s) + f.len) (suc at) s) ≡ At start len = rw (o, some) at e in
+    let g : find_tag 10 (fields_after (value_from (b ∷ s) + f.len) (suc at) s) ≡ Some (record { start = start; len = len }) = rw (o, some) at e in
     let x = first row j c _ _ y r in
     let w : row_fields row (j + 1) (c - 1) ≡ fields_after (value_from (b ∷ s) + f.len) (suc at) s = x.next ∙ rw some in
     cut_held at b s n p d row j some (omega (arith, behind_ten s (value_from (b ∷ s) + value_len (b ∷ s)) (suc at) start len g)) x.here (eqb-false f.tag 10 o) z x.room
@@ -383,14 +382,14 @@ module _ (s : List ℕ) (g : garbled_message s ≡ false) where
   unfolding find_tag
   behind_find = rw (body_start, whole)
 
-  body_by : (f : Found) → find_tag 10 (fields_of s) ≡ f → has_tag 0 (fields_of (part_at s (body_part s).start (body_part s).len)) ≡ false
+  body_by : (f : Option Part) → find_tag 10 (fields_of s) ≡ f → has_tag 0 (fields_of (part_at s (body_part s).start (body_part s).len)) ≡ false
   unfolding part_at body_part ten_at part_of fields_from
-  body_by Nothing e = absurd (not_both (plain_none s Nothing (sym e) refl) g)
-  body_by (At start len) e =
+  body_by None e = absurd (not_both (plain_none s None (sym e) refl) g)
+  body_by (Some p) e =
       let at = end_of (part_of s 56) in
-      let f : find_tag 10 (fields_after 0 at (drop at s)) ≡ At start len = sym behind_find ∙ e in
-      let t : ten_at s ≡ start - 3 = rw e in
-      cut_unbroken (drop at s) 0 at (ten_at s - at) start len 0 behind_unbroken f (omega (arith, behind_ten (drop at s) 0 at start len f))
+      let f : find_tag 10 (fields_after 0 at (drop at s)) ≡ Some p = sym behind_find ∙ e in
+      let t : ten_at s ≡ p.start - 3 = rw e in
+      cut_unbroken (drop at s) 0 at (ten_at s - at) p.start p.len 0 behind_unbroken f (omega (arith, behind_ten (drop at s) 0 at p.start p.len f))
 
   -- the body is nothing but fields
   pub body_unbroken : has_tag 0 (fields_of (part_at s (body_part s).start (body_part s).len)) ≡ false
@@ -404,17 +403,17 @@ module _ (s : List ℕ) (g : garbled_message s ≡ false) where
       rw body_start x
 
   -- the row that holds the fields of the message holds those of the body behind the header
-  held_by : (row : List ℕ) (count : ℕ) (f : Found) → find_tag 10 (fields_of s) ≡ f → 8 ≤ count → count ≤ 341 → fields_of s ≡ row_fields row 0 count
+  held_by : (row : List ℕ) (count : ℕ) (f : Option Part) → find_tag 10 (fields_of s) ≡ f → 8 ≤ count → count ≤ 341 → fields_of s ≡ row_fields row 0 count
       → Held row (body_part s).start 7 (fields_of (part_at s (body_part s).start (body_part s).len))
   unfolding part_at body_part ten_at part_of fields_from row_fields
-  held_by row count Nothing e l m w = absurd (not_both (plain_none s Nothing (sym e) refl) g)
-  held_by row count (At start len) e l m w =
+  held_by row count None e l m w = absurd (not_both (plain_none s None (sym e) refl) g)
+  held_by row count (Some p) e l m w =
       let at = end_of (part_of s 56) in
-      let f : find_tag 10 (fields_after 0 at (drop at s)) ≡ At start len = sym behind_find ∙ e in
-      let t : ten_at s ≡ start - 3 = rw e in
+      let f : find_tag 10 (fields_after 0 at (drop at s)) ≡ Some p = sym behind_find ∙ e in
+      let t : ten_at s ≡ p.start - 3 = rw e in
       let z : count ≡ suc (suc (suc (suc (suc (suc (suc (count - 7))))))) = omega arith in
       let v : row_fields row 7 (count - 7) ≡ fields_after 0 at (drop at s) = behind_row row (count - 7) (rw z at w) in
-      held (drop at s) 0 at at 0 (ten_at s - at) start len row 7 (count - 7) behind_unbroken f (omega (arith, behind_ten (drop at s) 0 at start len f)) (sym (add-zero at)) v (omega arith)
+      held (drop at s) 0 at at 0 (ten_at s - at) p.start p.len row 7 (count - 7) behind_unbroken f (omega (arith, behind_ten (drop at s) 0 at p.start p.len f)) (sym (add-zero at)) v (omega arith)
 
   pub body_held : (row : List ℕ) (count : ℕ) → 8 ≤ count → count ≤ 341 → fields_of s ≡ row_fields row 0 count
       → Held row (body_part s).start 7 (fields_of (part_at s (body_part s).start (body_part s).len))

@@ -1,18 +1,16 @@
 -- The order of the fields by the row: the header first, 10 last; and the SOH at the end.
-use Rattle.std.proofs.Common.{◌≡◌, ℕ, zero, suc, ◌+◌, ◌-◌, ◌*◌, ◌<◌, ◌≤◌, Bool, true, false, cond, not, ◌&&◌, eqb, List, [], ◌∷◌, ◌++◌, length, get_or, drop, sym, refl, ap, ◌∙◌, subst, ⊎_elim, not-suc-le-zero, zero-add, suc-ne-zero, arith, eqb-true}
+use Rattle.std.proofs.Common.{Option, Some, None, ◌≡◌, ℕ, zero, suc, ◌+◌, ◌-◌, ◌*◌, ◌<◌, ◌≤◌, Bool, true, false, cond, not, ◌&&◌, eqb, List, [], ◌∷◌, ◌++◌, length, get_or, drop, sym, refl, ap, ◌∙◌, subst, ⊎_elim, not-suc-le-zero, zero-add, suc-ne-zero, arith, eqb-true}
 use mathlib.Core.Bool.{and-false}
 use borrow.Author.Tests.{eqb-false, not-true, not-false}
 use Rattle.octets.proofs.Bools.{split, both_l, both_r, neither_l, neither_r, not_both}
 use Rattle.octets.proofs.Places.{below_or}
-use Rattle.fix.specs.declared.fields.Found.TheVariants.{At}
 use Rattle.fix.specs.declared.frame.Part.{Part}
 use Rattle.fix.specs.declared.frame.Opening.{Opening}
-use Rattle.fix.specs.declared.frame.Frame.{Frame}
-use Rattle.fix.specs.declared.frame.Frame.TheVariants.{Garbled}
+use Rattle.fix.specs.declared.frame.Head.{Head}
 use Rattle.fix.specs.declared.pass.Walked.{Walked}
 use Rattle.fix.specs.Fields.{Fld, field_of, fields_after, fields_from, fields_of, find_tag, has_tag, repeats, clean_fields, last_tag_or, value_from, value_len}
 use Rattle.fix.specs.Garbled.{headed_by, header, ordered, part_of, end_of, garbled_message, frame_of}
-use Rattle.fix.specs.Steps.{fld, field_at, row_fields, part_row, Ready, Rowed, WalkSays, Headed, OpeningSays, Lined, Laid, Framed}
+use Rattle.fix.specs.Steps.{fld, field_at, row_fields, part_row, Ready, Rowed, WalkSays, Headed, Counted, Lined, Laid, Framed}
 use Rattle.fix.proofs.Opening.{garbled_order, garbled_heads}
 use Rattle.fix.proofs.Verdict.{garbled_frame, plain_unclean, plain_other, is_good_lem}
 use Rattle.fix.proofs.Walk.{field_in}
@@ -60,7 +58,7 @@ soh_last (b ∷ s) zero at h e =
     (below_or v (length s))
 
 module _ (s : List ℕ) where
-  pub open_frame : (length s ≡ 0 → ⊥) → (get_or s (length s - 1) 0 ≡ 1 → ⊥) → Garbled ≡ frame_of s
+  pub open_frame : (length s ≡ 0 → ⊥) → (get_or s (length s - 1) 0 ≡ 1 → ⊥) → None ≡ frame_of s
   unfolding fields_from
   open_frame h n =
       split (garbled_message s) (λ y. garbled_frame s y)
@@ -69,11 +67,11 @@ module _ (s : List ℕ) where
   pub ready : (row : List ℕ) → length s ≤ 1024 → get_or s (length s - 1) 0 ≡ 1 → length row ≡ 1023 → Ready s row
   ready row h e r = record { closed = record { soh = e }; short = h; room = r }
 
-  pub walk_wrong : (row : List ℕ) (r : Walked) → WalkSays s row r → r ≡ Walked.Wrong → Garbled ≡ frame_of s
+  pub walk_wrong : (row : List ℕ) (r : Option Walked) → WalkSays s row r → r ≡ None → None ≡ frame_of s
   walk_wrong row r w g = garbled_frame s (plain_unclean s (subst (WalkSays s row) g w))
 
-  pub walk_rowed : (row : List ℕ) (r : Walked) (count from sum : ℕ) → WalkSays s row r → r ≡ Walked.Whole count from sum → Rowed s row count from sum
-  walk_rowed row r count from sum w g = subst (WalkSays s row) g w
+  pub walk_rowed : (row : List ℕ) (r : Option Walked) (x : Walked) → WalkSays s row r → r ≡ Some x → Rowed s row x.count x.from x.sum
+  walk_rowed row r x w g = subst (WalkSays s row) g w
 
 -- ---- the header first
 headed_long : (ts : List ℕ) (fs : List Fld) → headed_by ts fs ≡ true → length ts ≤ length fs
@@ -132,7 +130,7 @@ shape (t ∷ ts) row j (suc n) h =
 
 -- ---- the row of a message
 module _ (s row : List ℕ) (count from sum : ℕ) (short : length s ≤ 1024) (w : Rowed s row count from sum) where
-  pub ordered_short : count < 8 → Garbled ≡ frame_of s
+  pub ordered_short : count < 8 → None ≡ frame_of s
   ordered_short h =
       let l : length (fields_of s) ≡ count = rw w.fields (row_length row 0 count) in
       garbled_frame s (garbled_order s (short_unordered (fields_of s) (omega arith)))
@@ -154,14 +152,14 @@ module _ (s row : List ℕ) (count from sum : ℕ) (short : length s ≤ 1024) (
       unfolding field_at
       last_tag = sym (rw fields (last_append 0 (row_fields row 0 m) (field_at row m)))
 
-    pub ordered_last : (get_or row ((count - 1) * 3) 0 ≡ 10 → ⊥) → Garbled ≡ frame_of s
+    pub ordered_last : (get_or row ((count - 1) * 3) 0 ≡ 10 → ⊥) → None ≡ frame_of s
     ordered_last n = garbled_frame s (plain_other s (get_or row ((count - 1) * 3) 0) (last_tag (count - 1) refl) n)
 
     pub ordered_room : count - 1 < 341
     ordered_room = omega (arith, w.few)
 
     module _ (b : Bool) (eb : b ≡ headed_by header (row_fields row 0 7)) where
-      pub ordered_heads : not b ≡ true → Garbled ≡ frame_of s
+      pub ordered_heads : not b ≡ true → None ≡ frame_of s
       ordered_heads g = garbled_frame s (garbled_heads s (same_head ∙ sym eb ∙ not-true b g))
 
       module _ (g : not b ≡ false) (m : ℕ) (em : m ≡ count - 1) where
@@ -174,7 +172,7 @@ module _ (s row : List ℕ) (count from sum : ℕ) (short : length s ≤ 1024) (
           unfolding clean_fields
           once = not-true _ (both_r (not (has_tag 0 (fields_of s))) _ w.clean)
 
-          found : find_tag 10 (fields_of s) ≡ At (part_row row m).start (part_row row m).len
+          found : find_tag 10 (fields_of s) ≡ Some (part_row row m)
           unfolding field_at part_row
           found =
               let o : repeats (row_fields row 0 m ++ (field_at row m ∷ [])) ≡ false = rw (fields m em) at once in
@@ -209,35 +207,35 @@ module _ (s row : List ℕ) (count from sum : ℕ) (short : length s ≤ 1024) (
               }
 
 -- ---- the places of the header
-module _ (s row : List ℕ) (m t sum : ℕ) (w : Lined s row m t sum) where
+module _ (s row : List ℕ) (m t sum : ℕ) (l : Lined s row m t sum) where
   pub lined_headed : Headed s row
-  lined_headed = w.headed
+  lined_headed = l.headed
 
   pub lined_room : m < 341
-  lined_room = w.room
+  lined_room = l.room
 
-  pub lined_laid : (r : Opening) (count a : ℕ) (k n d e g p : Part) → OpeningSays s r → r ≡ Opening.Reads count a
+  pub lined_laid : (o : Opening) (k n d e g p : Part) → Counted s o.count o.next
       → k ≡ part_row row 2 → n ≡ part_row row 3 → d ≡ part_row row 4 → e ≡ part_row row 5 → g ≡ part_row row 6 → p ≡ part_row row m
-      → Laid s count a (record { kind = k; number = n; sender = d; time = e; target = g }) (g.start + g.len + 1) p t sum
+      → Laid s o.count o.next (record { kind = k; number = n; sender = d; time = e; target = g }) (g.start + g.len + 1) p t sum
   unfolding part_of find_tag headed_by end_of
-  lined_laid r count a k n d e g p o eo ek en ed ee eg ep =
+  lined_laid o k n d e g p w ek en ed ee eg ep =
       record {
-        short = w.short;
-        counted = subst (OpeningSays s) eo o;
+        short = l.short;
+        counted = w;
         placed = record {
-          headed = rw w.headed.whole;
-          kind = rw (ek, w.headed.whole);
-          number = rw (en, w.headed.whole);
-          sender = rw (ed, w.headed.whole);
-          time = rw (ee, w.headed.whole);
-          target = rw (eg, w.headed.whole);
+          headed = rw l.headed.whole;
+          kind = rw (ek, l.headed.whole);
+          number = rw (en, l.headed.whole);
+          sender = rw (ed, l.headed.whole);
+          time = rw (ee, l.headed.whole);
+          target = rw (eg, l.headed.whole);
           ends = refl;
         };
-        ended = rw ep w.ended;
+        ended = rw ep l.ended;
       }
 
 -- ---- the parts with the row
-pub framed_garbled : (s row : List ℕ) → Garbled ≡ frame_of s → Framed s row Garbled
+pub framed_garbled : (s row : List ℕ) → None ≡ frame_of s → Framed s row None
 framed_garbled s row e = record { frame = e; held = λ h g. let z : ◌≡◌ {A = ℕ} 0 1 = cc in absurd (suc-ne-zero 0 (sym z)) }
 
 -- a message that is not garbled has eight fields at least
@@ -248,7 +246,7 @@ eight s row count e g =
     absurd (not_both (garbled_order s (short_unordered (fields_of s) (omega arith))) g))
     (λ h. h) (below_or count 8)
 
-framed_is : (s row : List ℕ) (count from sum : ℕ) (r : Frame) → Rowed s row count from sum → r ≡ frame_of s → Framed s row r
+framed_is : (s row : List ℕ) (count from sum : ℕ) (r : Option Head) → Rowed s row count from sum → r ≡ frame_of s → Framed s row r
 framed_is s row count from sum r w e =
     record {
       frame = e;
@@ -257,5 +255,5 @@ framed_is s row count from sum r w e =
           body_held s n row count (eight s row count w.fields n) w.few w.fields;
     }
 
-pub framed_walked : (s row : List ℕ) (w : Walked) (count from sum : ℕ) (r : Frame) → WalkSays s row w → w ≡ Walked.Whole count from sum → r ≡ frame_of s → Framed s row r
-framed_walked s row w count from sum r y g e = framed_is s row count from sum r (walk_rowed s row w count from sum y g) e
+pub framed_walked : (s row : List ℕ) (w : Option Walked) (x : Walked) (r : Option Head) → WalkSays s row w → w ≡ Some x → r ≡ frame_of s → Framed s row r
+framed_walked s row w x r y g e = framed_is s row x.count x.from x.sum r (walk_rowed s row w x y g) e

@@ -1,13 +1,9 @@
 -- The clauses by which a message is garbled, and 8 and 9 by the row.
-use Rattle.std.proofs.Common.{◌≡◌, ℕ, ◌+◌, ◌*◌, Bool, true, false, not, List, get_or, sym, refl, ap, ◌∙◌}
+use Rattle.std.proofs.Common.{Option, Some, None, ◌≡◌, ℕ, ◌+◌, ◌*◌, Bool, true, false, not, List, get_or, sym, refl, ap, ◌∙◌}
 use mathlib.Core.Bool.{and-false}
 use borrow.Author.Tests.{not-true, not-false}
 use Rattle.octets.specs.Octets.{part_at, same_bytes}
-use Rattle.decimal.specs.declared.Said.{Said}
-use Rattle.decimal.specs.declared.Said.TheVariants.{Value, Wrong}
 use Rattle.decimal.specs.Reading.{num_of}
-use Rattle.fix.specs.declared.fields.Found.{Found}
-use Rattle.fix.specs.declared.fields.Found.TheVariants.{At, Nothing}
 use Rattle.fix.specs.declared.frame.Part.{Part}
 use Rattle.fix.specs.Fields.{fields_of, found_in, find_tag, value_of}
 use Rattle.fix.specs.Garbled.{headed_by, header, ordered, fix42, header_right, as_part, part_of, end_of, length_true, sum_true, garbled_message}
@@ -36,10 +32,10 @@ module _ (s : List ℕ) where
   garbled_sum h = simp (h, and-false)
 
 -- ---- the value of a tag is the part where it stands
-found_part : (s : List ℕ) (f : Found) → part_at s (as_part f).start (as_part f).len ≡ found_in s f
+found_part : (s : List ℕ) (f : Option Part) → part_at s (as_part f).start (as_part f).len ≡ found_in s f
 unfolding part_at
-found_part s (At start len) = refl
-found_part s Nothing = refl
+found_part s (Some p) = refl
+found_part s None = refl
 
 pub value_part : (s : List ℕ) (t : ℕ) → part_at s (part_of s t).start (part_of s t).len ≡ value_of s t
 unfolding part_of value_of
@@ -70,15 +66,15 @@ module _ (s row : List ℕ) (o : Headed s row) where
         let z : same_bytes (value_of s 8) fix42 ≡ false = rw (← value_8) (sym eb ∙ not-true b h) in
         garbled_header s (simp z)
 
-    module _ (n : Part) (en : n ≡ part_row row 1) (w : List ℕ) (ew : w ≡ part_at s n.start n.len) (x : Said) (ex : x ≡ num_of 4 w) where
+    module _ (n : Part) (en : n ≡ part_row row 1) (w : List ℕ) (ew : w ≡ part_at s n.start n.len) (x : Option ℕ) (ex : x ≡ num_of 4 w) where
       said_9 : x ≡ num_of 4 (value_of s 9)
       said_9 = ex ∙ ap (num_of 4) (ew ∙ rw (en, ← part_9) (value_part s 9))
 
-      pub opens_wrong : x ≡ Wrong → garbled_message s ≡ true
+      pub opens_wrong : x ≡ None → garbled_message s ≡ true
       unfolding length_true
       opens_wrong h = garbled_length s (rw (← said_9, h))
 
-      pub opens_is : (count : ℕ) → not b ≡ false → x ≡ Value count → Counted s count (n.start + n.len + 1)
+      pub opens_is : (count : ℕ) → not b ≡ false → x ≡ Some count → Counted s count (n.start + n.len + 1)
       unfolding end_of
       opens_is count h g =
           record {

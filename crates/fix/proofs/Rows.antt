@@ -1,14 +1,12 @@
 -- The row of places: what is written stands there, and the walk that fills it.
-use Rattle.std.proofs.Common.{◌≡◌, ℕ, zero, suc, ◌+◌, ◌-◌, ◌*◌, ◌%◌, ◌<◌, ◌≤◌, Bool, true, false, cond, ◌||◌, eqb, ltb, List, [], ◌∷◌, ◌++◌, length, get_or, drop, set, sym, refl, ap, ◌∙◌, append_assoc, append-nil, add-zero, zero-add, suc-ne-zero, add-one, arith, length-set, get_or-set_other, get_or-set_same, w64, Fits, eq-eqb, ne_eqb, eqb-true}
+use Rattle.std.proofs.Common.{Some, None, ◌≡◌, ℕ, zero, suc, ◌+◌, ◌-◌, ◌*◌, ◌%◌, ◌<◌, ◌≤◌, Bool, true, false, cond, ◌||◌, eqb, ltb, List, [], ◌∷◌, ◌++◌, length, get_or, drop, set, sym, refl, ap, ◌∙◌, append_assoc, append-nil, add-zero, zero-add, suc-ne-zero, add-one, arith, length-set, get_or-set_other, get_or-set_same, w64, Fits, eq-eqb, ne_eqb, eqb-true}
 use mathlib.Core.Bool.{and-false, or-true}
 use native.Mathlib.Nat.{sub-zero}
 use borrow.Author.Tests.{eqb-false}
 use Rattle.octets.proofs.Bools.{split, neither_l, neither_r, not_both}
 use Rattle.fix.specs.declared.fields.Cursor.{Cursor}
-use Rattle.fix.specs.declared.fields.Found.TheVariants.{At}
 use Rattle.fix.specs.declared.fields.Field.{Field}
 use Rattle.fix.specs.declared.fields.Field.TheVariants.{Good, Broken, End}
-use Rattle.fix.specs.declared.pass.Noted.{Noted}
 use Rattle.fix.specs.Fields.{Fld, field_of, step_of, fields_from, fields_of, find_tag, has_tag, repeats, clean_fields, last_tag_or, value_from}
 use Rattle.fix.specs.Steps.{slot, Closed, Carried, Paced, field_at, row_fields, noted, Notes, Marked, Passing, Ready, Lastly, Rowed, seat_of}
 use Rattle.fix.proofs.Walk.{Stepped, step_good, step_broken, step_end}
@@ -46,13 +44,13 @@ unfolding last_tag_or
 last_append d [] f = refl
 last_append d (x ∷ xs) f = last_append x.tag xs f
 
-find_append : (t : ℕ) (xs : List Fld) (f : Fld) → has_tag t xs ≡ false → f.tag ≡ t → find_tag t (xs ++ (f ∷ [])) ≡ At f.start f.len
+find_append : (t : ℕ) (xs : List Fld) (f : Fld) → has_tag t xs ≡ false → f.tag ≡ t → find_tag t (xs ++ (f ∷ [])) ≡ Some (record { start = f.start; len = f.len })
 unfolding find_tag has_tag
 find_append t [] f h e = rw (eq-eqb f.tag t e)
 find_append t (x ∷ xs) f h e = rw (neither_l (eqb x.tag t) _ h) (find_append t xs f (neither_r (eqb x.tag t) _ h) e)
 
 -- the tag of the last field stands nowhere before it, where none is repeated
-pub find_last : (xs : List Fld) (f : Fld) → repeats (xs ++ (f ∷ [])) ≡ false → find_tag f.tag (xs ++ (f ∷ [])) ≡ At f.start f.len
+pub find_last : (xs : List Fld) (f : Fld) → repeats (xs ++ (f ∷ [])) ≡ false → find_tag f.tag (xs ++ (f ∷ [])) ≡ Some (record { start = f.start; len = f.len })
 find_last xs f h =
     split (has_tag f.tag xs) (λ y. absurd (not_both (repeats_there xs f [] y) h)) (λ n. find_append f.tag xs f n refl)
 
@@ -294,10 +292,10 @@ module _ (s row marks : List ℕ) (i at sum from before : ℕ) (inv : Walking s 
 
 -- ---- a step over the row
 module _ (row : List ℕ) (j x : ℕ) (ex : x ≡ get_or row (j * 3) 0) where
-  pub seat_end : x ≡ 10 → Noted.End ≡ seat_of row j
+  pub seat_end : x ≡ 10 → None ≡ seat_of row j
   unfolding seat_of
   seat_end h = rw (← ex, eq-eqb x 10 h)
 
-  pub seat_good : (a b : ℕ) → (x ≡ 10 → ⊥) → a ≡ get_or row (j * 3 + 1) 0 → b ≡ get_or row (j * 3 + 2) 0 → Noted.Good x a b (record { number = j + 1 }) ≡ seat_of row j
+  pub seat_good : (a b : ℕ) → (x ≡ 10 → ⊥) → a ≡ get_or row (j * 3 + 1) 0 → b ≡ get_or row (j * 3 + 2) 0 → Some (record { tag = x; start = a; len = b; next = record { number = j + 1 } }) ≡ seat_of row j
   unfolding seat_of
   seat_good a b h ea eb = rw (← ex, ← ea, ← eb, ne_eqb x 10 h)

@@ -1,23 +1,19 @@
 -- What the values of a message are: each lies within it and is nothing but characters; and what 35, 34 and 52 say where it is
 -- not garbled.
-use Rattle.std.proofs.Common.{◌≡◌, ℕ, zero, suc, ◌+◌, ◌-◌, ◌<◌, ◌≤◌, true, false, ◌&&◌, eqb, ltb, leb, List, [], ◌∷◌, length, get_or, drop, sym, refl, not-suc-le-zero, suc-ne-zero, arith, get_or-drop, ltb-true, eqb-true, leb-true}
+use Rattle.std.proofs.Common.{Option, Some, None, ◌≡◌, ℕ, zero, suc, ◌+◌, ◌-◌, ◌<◌, ◌≤◌, true, false, ◌&&◌, eqb, ltb, leb, List, [], ◌∷◌, length, get_or, drop, sym, refl, not-suc-le-zero, suc-ne-zero, arith, get_or-drop, ltb-true, eqb-true, leb-true}
 use borrow.Author.Tests.{not-false}
 use Rattle.octets.specs.Octets.{part_at, same_bytes}
 use Rattle.octets.proofs.Bools.{split, both_l, both_r}
 use Rattle.octets.proofs.Parts.{length_part, get_d_part}
-use Rattle.decimal.specs.declared.Said.{Said}
-use Rattle.decimal.specs.declared.Said.TheVariants.{Value, Wrong}
 use Rattle.decimal.specs.Reading.{num_of, is_time}
 use Rattle.decimal.proofs.Scans.{run_below}
 use Rattle.decimal.proofs.Numbers.{num_below}
 use Rattle.decimal.proofs.Times.{time_long, time_short}
-use Rattle.fix.specs.declared.fields.Found.{Found}
-use Rattle.fix.specs.declared.fields.Found.TheVariants.{At, Nothing}
 use Rattle.fix.specs.declared.frame.Part.{Part}
 use Rattle.fix.specs.declared.frame.Head.{Head}
 use Rattle.fix.specs.Fields.{is_text, value_from, value_len, field_of, fields_after, fields_from, fields_of, found_in, find_tag, value_of}
 use Rattle.fix.specs.Garbled.{ordered, fix42, said_of, header_right, as_part, part_of, length_true, sum_true, garbled_message, head_of}
-use Rattle.fix.proofs.Loops.{found_inside}
+use Rattle.fix.proofs.Loops.{parts_same, found_inside}
 use Rattle.fix.proofs.Opening.{value_part}
 
 no : ◌≡◌ {A = ℕ} 0 1 → ⊥
@@ -71,15 +67,15 @@ value_text s i h l =
 
 -- as far behind the start of its field as every value of its tag
 pub found_behind : (d t : ℕ) → ((at : ℕ) (s : List ℕ) → (field_of at s).tag ≡ t → d ≤ value_from s)
-    → (s : List ℕ) (k at start len : ℕ) → find_tag t (fields_after k at s) ≡ At start len → at + k + d ≤ start
+    → (s : List ℕ) (k at start len : ℕ) → find_tag t (fields_after k at s) ≡ Some (record { start = start; len = len }) → at + k + d ≤ start
 unfolding find_tag fields_after field_of
 found_behind d t tags [] k at start len e = let z : ◌≡◌ {A = ℕ} 0 1 = cc in absurd (no z)
 found_behind d t tags (b ∷ s) (suc k) at start len e = omega (arith, found_behind d t tags s k (suc at) start len e)
 found_behind d t tags (b ∷ s) zero at start len e =
     split (eqb (field_of at (b ∷ s)).tag t)
     (λ y.
-    let q : At (at + value_from (b ∷ s)) (value_len (b ∷ s)) ≡ At start len = rw y at e in
-    let p : at + value_from (b ∷ s) ≡ start = cc in
+    let q : ◌≡◌ {A = Option Part} (Some (record { start = at + value_from (b ∷ s); len = value_len (b ∷ s) })) (Some (record { start = start; len = len })) = rw y at e in
+    let p = (parts_same _ _ start len q).0 in
     omega (arith, tags at (b ∷ s) (eqb-true _ t y)))
     (λ n. omega (arith, found_behind d t tags s _ (suc at) start len (rw n at e)))
 
@@ -87,14 +83,13 @@ behind_tag : (t at : ℕ) (s : List ℕ) → (field_of at s).tag ≡ t → 1 ≤
 unfolding value_from
 behind_tag t at s e = omega arith
 
-here_text : (at b : ℕ) (s : List ℕ) (t start len : ℕ) → At (at + value_from (b ∷ s)) (value_len (b ∷ s)) ≡ At start len
+here_text : (at b : ℕ) (s : List ℕ) (t start len : ℕ) → ◌≡◌ {A = Option Part} (Some (record { start = at + value_from (b ∷ s); len = value_len (b ∷ s) })) (Some (record { start = start; len = len }))
     → (i : ℕ) → start ≤ at + i → at + i < start + len → is_text (get_or (b ∷ s) i 0) ≡ true
 here_text at b s t start len q i h l =
-    let p : at + value_from (b ∷ s) ≡ start = cc in
-    let r : value_len (b ∷ s) ≡ len = cc in
+    let p = parts_same _ _ start len q in
     value_text (b ∷ s) i (omega arith) (omega arith)
 
-text_within : (s : List ℕ) (k at t start len : ℕ) → find_tag t (fields_after k at s) ≡ At start len
+text_within : (s : List ℕ) (k at t start len : ℕ) → find_tag t (fields_after k at s) ≡ Some (record { start = start; len = len })
     → (i : ℕ) → start ≤ at + i → at + i < start + len → is_text (get_or s i 0) ≡ true
 unfolding find_tag fields_after field_of
 text_within [] k at t start len e i h l = let z : ◌≡◌ {A = ℕ} 0 1 = cc in absurd (no z)
@@ -108,19 +103,19 @@ text_within (b ∷ s) zero at t start len e (suc i) h l =
     (λ n. text_within s _ (suc at) t start len (rw n at e) i (omega arith) (omega arith))
 
 -- every byte of a value is a character
-pub found_text : (s : List ℕ) (t start len : ℕ) → find_tag t (fields_of s) ≡ At start len → (k : ℕ) → k < len → is_text (get_or s (start + k) 0) ≡ true
+pub found_text : (s : List ℕ) (t start len : ℕ) → find_tag t (fields_of s) ≡ Some (record { start = start; len = len }) → (k : ℕ) → k < len → is_text (get_or s (start + k) 0) ≡ true
 unfolding fields_from
 found_text s t start len e k h = text_within s 0 0 t start len e (start + k) (omega arith) (omega arith)
 
 -- ---- the value of a tag, where it is of a length that it may have
-spelt_found : (s : List ℕ) (t : ℕ) (f : Found) → 0 < t → find_tag t (fields_of s) ≡ f → (least most : ℕ)
+spelt_found : (s : List ℕ) (t : ℕ) (f : Option Part) → 0 < t → find_tag t (fields_of s) ≡ f → (least most : ℕ)
     → least ≤ length (found_in s f) → length (found_in s f) ≤ most → Spelt s (as_part f) least most 32 126
 unfolding part_at
-spelt_found s t (At start len) z e least most a b =
-    let h = found_inside s t start len z e in
-    let l : length (part_at s start len) ≡ len = length_part s start len (omega arith) in
-    spelt_by s (record { start = start; len = len }) least most 32 126 (omega arith) (omega arith) (omega arith) (λ k i. text_low _ (found_text s t start len e k i))
-spelt_found s t Nothing z e least most a b =
+spelt_found s t (Some p) z e least most a b =
+    let h = found_inside s t p.start p.len z e in
+    let l : length (part_at s p.start p.len) ≡ p.len = length_part s p.start p.len (omega arith) in
+    spelt_by s p least most 32 126 (omega arith) (omega arith) (omega arith) (λ k i. text_low _ (found_text s t p.start p.len e k i))
+spelt_found s t None z e least most a b =
     spelt_by s (record { start = 0; len = 0 }) least most 32 126 (omega arith) a b (λ k i. absurd (not-suc-le-zero i))
 
 pub value_spelt : (s : List ℕ) (t : ℕ) → 0 < t → (least most : ℕ) → least ≤ length (value_of s t) → length (value_of s t) ≤ most
@@ -141,9 +136,9 @@ pub record HeadSpelt (s : List ℕ) (h : Head) : Type 0 where
   pub number_low : 0 < h.number
   pub number_high : h.number < 1000000000
 
-said_below : (x : Said) (m : ℕ) → 0 < m → ((n : ℕ) → x ≡ Value n → n < m) → said_of x < m
-said_below (Value n) m z h = h n refl
-said_below Wrong m z h = z
+said_below : (x : Option ℕ) (m : ℕ) → 0 < m → ((n : ℕ) → x ≡ Some n → n < m) → said_of x < m
+said_below (Some n) m z h = h n refl
+said_below None m z h = z
 
 pub clear_head : (s : List ℕ) → garbled_message s ≡ false → HeadSpelt s (head_of s)
 unfolding header_right head_of

@@ -1,12 +1,11 @@
 -- What the fields of a message are. From "Reading a message" of document 01: a tag of 1 to 4 digits, the first not 0, `=`,
 -- a value of characters 20 to 7E hex, SOH (01 hex). A message is the list of its bytes. A field is its tag and where its
 -- value stands; the tag 0 is no tag, so what is no field has it. Assumes nothing.
-use Rattle.std.specs.Prelude.{ℕ, zero, suc, ◌+◌, ◌-◌, ◌*◌, Bool, false, cond, not, ◌&&◌, ◌||◌, List, [], ◌∷◌, length, take, drop, ◌==◌, nat_le, nat_lt, slice_index}
+use Rattle.std.specs.Prelude.{Option, Some, None, ℕ, zero, suc, ◌+◌, ◌-◌, ◌*◌, Bool, false, cond, not, ◌&&◌, ◌||◌, List, [], ◌∷◌, length, take, drop, ◌==◌, nat_le, nat_lt, slice_index}
 use Rattle.octets.specs.Characters.{byte, soh}
 use Rattle.decimal.specs.Reading.{is_digit, run_of, digit_run}
 use Rattle.fix.specs.declared.fields.Tag.{Tag}
-use Rattle.fix.specs.declared.fields.Found.{Found}
-use Rattle.fix.specs.declared.fields.Found.TheVariants.{At, Nothing}
+use Rattle.fix.specs.declared.frame.Part.{Part}
 use Rattle.fix.specs.declared.fields.Field.{Field}
 use Rattle.fix.specs.declared.fields.Field.TheVariants.{Good, Broken, End}
 
@@ -85,15 +84,15 @@ step_of s at = cond (nat_lt at (length s)) (as_field (field_of at (drop at s))) 
 
 -- ---- tags
 
--- the first field with the tag t
-unfoldable pub find_tag : ℕ → List Fld → Found
-find_tag t [] = Nothing
-find_tag t (f ∷ fs) = cond (f.tag == t) (At f.start f.len) (find_tag t fs)
+-- where the value of the first field with the tag t stands
+unfoldable pub find_tag : ℕ → List Fld → Option Part
+find_tag t [] = None
+find_tag t (f ∷ fs) = cond (f.tag == t) (Some (record { start = f.start; len = f.len })) (find_tag t fs)
 
 -- the bytes of a value that was found, and none where it was not
-abbrev pub found_in : List ℕ → Found → List ℕ
-found_in s Nothing = []
-found_in s (At start len) = take len (drop start s)
+abbrev pub found_in : List ℕ → Option Part → List ℕ
+found_in s None = []
+found_in s (Some p) = take p.len (drop p.start s)
 
 -- the value of the tag t in the message s: that part of the message
 unfoldable pub value_of : List ℕ → ℕ → List ℕ

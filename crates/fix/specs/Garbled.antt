@@ -1,17 +1,11 @@
 -- When a message is garbled, and where the parts of one that is not stand. From "Reading a message" of document 01: length,
 -- order of the fields, values of the header, BodyLength and CheckSum. Assumes nothing: every list of bytes is garbled or not.
-use Rattle.std.specs.Prelude.{ℕ, ◌+◌, ◌-◌, ◌%◌, Bool, true, false, cond, not, ◌&&◌, List, [], ◌∷◌, length, take, ◌==◌, nat_le, nat_lt}
+use Rattle.std.specs.Prelude.{Option, Some, None, ℕ, ◌+◌, ◌-◌, ◌%◌, Bool, true, false, cond, not, ◌&&◌, List, [], ◌∷◌, length, take, ◌==◌, nat_le, nat_lt}
 use Rattle.octets.specs.Characters.{bytes}
 use Rattle.octets.specs.Octets.{same_bytes}
-use Rattle.decimal.specs.declared.Said.{Said}
-use Rattle.decimal.specs.declared.Said.TheVariants.{Value, Wrong}
 use Rattle.decimal.specs.Reading.{num_of, is_time}
-use Rattle.fix.specs.declared.fields.Found.{Found}
-use Rattle.fix.specs.declared.fields.Found.TheVariants.{At, Nothing}
 use Rattle.fix.specs.declared.frame.Part.{Part}
 use Rattle.fix.specs.declared.frame.Head.{Head}
-use Rattle.fix.specs.declared.frame.Frame.{Frame}
-use Rattle.fix.specs.declared.frame.Frame.TheVariants.{Garbled, Good}
 use Rattle.fix.specs.Fields.{Fld, fields_of, find_tag, value_of, clean_fields, last_tag_or}
 
 -- ---- order
@@ -33,14 +27,14 @@ ordered fs = clean_fields fs && headed_by header fs && last_tag_or 0 fs == 10
 -- ---- what values say
 
 -- the number that is said, and 0 where none is
-abbrev pub said_of : Said → ℕ
-said_of (Value n) = n
-said_of Wrong = 0
+abbrev pub said_of : Option ℕ → ℕ
+said_of (Some n) = n
+said_of None = 0
 
 -- the number m is said
-abbrev pub says_it : ℕ → Said → Bool
-says_it m (Value n) = n == m
-says_it m Wrong = false
+abbrev pub says_it : ℕ → Option ℕ → Bool
+says_it m (Some n) = n == m
+says_it m None = false
 
 -- what 8 says
 abbrev pub fix42 : List ℕ
@@ -56,9 +50,9 @@ header_right s =
 -- ---- BodyLength and CheckSum
 
 -- where the value that was found stands; nowhere is the empty part at 0
-abbrev pub as_part : Found → Part
-as_part (At start len) = record { start = start; len = len }
-as_part Nothing = record { start = 0; len = 0 }
+abbrev pub as_part : Option Part → Part
+as_part (Some p) = p
+as_part None = record { start = 0; len = 0 }
 
 -- where the value of the tag t stands
 unfoldable pub part_of : List ℕ → ℕ → Part
@@ -111,5 +105,6 @@ head_of s =
       body = body_part s;
     }
 
-unfoldable pub frame_of : List ℕ → Frame
-frame_of s = cond (garbled_message s) Garbled (Good (head_of s))
+-- and none of one that is garbled
+unfoldable pub frame_of : List ℕ → Option Head
+frame_of s = cond (garbled_message s) None (Some (head_of s))

@@ -1,10 +1,8 @@
 -- What the inner functions of the reading answer, one step of it each. Nothing here need be believed: `garbled` and `frame`
 -- do not cite it.
-use Rattle.std.specs.Prelude.{◌≡◌, ℕ, zero, suc, ◌+◌, ◌-◌, ◌*◌, ◌%◌, ◌<◌, ◌≤◌, Bool, true, false, cond, ◌&&◌, List, [], ◌∷◌, length, take, drop, ◌==◌, ◌≢◌, nat_le, nat_lt, slice_index, slice_index_or, slice_set}
-use Rattle.decimal.specs.declared.Said.TheVariants.{Value}
+use Rattle.std.specs.Prelude.{Option, Some, None, ◌≡◌, ℕ, zero, suc, ◌+◌, ◌-◌, ◌*◌, ◌%◌, ◌<◌, ◌≤◌, Bool, true, false, cond, ◌&&◌, List, [], ◌∷◌, length, take, drop, ◌==◌, ◌≢◌, nat_le, nat_lt, slice_index, slice_index_or, slice_set}
 use Rattle.decimal.specs.Reading.{num_of, is_time}
 use Rattle.octets.specs.Octets.{part_at, same_bytes}
-use Rattle.fix.specs.declared.fields.Found.TheVariants.{At}
 use Rattle.fix.specs.declared.fields.Tag.{Tag}
 use Rattle.fix.specs.declared.fields.Cursor.{Cursor}
 use Rattle.fix.specs.declared.fields.Field.{Field}
@@ -13,7 +11,6 @@ use Rattle.fix.specs.declared.pass.Walked.{Walked}
 use Rattle.fix.specs.declared.pass.Noted.{Noted}
 use Rattle.fix.specs.declared.frame.Part.{Part}
 use Rattle.fix.specs.declared.frame.Head.{Head}
-use Rattle.fix.specs.declared.frame.Frame.{Frame}
 use Rattle.fix.specs.declared.frame.Opening.{Opening}
 use Rattle.fix.specs.declared.frame.Places.{Places}
 use Rattle.fix.specs.Fields.{Fld, text_run, tag_of, field_of, as_field, step_of, fields_of, find_tag, value_of, has_tag, clean_fields, last_tag_or}
@@ -114,9 +111,9 @@ pub record Rowed (s row : List ℕ) (count from sum : ℕ) : Type 0 where
   pub clean : clean_fields (fields_of s) ≡ true
   pub last : (m : ℕ) → count ≡ m + 1 → Lastly s row m from sum
 
-abbrev pub WalkSays : List ℕ → List ℕ → Walked → Type 0
-WalkSays s row Walked.Wrong = clean_fields (fields_of s) ≡ false
-WalkSays s row (Walked.Whole count from sum) = Rowed s row count from sum
+abbrev pub WalkSays : List ℕ → List ℕ → Option Walked → Type 0
+WalkSays s row None = clean_fields (fields_of s) ≡ false
+WalkSays s row (Some w) = Rowed s row w.count w.from w.sum
 
 -- ---- the header, by the row
 abbrev pub fld : ℕ → Part → Fld
@@ -135,18 +132,18 @@ pub record Headed (s row : List ℕ) : Type 0 where
 -- 8 is right, 9 says count, and field 9 ends before place a
 pub record Counted (s : List ℕ) (count a : ℕ) : Type 0 where
   pub begins : same_bytes (value_of s 8) fix42 ≡ true
-  pub says : num_of 4 (value_of s 9) ≡ Value count
+  pub says : num_of 4 (value_of s 9) ≡ Some count
   pub ends : end_of (part_of s 9) ≡ a
 
-abbrev pub OpeningSays : List ℕ → Opening → Type 0
-OpeningSays s Opening.Wrong = garbled_message s ≡ true
-OpeningSays s (Opening.Reads count next) = Counted s count next
+abbrev pub OpeningSays : List ℕ → Option Opening → Type 0
+OpeningSays s None = garbled_message s ≡ true
+OpeningSays s (Some o) = Counted s o.count o.next
 
 -- nothing but fields, no tag twice, 10 last, its value at p and field 10 at place t, behind bytes with the sum
 pub record Ended (s : List ℕ) (p : Part) (t sum : ℕ) : Type 0 where
   pub clean : clean_fields (fields_of s) ≡ true
   pub last : last_tag_or 0 (fields_of s) ≡ 10
-  pub ten : find_tag 10 (fields_of s) ≡ At p.start p.len
+  pub ten : find_tag 10 (fields_of s) ≡ Some p
   pub place : t ≡ p.start - 3
   pub sums : sum ≡ check_sum (take t s)
 
@@ -192,12 +189,12 @@ Held row d j [] = (slice_index row (j * 3) ≡ 10) × (j < 341)
 Held row d j (f ∷ fs) = Holds row d j f × Held row d (j + 1) fs
 
 -- the parts, or garbled; and where the message is good, the row holds the fields of its body behind the seven of the header
-pub record Framed (s row : List ℕ) (r : Frame) : Type 0 where
+pub record Framed (s row : List ℕ) (r : Option Head) : Type 0 where
   pub frame : r ≡ frame_of s
-  pub held : (h : Head) → r ≡ Frame.Good h → Held row (body_part s).start 7 (fields_of (part_at s (body_part s).start (body_part s).len))
+  pub held : (h : Head) → r ≡ Some h → Held row (body_part s).start 7 (fields_of (part_at s (body_part s).start (body_part s).len))
 
 -- what a step from the field with the number j gives: it and the place behind it, or the end where it is 10
-unfoldable pub seat_of : List ℕ → ℕ → Noted
+unfoldable pub seat_of : List ℕ → ℕ → Option Noted
 seat_of row j =
-    cond (slice_index row (j * 3) == 10) Noted.End
-    (Noted.Good (slice_index row (j * 3)) (slice_index row (j * 3 + 1)) (slice_index row (j * 3 + 2)) (record { number = j + 1 }))
+    cond (slice_index row (j * 3) == 10) None
+    (Some (record { tag = slice_index row (j * 3); start = slice_index row (j * 3 + 1); len = slice_index row (j * 3 + 2); next = record { number = j + 1 } }))

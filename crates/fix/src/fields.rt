@@ -2,6 +2,7 @@
 ghost use Rattle.std.specs.Prelude.{◌≡◌, ℕ, ◌+◌, ◌-◌, ◌^◌, ◌<◌, ◌≤◌, length};
 ghost use Rattle.fix.specs.Fields.{is_text, text_run, tag_of, field_of, as_field, step_of, fields_of, find_tag, value_of};
 
+use crate::frame::Part;
 use decimal::read::digit;
 
 // A tag and how many digits it has. The number 0: no tag.
@@ -17,7 +18,7 @@ pub struct Cursor {
     pub at: usize,
 }
 
-// What a step of the cursor finds.
+// What a step of the cursor finds. An enum of its own, since a `Result` of an `Option` would say the three answers in two layers.
 #[derive(Clone, Copy)]
 pub enum Field {
     Good {
@@ -28,13 +29,6 @@ pub enum Field {
     },
     Broken,
     End,
-}
-
-// Where the value of a tag stands.
-#[derive(Clone, Copy)]
-pub enum Found {
-    At { start: usize, len: usize },
-    Nothing,
 }
 
 // Whether a byte is a character of a value.
@@ -48,14 +42,12 @@ pub fn is_text(b: u8) -> bool
 pub fn text_run(s: &[u8]) -> usize
     ensures { result ≡ text_run s.now }
 {
-    let mut i = 0;
-    while i < s.len() {
-        if !is_text(s[i]) {
+    for (i, b) in s.iter().enumerate() {
+        if !is_text(*b) {
             return i;
         }
-        i += 1;
     }
-    i
+    s.len()
 }
 
 // The tag that `s` starts with: 1 to 4 digits, the first not 0, and `=` behind them.
@@ -130,7 +122,7 @@ impl Cursor {
 }
 
 // The first field of `s` with the tag.
-pub fn find(s: &[u8], tag: u64) -> Found
+pub fn find(s: &[u8], tag: u64) -> Option<Part>
     requires { 0 < tag }
     ensures { result ≡ find_tag tag (fields_of s.now) }
 {
@@ -144,12 +136,11 @@ pub fn find(s: &[u8], tag: u64) -> Found
                 next,
             } => {
                 if t == tag {
-                    return Found::At { start, len };
+                    return Some(Part { start, len });
                 }
                 c = next;
             }
-            Field::Broken => return Found::Nothing,
-            Field::End => return Found::Nothing,
+            Field::Broken | Field::End => return None,
         }
     }
 }
@@ -160,7 +151,7 @@ pub fn value_of(s: &[u8], tag: u64) -> &[u8]
     ensures { result.now ≡ value_of s.now tag }
 {
     match find(s, tag) {
-        Found::At { start, len } => &s[start..start + len],
-        Found::Nothing => &s[..0],
+        Some(p) => &s[p.start..p.start + p.len],
+        None => &s[..0],
     }
 }

@@ -3,11 +3,10 @@ ghost use Rattle.std.specs.Prelude.{◌≡◌, ℕ, ◌+◌, ◌-◌, ◌*◌, �
 ghost use Rattle.octets.specs.Octets.{part_at};
 ghost use Rattle.decimal.specs.Reading.{num_of, is_time};
 ghost use Rattle.fix.specs.Fields.{fields_of, fields_from, value_of};
-ghost use Rattle.fix.specs.Garbled.{headed_by, header, said_of, says_it, check_sum, frame_of, garbled_message};
+ghost use Rattle.fix.specs.Garbled.{headed_by, header, check_sum, frame_of, garbled_message};
 ghost use Rattle.fix.specs.Steps.{row_fields, Rowed, part_row, Headed, OpeningSays, right_of, sums_of, Lined, Laid, Framed};
 
-use crate::pass::{Walked, walk, wide};
-use decimal::Said;
+use crate::pass::{walk, wide};
 use decimal::read::{is_time, read_number};
 use octets::part::{part_at, same};
 
@@ -29,17 +28,11 @@ pub struct Head {
     pub body: Part,
 }
 
-#[derive(Clone, Copy)]
-pub enum Frame {
-    Garbled,
-    Good(Head),
-}
-
 // What 9 says, and the place behind it.
 #[derive(Clone, Copy)]
-pub enum Opening {
-    Reads { count: u64, next: usize },
-    Wrong,
+pub struct Opening {
+    pub count: u64,
+    pub next: usize,
 }
 
 // Where the values of 35, 34, 49, 52 and 56 stand.
@@ -57,10 +50,8 @@ pub fn checksum(s: &[u8]) -> u8
     ensures { result ≡ check_sum s.now }
 {
     let mut sum: u8 = 0;
-    let mut i = 0;
-    while i < s.len() {
-        sum = std::num::wrapping_add_u8(sum, s[i]);
-        i += 1;
+    for b in s {
+        sum = std::num::wrapping_add_u8(sum, *b);
     }
     sum
 }
@@ -86,50 +77,21 @@ fn heads(row: &[u16; 1023]) -> bool
                 & ((row[9] == 34) & ((row[12] == 49) & ((row[15] == 52) & (row[18] == 56))))))
 }
 
-// Reads 8 and 9, where they stand.
-fn opens(s: &[u8], row: &[u16; 1023]) -> Opening
+// Reads 8 and 9, where they stand; nothing where one of them is wrong.
+fn opens(s: &[u8], row: &[u16; 1023]) -> Option<Opening>
     requires { Headed s.now row.now }
     ensures { OpeningSays s.now result }
 {
     let e = place(row, 0);
     if !same(part_at(s, e.start, e.len), b"FIX.4.2") {
-        return Opening::Wrong;
+        return None;
     }
     let n = place(row, 1);
-    match read_number(part_at(s, n.start, n.len), 4) {
-        Said::Value(count) => Opening::Reads {
-            count,
-            next: n.start + n.len + 1,
-        },
-        Said::Wrong => Opening::Wrong,
-    }
-}
-
-// a less b, and 0 where b is more.
-fn minus(a: usize, b: usize) -> usize
-    ensures { result ≡ a - b }
-{
-    if a < b { 0 } else { a - b }
-}
-
-// The number that is said, and 0 where none is.
-pub fn said(x: Said) -> u64
-    ensures { result ≡ said_of x }
-{
-    match x {
-        Said::Value(n) => n,
-        Said::Wrong => 0,
-    }
-}
-
-// Whether the number m is said.
-fn says_it(m: u64, x: Said) -> bool
-    ensures { result ≡ says_it m x }
-{
-    match x {
-        Said::Value(n) => n == m,
-        Said::Wrong => false,
-    }
+    let count = read_number(part_at(s, n.start, n.len), 4)?;
+    Some(Opening {
+        count,
+        next: n.start + n.len + 1,
+    })
 }
 
 // Whether the values of the header are what they may be, where 34 says n.
@@ -153,24 +115,33 @@ fn sums(s: &[u8], sum: u8, p: Part) -> bool
     ensures { result ≡ sums_of s.now sum p }
 {
     let v = part_at(s, p.start, p.len);
-    (v.len() == 3) & says_it(sum as u64, read_number(v, 3))
+    (v.len() == 3) & (read_number(v, 3) == Some(u64::from(sum)))
 }
 
 // The parts of a message whose fields are in order, where 9 says count for the bytes from place a on, the header ends at b, the
-// value of 10 is at p, and field 10 at place t, behind bytes with the sum; or garbled.
-fn settled(s: &[u8], count: u64, a: usize, h: Places, b: usize, p: Part, t: usize, sum: u8) -> Frame
+// value of 10 is at p, and field 10 at place t, behind bytes with the sum; none where it is garbled.
+fn settled(
+    s: &[u8],
+    count: u64,
+    a: usize,
+    h: Places,
+    b: usize,
+    p: Part,
+    t: usize,
+    sum: u8,
+) -> Option<Head>
     requires { Laid s.now count a h b p t sum }
     ensures { result ≡ frame_of s.now }
 {
-    if minus(t, a) as u64 != count {
-        return Frame::Garbled;
+    if t.saturating_sub(a) as u64 != count {
+        return None;
     }
     if !sums(s, sum, p) {
-        return Frame::Garbled;
+        return None;
     }
-    let number = said(read_number(part_at(s, h.number.start, h.number.len), 9));
+    let number = read_number(part_at(s, h.number.start, h.number.len), 9)?;
     if !right(s, h, number) {
-        return Frame::Garbled;
+        return None;
     }
     let kind = h.kind;
     let sender = h.sender;
@@ -178,9 +149,9 @@ fn settled(s: &[u8], count: u64, a: usize, h: Places, b: usize, p: Part, t: usiz
     let target = h.target;
     let body = Part {
         start: b,
-        len: minus(t, b),
+        len: t.saturating_sub(b),
     };
-    Frame::Good(Head {
+    Some(Head {
         kind,
         number,
         sender,
@@ -191,14 +162,12 @@ fn settled(s: &[u8], count: u64, a: usize, h: Places, b: usize, p: Part, t: usiz
 }
 
 // The parts of a message whose fields are in order, by the row, where 10 has the number m and starts at place t, behind bytes
-// with the sum; or garbled.
-fn lined(s: &[u8], row: &[u16; 1023], m: usize, t: usize, sum: u8) -> Frame
+// with the sum; none where it is garbled.
+fn lined(s: &[u8], row: &[u16; 1023], m: usize, t: usize, sum: u8) -> Option<Head>
     requires { Lined s.now row.now m t sum }
     ensures { result ≡ frame_of s.now }
 {
-    let Opening::Reads { count, next: a } = opens(s, row) else {
-        return Frame::Garbled;
-    };
+    let o = opens(s, row)?;
     let target = place(row, 6);
     let b = target.start + target.len + 1;
     let h = Places {
@@ -208,51 +177,49 @@ fn lined(s: &[u8], row: &[u16; 1023], m: usize, t: usize, sum: u8) -> Frame
         time: place(row, 5),
         target,
     };
-    settled(s, count, a, h, b, place(row, m), t, sum)
+    settled(s, o.count, o.next, h, b, place(row, m), t, sum)
 }
 
-// The parts of a message whose fields the row holds, or garbled: the header comes first, and 10 last, from place `from` on, behind
+// The parts of a message whose fields the row holds; none where it is garbled. The header comes first, and 10 last, from place `from` on, behind
 // bytes with the sum.
-fn ordered(s: &[u8], row: &[u16; 1023], count: usize, from: usize, sum: u8) -> Frame
+fn ordered(s: &[u8], row: &[u16; 1023], count: usize, from: usize, sum: u8) -> Option<Head>
     requires { (length s.now ≤ 1024) × Rowed s.now row.now count from sum }
     ensures { result ≡ frame_of s.now }
 {
     if count < 8 {
-        return Frame::Garbled;
+        return None;
     }
     if !heads(row) {
-        return Frame::Garbled;
+        return None;
     }
     let m = count - 1;
     if row[m * 3] != 10 {
-        return Frame::Garbled;
+        return None;
     }
     lined(s, row, m, from, sum)
 }
 
-// The parts of a message, or garbled. The row takes the places of its fields.
-pub fn framed_in(s: &[u8], row: &mut [u16; 1023]) -> Frame
+// The parts of a message; none where it is garbled. The row takes the places of its fields.
+pub fn framed_in(s: &[u8], row: &mut [u16; 1023]) -> Option<Head>
     requires { length row.old ≡ 1023 }
     ensures { Framed s.now row.new result }
 {
     let n = s.len();
     if n == 0 {
-        return Frame::Garbled;
+        return None;
     }
     if 1024 < n {
-        return Frame::Garbled;
+        return None;
     }
     if s[n - 1] != 1 {
-        return Frame::Garbled;
+        return None;
     }
-    match walk(s, row) {
-        Walked::Whole { count, from, sum } => ordered(s, row, count, from, sum),
-        Walked::Wrong => Frame::Garbled,
-    }
+    let w = walk(s, row)?;
+    ordered(s, row, w.count, w.from, w.sum)
 }
 
-// The parts of a message, or garbled.
-pub fn framed(s: &[u8]) -> Frame
+// The parts of a message; none where it is garbled.
+pub fn framed(s: &[u8]) -> Option<Head>
     ensures { result ≡ frame_of s.now }
 {
     let mut row: [u16; 1023] = [0; 1023];
@@ -263,8 +230,5 @@ pub fn framed(s: &[u8]) -> Frame
 pub fn garbled(s: &[u8]) -> bool
     ensures { result ≡ garbled_message s.now }
 {
-    match framed(s) {
-        Frame::Garbled => true,
-        Frame::Good(_) => false,
-    }
+    framed(s).is_none()
 }

@@ -7,12 +7,12 @@ ghost use Rattle.fix.specs.Steps.{Closed, Carried, Tagged, Ran, Strode, Paced, r
 use crate::fields::{Cursor, Field, Tag, is_text};
 use decimal::read::digit;
 
-// What the walk over a whole message finds: how many fields, where the last starts, and the sum of the bytes before it. Wrong
-// where something is no field, or a tag stands twice.
+// What the walk over a whole message finds: how many fields, where the last starts, and the sum of the bytes before it.
 #[derive(Clone, Copy)]
-pub enum Walked {
-    Whole { count: usize, from: usize, sum: u8 },
-    Wrong,
+pub struct Walked {
+    pub count: usize,
+    pub from: usize,
+    pub sum: u8,
 }
 
 // A place between two fields of a row: how many stand before it.
@@ -21,16 +21,13 @@ pub struct Seat {
     pub number: usize,
 }
 
-// What a step over a row finds.
+// A field of a row: its tag, where its value starts, its length, and the place behind it.
 #[derive(Clone, Copy)]
-pub enum Noted {
-    Good {
-        tag: u64,
-        start: usize,
-        len: usize,
-        next: Seat,
-    },
-    End,
+pub struct Noted {
+    pub tag: u64,
+    pub start: usize,
+    pub len: usize,
+    pub next: Seat,
 }
 
 // The characters of a value: how many they are, and the byte behind them.
@@ -135,12 +132,10 @@ fn seen(row: &[u16; 1023], n: usize, tag: u16) -> bool
     requires { n ≤ 341 }
     ensures { result ≡ has_tag tag (row_fields row.now 0 n) }
 {
-    let mut j = 0;
-    while j < n {
+    for j in 0..n {
         if row[j * 3] == tag {
             return true;
         }
-        j += 1;
     }
     false
 }
@@ -167,8 +162,9 @@ fn note(row: &mut [u16; 1023], j: usize, tag: u64, start: usize, len: usize)
     row[j * 3 + 2] = len as u16;
 }
 
-// Walks over the fields of a message. The row takes for each its tag, where its value starts, and its length.
-pub fn walk(s: &[u8], row: &mut [u16; 1023]) -> Walked
+// Walks over the fields of a message. The row takes for each its tag, where its value starts, and its length. Nothing where
+// something is no field, or a tag stands twice.
+pub fn walk(s: &[u8], row: &mut [u16; 1023]) -> Option<Walked>
     requires { Ready s.now row.old }
     ensures { WalkSays s.now row.new result }
 {
@@ -189,7 +185,7 @@ pub fn walk(s: &[u8], row: &mut [u16; 1023]) -> Walked
                 next,
             } => {
                 if passed(&marks, row, count, tag) {
-                    return Walked::Wrong;
+                    return None;
                 }
                 let k = (tag % 128) as usize;
                 marks[k] = 1;
@@ -199,8 +195,8 @@ pub fn walk(s: &[u8], row: &mut [u16; 1023]) -> Walked
                 count += 1;
                 c = next;
             }
-            Field::Broken => return Walked::Wrong,
-            Field::End => return Walked::Whole { count, from, sum },
+            Field::Broken => return None,
+            Field::End => return Some(Walked { count, from, sum }),
         }
     }
 }
@@ -213,21 +209,22 @@ pub fn wide(x: u16) -> usize
 }
 
 impl Seat {
-    // The field that stands at the place, and the place behind it; the end before the field 10.
-    pub fn step(self, row: &[u16; 1023]) -> Noted
+    // The field that stands at the place; nothing at the field 10. No `Iterator`: whoever steps knows that the field 10 is not
+    // behind them, which no clause of `next` asks.
+    pub fn step(self, row: &[u16; 1023]) -> Option<Noted>
         requires { self.number < 341 }
         ensures { result ≡ seat_of row.now self.number }
     {
         let j = self.number;
         let tag = wide(row[j * 3]) as u64;
         if tag == 10 {
-            return Noted::End;
+            return None;
         }
-        Noted::Good {
+        Some(Noted {
             tag,
             start: wide(row[j * 3 + 1]),
             len: wide(row[j * 3 + 2]),
             next: Seat { number: j + 1 },
-        }
+        })
     }
 }

@@ -14,17 +14,17 @@ returns-then-s-w-ne46 c = search (rules, amount_other)
 pub slice_bounds-read_bare-end : goal.slice_bounds-read_bare-end
 slice_bounds-read_bare-end c = simp length-take (omega arith)
 
-pub returns-in_default : goal.returns-in_default
-returns-in_default c = search (rules, amount_whole)
+pub returns-in_err-whole : goal.returns-in_err-whole
+returns-in_err-whole c = search (rules, amount_whole)
 
-pub returns-in_default-read_exactly : goal.returns-in_default-read_exactly
-returns-in_default-read_exactly c = search (rules, amount_part)
+pub returns-in_err-part : goal.returns-in_err-part
+returns-in_err-part c = rw c.from_residual-in_err-part.ensures (search (rules, amount_part, c.in_ok-whole.was, c.in_err-part.was))
 
 pub overflow_mul-result : goal.overflow_mul-result
 overflow_mul-result c = search (rules, whole_fits)
 
 pub overflow_add-result : goal.overflow_add-result
-overflow_add-result c = search (rules, part_fits)
+overflow_add-result c = search (rules, part_fits, c.in_ok-whole.was, c.in_ok-part.was)
 
 pub returns : goal.returns
-returns c = search (rules, amount_yes)
+returns c = search (rules, amount_yes, c.in_ok-whole.was, c.in_ok-part.was)

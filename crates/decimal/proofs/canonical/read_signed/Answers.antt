@@ -9,8 +9,8 @@ slice_bounds-read_amount-count c = search (rules, minus_some)
 pub slice_bounds-read_amount-start : goal.slice_bounds-read_amount-start
 slice_bounds-read_amount-start c = search (rules, minus_some)
 
-pub returns-in_default : goal.returns-in_default
-returns-in_default c = search (rules, below_wrong)
+pub returns-in_err-m : goal.returns-in_err-m
+returns-in_err-m c = search (rules, below_wrong)
 
 pub returns-then-m-eq0 : goal.returns-then-m-eq0
 returns-then-m-eq0 c = search (rules, below_none)
@@ -21,8 +21,8 @@ overflow_sub-result c = search (rules, below_le)
 pub returns-then-byte_at-eq45 : goal.returns-then-byte_at-eq45
 returns-then-byte_at-eq45 c = search (rules, below_some)
 
-pub returns-in_default-read_amount : goal.returns-in_default-read_amount
-returns-in_default-read_amount c = search (rules, above_wrong)
+pub returns-in_err-m-2 : goal.returns-in_err-m-2
+returns-in_err-m-2 c = search (rules, above_wrong)
 
 pub overflow_add-result : goal.overflow_add-result
 overflow_add-result c = search (rules, above_fits)

@@ -6,8 +6,8 @@ use Rattle.decimal.proofs.canonical.read_unsigned.Goals as goal
 pub returns-then-byte_at-eq45 : goal.returns-then-byte_at-eq45
 returns-then-byte_at-eq45 c = search (rules, price_minus)
 
-pub returns-in_default : goal.returns-in_default
-returns-in_default c = search (rules, price_wrong)
+pub returns-in_err-m : goal.returns-in_err-m
+returns-in_err-m c = search (rules, price_wrong)
 
 pub overflow_sub-result : goal.overflow_sub-result
 overflow_sub-result c = search (rules, price_le)

@@ -15,8 +15,8 @@ overflow_sub-k c = search (rules, fraction_few)
 pub overflow_mul-result : goal.overflow_mul-result
 overflow_mul-result c = search (rules, fraction_fits)
 
-pub returns-in-Value : goal.returns-in-Value
-returns-in-Value c = search (rules, fraction_is)
+pub returns : goal.returns
+returns c = search (rules, fraction_is)
 
-pub returns-in-Wrong : goal.returns-in-Wrong
-returns-in-Wrong c = search (rules, fraction_wrong)
+pub returns-in_err-n : goal.returns-in_err-n
+returns-in_err-n c = search (rules, fraction_wrong)

@@ -9,8 +9,8 @@ returns-then-byte_at-eq45 c = search (rules, price_minus)
 pub overflow_sub-result : goal.overflow_sub-result
 overflow_sub-result c = search (rules, price_room)
 
-pub returns-in-Value : goal.returns-in-Value
-returns-in-Value c = search (rules, price_plain)
+pub returns : goal.returns
+returns c = search (rules, price_plain)
 
-pub returns-in-Wrong : goal.returns-in-Wrong
-returns-in-Wrong c = search (rules, price_plain_wrong)
+pub returns-in_err-t : goal.returns-in_err-t
+returns-in_err-t c = search (rules, price_plain_wrong)

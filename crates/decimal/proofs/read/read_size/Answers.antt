@@ -26,10 +26,10 @@ pub overflow_mul-result : goal.overflow_mul-result
 overflow_mul-result c = search (rules, whole_fits)
 
 pub overflow_add-result : goal.overflow_add-result
-overflow_add-result c = search (rules, sum_fits)
+overflow_add-result c = search (rules, sum_fits, c.in_ok-f.was)
 
-pub returns-in-Value : goal.returns-in-Value
-returns-in-Value c = search (rules, size_is)
+pub returns : goal.returns
+returns c = search (rules, size_is, c.in_ok-f.was)
 
-pub returns-in-Wrong : goal.returns-in-Wrong
-returns-in-Wrong c = search (rules, size_wrong)
+pub returns-in_err-f : goal.returns-in_err-f
+returns-in_err-f c = search (rules, size_wrong)

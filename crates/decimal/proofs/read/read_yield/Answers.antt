@@ -12,17 +12,17 @@ slice_bounds-read_size-start c = search (rules, minus_some)
 pub overflow_sub-result : goal.overflow_sub-result
 overflow_sub-result c = search (rules, yield_room)
 
-pub returns-in-Value : goal.returns-in-Value
-returns-in-Value c = search (rules, yield_minus)
+pub returns-then-byte_at-eq45 : goal.returns-then-byte_at-eq45
+returns-then-byte_at-eq45 c = search (rules, yield_minus)
 
-pub returns-in-Wrong : goal.returns-in-Wrong
-returns-in-Wrong c = search (rules, yield_minus_wrong)
+pub returns-in_err-t : goal.returns-in_err-t
+returns-in_err-t c = search (rules, yield_minus_wrong)
 
 pub overflow_add-result : goal.overflow_add-result
 overflow_add-result c = search (rules, yield_fits)
 
-pub returns-in-Value-read_size : goal.returns-in-Value-read_size
-returns-in-Value-read_size c = search (rules, yield_plain)
+pub returns : goal.returns
+returns c = search (rules, yield_plain)
 
-pub returns-in-Wrong-read_size : goal.returns-in-Wrong-read_size
-returns-in-Wrong-read_size c = search (rules, yield_plain_wrong)
+pub returns-in_err-t-2 : goal.returns-in_err-t-2
+returns-in_err-t-2 c = search (rules, yield_plain_wrong)

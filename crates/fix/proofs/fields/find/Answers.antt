@@ -1,5 +1,5 @@
 -- The first field with the tag. Invariant: it is the first from the cursor on.
-use Rattle.std.proofs.Common.{rules}
+use Rattle.std.proofs.Common.{⊎_elim, rules}
 use Rattle.fix.proofs.Walk.{step_less}
 use Rattle.fix.proofs.Loops.{find_here, find_next, find_broken, find_end}
 use Rattle.fix.proofs.fields.find.Goals as goal
@@ -14,7 +14,4 @@ pub loop-t-preserved : goal.loop-t-preserved
 loop-t-preserved c = search (rules, find_next)
 
 pub returns-in-Broken : goal.returns-in-Broken
-returns-in-Broken c = search (rules, find_broken)
-
-pub returns-in-End : goal.returns-in-End
-returns-in-End c = search (rules, find_end)
+returns-in-Broken c = ⊎_elim (λ g. search (rules, find_broken)) (λ g. search (rules, find_end)) c.in-Broken.is

@@ -9,8 +9,8 @@ overflow_add-result c = search (rules, value_fits)
 pub slice_bounds-result-end : goal.slice_bounds-result-end
 slice_bounds-result-end c = search (rules, value_end)
 
-pub returns-in-At : goal.returns-in-At
-returns-in-At c = search (rules, value_is)
+pub returns-in-Some : goal.returns-in-Some
+returns-in-Some c = search (rules, value_is)
 
-pub returns-in-Nothing : goal.returns-in-Nothing
-returns-in-Nothing c = search (rules, value_none)
+pub returns-in-None : goal.returns-in-None
+returns-in-None c = search (rules, value_none)

@@ -19,8 +19,8 @@ walk-requires c = search (rules, ready)
 pub ordered-requires : goal.ordered-requires
 ordered-requires c = (search rules, search (rules, walk_rowed))
 
-pub returns-in-Whole : goal.returns-in-Whole
-returns-in-Whole c = search (rules, framed_walked)
+pub returns : goal.returns
+returns c = search (rules, framed_walked)
 
-pub returns-in-Wrong : goal.returns-in-Wrong
-returns-in-Wrong c = search (rules, framed_garbled, walk_wrong)
+pub returns-in_err-w : goal.returns-in_err-w
+returns-in_err-w c = search (rules, framed_garbled, walk_wrong)

@@ -4,8 +4,8 @@ use Rattle.fix.proofs.Lines.{lined_laid}
 use Rattle.std.proofs.Common.{rules}
 use Rattle.fix.proofs.frame.lined.Goals as goal
 
-pub returns-in_default : goal.returns-in_default
-returns-in_default c = search (rules, opening_wrong)
+pub returns-in_err-o : goal.returns-in_err-o
+returns-in_err-o c = search (rules, opening_wrong)
 
 pub settled-requires : goal.settled-requires
-settled-requires c = search (rules, lined_laid)
+settled-requires c = search (rules, lined_laid, c.in_ok-o.ensures)

@@ -6,8 +6,8 @@ use Rattle.fix.proofs.frame.opens.Goals as goal
 pub returns-then-not-same : goal.returns-then-not-same
 returns-then-not-same c = search (rules, opens_begin)
 
-pub returns-in-Value : goal.returns-in-Value
-returns-in-Value c = search (rules, opens_is)
+pub returns : goal.returns
+returns c = search (rules, opens_is, c.in_ok-count.was)
 
-pub returns-in-Wrong : goal.returns-in-Wrong
-returns-in-Wrong c = search (rules, opens_wrong)
+pub returns-in_err-count : goal.returns-in_err-count
+returns-in_err-count c = rw c.from_residual.ensures (search (rules, opens_wrong, c.in_err-count.was))

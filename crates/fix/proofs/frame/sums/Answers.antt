@@ -1,7 +1,7 @@
 -- 10 against the sum.
-use Rattle.fix.specs.Steps.{sums_of}
+use Rattle.std.proofs.Common.{rules}
+use Rattle.fix.proofs.Verdict.{sums_says}
 use Rattle.fix.proofs.frame.sums.Goals as goal
 
 pub returns : goal.returns
-unfolding sums_of
-returns c = cc
+returns c = search (rules, sums_says)

@@ -6,6 +6,3 @@ use Rattle.fix.proofs.pass.seen.Given as goal
 
 abbrev pub invariant-loop-j : goal.invariant-loop-j
 invariant-loop-j l = has_tag l.tag (row_fields l.row 0 l.n) ≡ has_tag l.tag (row_fields l.row l.j (l.n - l.j))
-
-abbrev pub decreases-loop-j : goal.decreases-loop-j
-decreases-loop-j l = l.n - l.j
