@@ -49,7 +49,8 @@ pub fn put_label(out: &mut [u8], at: usize, tag: u64) -> usize
     put_byte(out, a, b'=')
 }
 
-// A field with one character.
+// A field with one character. This and the next three are not one function with a closure for the value: what the closure writes would have
+// to be said of it in a clause, which is no shorter than the three lines.
 pub fn put_char(out: &mut [u8], at: usize, tag: u64, c: u8) -> usize
     requires { Room out.old at (written tag (c ∷ [])) }
     ensures { Wrote out.old at (written tag (c ∷ [])) result out.new }
@@ -93,21 +94,7 @@ pub fn put_average(out: &mut [u8], at: usize, tag: u64, q: Instrument, mean: u64
 pub fn is_absent(value: Value) -> bool
     ensures { result ≡ is_absent value }
 {
-    match value {
-        Value::Absent => true,
-        Value::Number(_) => false,
-        Value::Char(_) => false,
-        Value::Word {
-            w: _,
-            x: _,
-            y: _,
-            z: _,
-        } => false,
-        Value::Sent { from: _, len: _ } => false,
-        Value::Stored { from: _, len: _ } => false,
-        Value::Level { of: _, level: _ } => false,
-        Value::Mean { of: _, mean: _ } => false,
-    }
+    matches!(value, Value::Absent)
 }
 
 // A field with this tag and this value, or nothing where it is absent.
@@ -146,11 +133,9 @@ pub fn put_row(out: &mut [u8], at: usize, row: [Field; 36], sent: &[u8], stored:
     ensures { Wrote out.old at (row_bytes sent.now stored.now row) result out.new }
 {
     let mut o = at;
-    let mut i = 0;
-    while i < 36 {
+    for i in 0..36 {
         let field = row[i];
         o = put_field(out, o, field, sent, stored);
-        i += 1;
     }
     o
 }
@@ -173,10 +158,8 @@ fn move_to(out: &mut [u8], at: usize, n: usize)
     if at == 16 {
         return;
     }
-    let mut i = 0;
-    while i < n {
+    for i in 0..n {
         out[at + i] = out[16 + i];
-        i += 1;
     }
 }
 

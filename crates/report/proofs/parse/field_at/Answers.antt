@@ -15,8 +15,8 @@ value_at-requires c = search (rules, there_ends)
 pub returns-then-e-at : goal.returns-then-e-at
 returns-then-e-at c = search (rules, there_yes)
 
-pub returns-then-optional : goal.returns-then-optional
-returns-then-optional c = search (rules, there_skip)
+pub returns-then-not-optional : goal.returns-then-not-optional
+returns-then-not-optional c = search (rules, there_wrong)
 
 pub returns : goal.returns
-returns c = search (rules, there_wrong)
+returns c = search (rules, there_skip)
