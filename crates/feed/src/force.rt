@@ -9,34 +9,20 @@ use report::{Field, Value};
 fn is_four(value: Value) -> bool
     ensures { result ≡ is_four value }
 {
-    match value {
-        Value::Absent => false,
-        Value::Number(_) => false,
-        Value::Char(c) => c == b'4',
-        Value::Word {
-            w: _,
-            x: _,
-            y: _,
-            z: _,
-        } => false,
-        Value::Sent { from: _, len: _ } => false,
-        Value::Stored { from: _, len: _ } => false,
-        Value::Level { of: _, level: _ } => false,
-        Value::Mean { of: _, mean: _ } => false,
-    }
+    let Value::Char(c) = value else {
+        return false;
+    };
+    c == b'4'
 }
 
 // The value of a tag, absent where no field has it.
 fn value_of(fields: [Field; 36], tag: u64) -> Value
     ensures { result ≡ value_of tag fields }
 {
-    let mut i = 0;
-    while i < 36 {
-        let field = fields[i];
+    for field in fields {
         if field.tag == tag {
             return field.value;
         }
-        i += 1;
     }
     Value::Absent
 }
@@ -66,11 +52,9 @@ fn ioc_row(fields: [Field; 36], quantity: Value) -> [Field; 36]
     ensures { result ≡ map (ioc_field quantity) fields }
 {
     let mut row = fields;
-    let mut i = 0;
-    while i < 36 {
+    for i in 0..36 {
         let field = row[i];
         row[i] = ioc_field(field, quantity);
-        i += 1;
     }
     row
 }

@@ -1,4 +1,5 @@
-// How a feed is set up: whether its settings mean something, the text of 109, which kinds it copies.
+// How a feed is set up: whether its settings mean something, the text of 109, which kinds it copies. The settings are the numbers that the C
+// interface takes, since the definitions of specs/Settings speak of those: 0 or any other number that is no setting comes as far as here.
 ghost use Rattle.std.specs.Prelude.{◌≡◌, ◌&&◌, ◌≤◌, leb, length};
 ghost use Rattle.octets.specs.Written.{Room, Wrote};
 ghost use Rattle.feed.specs.Rows.{longest as longest_of};
@@ -77,16 +78,7 @@ pub fn client_text(out: &mut [u8], shows: u64, port: &[u8], group: &[u8]) -> usi
 pub fn is_none(kind: Kind) -> bool
     ensures { result ≡ is_none kind }
 {
-    match kind {
-        Kind::Accepted => false,
-        Kind::Replaced => false,
-        Kind::Canceled => false,
-        Kind::Trade => false,
-        Kind::Rejected => false,
-        Kind::CancelReject => false,
-        Kind::SessionReject => false,
-        Kind::Refused => true,
-    }
+    matches!(kind, Kind::Refused)
 }
 
 // Whether reports of this kind are copied.
