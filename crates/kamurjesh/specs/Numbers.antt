@@ -1,7 +1,7 @@
 -- The numbers that the C interface gives for a level that Depth finds, for the place of a field and for the bad block of an image, each 0
 -- where there is nothing to say (document 01, "The table and its calls"; document 02, T-08 and T-12). The yield is signed, in thousandths;
 -- so is the price, in tenths, though it is never below zero. Assumes nothing.
-use Rattle.std.specs.Prelude.{ℕ, ℤ, pos}
+use Rattle.std.specs.Prelude.{ℕ, ℤ, pos, Option, Some, None}
 use Rattle.std.proofs.Math.IntN.{sub_ℕ}
 use Rattle.decimal.specs.declared.Instrument.{Instrument}
 use Rattle.decimal.specs.declared.Instrument.TheVariants.{Bonds, Equities}
@@ -11,8 +11,7 @@ use Rattle.market.specs.declared.DepthAnswer.{DepthAnswer}
 use Rattle.market.specs.declared.DepthAnswer.TheVariants.{NoMarket, InWork, BadSide, Found}
 use Rattle.image.specs.declared.RestoreAnswer.{RestoreAnswer}
 use Rattle.image.specs.declared.RestoreAnswer.TheVariants as restore
-use Rattle.report.specs.declared.Part.{Part}
-use Rattle.report.specs.declared.Part.TheVariants.{At, Nowhere}
+use Rattle.fix.specs.declared.frame.Part.{Part}
 
 -- ---- Depth
 
@@ -34,17 +33,17 @@ quote_of q NoLevel = pos 0
 
 -- ---- the place of a field
 
-abbrev pub is_there : Part → ℕ
-is_there (At start len) = 1
-is_there Nowhere = 0
+abbrev pub is_there : Option Part → ℕ
+is_there (Some part) = 1
+is_there None = 0
 
-abbrev pub start_of : Part → ℕ
-start_of (At start len) = start
-start_of Nowhere = 0
+abbrev pub start_of : Option Part → ℕ
+start_of (Some part) = part.start
+start_of None = 0
 
-abbrev pub len_of : Part → ℕ
-len_of (At start len) = len
-len_of Nowhere = 0
+abbrev pub len_of : Option Part → ℕ
+len_of (Some part) = part.len
+len_of None = 0
 
 -- ---- the bad block of an image, which counts from 0
 
