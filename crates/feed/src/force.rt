@@ -28,6 +28,7 @@ fn value_of(fields: [Field; 36], tag: u64) -> Value
 }
 
 // A field of a Fill or Kill order with this quantity, as a copy shows it.
+#[tactic(auto, unfolding(crate::specs::Rows::ioc_field, crate::specs::Rows::ioc_value))]
 fn ioc_field(field: Field, quantity: Value) -> Field
     ensures { result ≡ ioc_field quantity field }
 {
@@ -60,6 +61,7 @@ fn ioc_row(fields: [Field; 36], quantity: Value) -> [Field; 36]
 }
 
 // The fields of a report, its 59 and 110 as a copy shows them.
+#[tactic(auto, using(crate::proofs::Shown::shown_kill, crate::proofs::Shown::shown_still))]
 pub fn shown_row(fields: [Field; 36]) -> [Field; 36]
     ensures { result ≡ shown_row fields }
 {

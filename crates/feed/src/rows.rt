@@ -8,6 +8,7 @@ use decimal::Instrument;
 use report::{Field, Shape, Slot, Value};
 
 // The value of a field of a copy.
+#[tactic(auto, unfolding(crate::specs::Rows::copy_value))]
 fn copy_value(value: Value, tag: u64, number: u64, width: usize) -> Value
     ensures { result ≡ copy_value number width tag value }
 {
@@ -34,6 +35,7 @@ fn is_new(tag: u64) -> bool
 }
 
 // A field of a copy.
+#[tactic(auto, unfolding(crate::specs::Rows::copy_field))]
 fn copy_field(field: Field, number: u64, width: usize) -> Field
     ensures { result ≡ copy_field number width field }
 {
@@ -84,6 +86,7 @@ pub fn longest(q: Instrument) -> usize
 }
 
 // A slot of a copy.
+#[tactic(auto, unfolding(crate::specs::Rows::copy_slot))]
 fn copy_slot(q: Instrument, slot: Slot) -> Slot
     ensures { result ≡ copy_slot q slot }
 {

@@ -14,6 +14,7 @@ use report::Kind;
 use report::values::all_from;
 
 // Whether a text is an identifier of at most so many characters.
+#[tactic(auto, using(crate::proofs::Clients::none_not, crate::proofs::Clients::long_not, crate::proofs::Clients::all_so))]
 fn is_identifier(v: &[u8], most: usize) -> bool
     ensures { result ≡ (is_identifier v.now && leb (length v.now) most) }
 {
@@ -27,6 +28,7 @@ fn is_identifier(v: &[u8], most: usize) -> bool
 }
 
 // Whether the identifiers that 109 shows are some, and 109 is not too long.
+#[tactic(auto, using(crate::proofs::Clients::client_port, crate::proofs::Clients::client_group, crate::proofs::Clients::client_short, crate::proofs::Clients::client_not, crate::proofs::Clients::client_other, crate::proofs::Clients::both_few))]
 fn is_client(q: Instrument, shows: u64, port: &[u8], group: &[u8]) -> bool
     ensures { result ≡ (are_identifiers shows port.now group.now && leb (length (client_of shows port.now group.now)) (longest_of q)) }
 {
@@ -49,6 +51,7 @@ fn is_client(q: Instrument, shows: u64, port: &[u8], group: &[u8]) -> bool
 }
 
 // Whether a feed can be set up so.
+#[tactic(auto, using(crate::proofs::Clients::setting_known, crate::proofs::Clients::setting_unknown))]
 pub fn is_setting(q: Instrument, subscription: u64, shows: u64, port: &[u8], group: &[u8]) -> bool
     ensures { result ≡ is_setting q subscription shows port.now group.now }
 {
@@ -59,6 +62,7 @@ pub fn is_setting(q: Instrument, subscription: u64, shows: u64, port: &[u8], gro
 }
 
 // Writes the text of 109, and gives its length.
+#[tactic(auto, using(crate::proofs::Clients::room_port, crate::proofs::Clients::room_group, crate::proofs::Clients::room_first_one, crate::proofs::Clients::room_hyphen, crate::proofs::Clients::room_second_one))]
 pub fn client_text(out: &mut [u8], shows: u64, port: &[u8], group: &[u8]) -> usize
     requires { Room out.old 0 (client_of shows port.now group.now) }
     ensures { Wrote out.old 0 (client_of shows port.now group.now) result out.new }
@@ -86,14 +90,9 @@ pub fn is_copied(subscription: u64, kind: Kind) -> bool
     ensures { result ≡ copied_by subscription kind }
 {
     match kind {
-        Kind::Accepted => subscription == 2,
-        Kind::Replaced => subscription == 2,
-        Kind::Canceled => subscription == 2,
+        Kind::Accepted | Kind::Replaced | Kind::Canceled => subscription == 2,
         Kind::Trade => true,
-        Kind::Rejected => false,
-        Kind::CancelReject => false,
-        Kind::SessionReject => false,
-        Kind::Refused => false,
+        Kind::Rejected | Kind::CancelReject | Kind::SessionReject | Kind::Refused => false,
     }
 }
 

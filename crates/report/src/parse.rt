@@ -49,6 +49,7 @@ pub fn value_end(s: &[u8], from: usize) -> usize
 }
 
 // Where the value of the field at a place ends, if the tag of k digits stands there; the place itself if it does not.
+#[tactic(auto, using(crate::proofs::Parses::label_fits, crate::proofs::Parses::value_fits, crate::proofs::Parses::end_there, crate::proofs::Parses::end_none))]
 fn end_at(s: &[u8], at: usize, tag: u64, k: usize) -> usize
     requires { (at ≤ length s.now) × (k ≡ length (decimal tag)) }
     ensures { result ≡ cond (starts (label tag) (drop at s.now)) (at + k + 1 + len_to (drop (at + k + 1) s.now)) at }
@@ -60,6 +61,7 @@ fn end_at(s: &[u8], at: usize, tag: u64, k: usize) -> usize
 }
 
 // The value from a place to its SOH, and the place behind that.
+#[tactic(auto, using(crate::proofs::Parses::value_none, crate::proofs::Parses::value_yes, crate::proofs::Parses::value_no))]
 fn value_at(s: &[u8], v: usize, e: usize, shape: Shape) -> Option<Got>
     requires { e ≡ v + len_to (drop v s.now) }
     ensures { result ≡ value_at s.now v shape }
@@ -72,6 +74,7 @@ fn value_at(s: &[u8], v: usize, e: usize, shape: Shape) -> Option<Got>
 }
 
 // The field that stands at a place, as its slot says: its tag has k digits, and its value ends at e if it stands there.
+#[tactic(auto, using(crate::proofs::Parses::there_fits, crate::proofs::Parses::there_from, crate::proofs::Parses::there_ends, crate::proofs::Parses::there_yes, crate::proofs::Parses::there_skip, crate::proofs::Parses::there_wrong))]
 fn field_at(s: &[u8], at: usize, k: usize, e: usize, slot: Slot) -> Option<Got>
     requires at_in_bounds { (at ≤ length s.now) × (k ≡ length (decimal slot.tag)) }
     requires e_value { e ≡ cond (starts (label slot.tag) (drop at s.now)) (at + k + 1 + len_to (drop (at + k + 1) s.now)) at }
@@ -118,6 +121,7 @@ pub fn read_row(s: &[u8], at: usize, slots: [Slot; 36]) -> Option<Row>
 }
 
 // The place behind the next SOH, or the end.
+#[tactic(auto, using(crate::proofs::Walks::past_some, crate::proofs::Walks::past_none))]
 fn past(s: &[u8], at: usize) -> usize
     requires { at ≤ length s.now }
     ensures { result ≡ at + hop (drop at s.now) }
@@ -131,6 +135,7 @@ fn past(s: &[u8], at: usize) -> usize
 
 // Whether a field with a tag of k digits may begin behind the byte at place i: an SOH stands there, and where the label would end its last digit
 // and `=`.
+#[tactic(auto, using(crate::proofs::Walks::pass_one))]
 fn may_begin(s: &[u8], i: usize, tag: u64, k: usize) -> bool
     requires { (i + k + 1 < length s.now) × (k ≡ length (decimal tag)) }
     ensures { Passes tag s.now i 1 result }

@@ -16,6 +16,7 @@ use fix::frame::{Part, checksum};
 use octets::{part_at, same};
 
 // Where the body stands, as 9 says, if it ends within the n bytes.
+#[tactic(auto, using(crate::proofs::Frames::length_past, crate::proofs::Frames::length_more, crate::proofs::Frames::length_yes))]
 fn length_in(got: Got, n: usize) -> Option<Part>
     ensures { result ≡ length_in got n }
 {
@@ -86,31 +87,22 @@ fn first_of(s: &[u8], tag: u64) -> u8
 }
 
 // The execution report that 150 says.
+#[tactic(auto, unfolding(crate::specs::Reports::execution_for))]
 fn execution_for(b: u8) -> Kind
     ensures { result ≡ execution_for b }
 {
-    if b == b'0' {
-        return Kind::Accepted;
+    match b {
+        b'0' => Kind::Accepted,
+        b'5' => Kind::Replaced,
+        b'4' => Kind::Canceled,
+        b'1' | b'2' => Kind::Trade,
+        b'8' => Kind::Rejected,
+        _ => Kind::Refused,
     }
-    if b == b'5' {
-        return Kind::Replaced;
-    }
-    if b == b'4' {
-        return Kind::Canceled;
-    }
-    if b == b'1' {
-        return Kind::Trade;
-    }
-    if b == b'2' {
-        return Kind::Trade;
-    }
-    if b == b'8' {
-        return Kind::Rejected;
-    }
-    Kind::Refused
 }
 
 // The kind that a report can be, by 35 and 150.
+#[tactic(auto, using(crate::proofs::Readings::kind_session, crate::proofs::Readings::kind_cancel, crate::proofs::Readings::kind_execution, crate::proofs::Readings::kind_none))]
 pub fn kind_of(s: &[u8]) -> Kind
     ensures { result ≡ kind_of s.now }
 {
@@ -128,6 +120,7 @@ pub fn kind_of(s: &[u8]) -> Kind
 }
 
 // Whether exactly one of 41 and 378 of a Canceled is there.
+#[tactic(auto, unfolding(crate::specs::Reports::one_reason))]
 fn one_reason(fields: [Field; 36]) -> bool
     ensures { result ≡ one_reason fields }
 {
@@ -135,11 +128,7 @@ fn one_reason(fields: [Field; 36]) -> bool
     let g = fields[27];
     let orig = f.value;
     let restated = g.value;
-    let b = is_absent(restated);
-    if is_absent(orig) {
-        return !b;
-    }
-    b
+    is_absent(orig) != is_absent(restated)
 }
 
 // Whether the fields are those of one way of writing the kind.
@@ -147,14 +136,14 @@ fn agrees(kind: Kind, fields: [Field; 36]) -> bool
     ensures { result ≡ agreed kind fields }
 {
     match kind {
-        Kind::Accepted => true,
-        Kind::Replaced => true,
         Kind::Canceled => one_reason(fields),
-        Kind::Trade => true,
-        Kind::Rejected => true,
-        Kind::CancelReject => true,
-        Kind::SessionReject => true,
         Kind::Refused => false,
+        Kind::Accepted
+        | Kind::Replaced
+        | Kind::Trade
+        | Kind::Rejected
+        | Kind::CancelReject
+        | Kind::SessionReject => true,
     }
 }
 
@@ -201,6 +190,7 @@ pub fn read(q: Instrument, s: &[u8]) -> Reading
 }
 
 // Where the value of the first field with a tag stands.
+#[tactic(auto, using(crate::proofs::Readings::part_none, crate::proofs::Readings::part_some, crate::proofs::Readings::label_fits, crate::proofs::Readings::value_fits))]
 pub fn field(s: &[u8], tag: u64) -> Option<Part>
     ensures { result ≡ part_of s.now tag }
 {

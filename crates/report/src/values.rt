@@ -9,6 +9,7 @@ use decimal::read::{is_time, read_number};
 use octets::same;
 
 // One of five characters.
+#[tactic(auto, unfolding(crate::specs::Shapes::one_in))]
 pub fn pick_one(v: &[u8], a: u8, b: u8, c: u8, d: u8, e: u8) -> Option<Value>
     ensures { result ≡ one_in a b c d e v.now }
 {
@@ -81,6 +82,7 @@ pub fn pick_word(v: &[u8], w: u8, x: u8, y: u8, z: u8) -> Option<Value>
 }
 
 // An OrderID, 1 to 999,999,999, or NONE.
+#[tactic(auto, unfolding(crate::specs::Shapes::order_id_in))]
 pub fn pick_order_id(v: &[u8]) -> Option<Value>
     ensures { result ≡ order_id_in v.now }
 {
@@ -112,6 +114,7 @@ pub fn all_from(v: &[u8], low: u8) -> bool
 }
 
 // 1 to `most` characters.
+#[tactic(auto, unfolding(crate::specs::Shapes::text_in))]
 pub fn pick_text(v: &[u8], from: usize, most: usize, low: u8) -> Option<Value>
     ensures { result ≡ text_in most low from v.now }
 {
@@ -135,6 +138,7 @@ pub fn pick_place(said: Option<u64>, from: usize, len: usize) -> Option<Value>
 }
 
 // A time.
+#[tactic(auto, unfolding(crate::specs::Shapes::time_in))]
 pub fn pick_time(v: &[u8], from: usize) -> Option<Value>
     ensures { result ≡ time_in from v.now }
 {

@@ -41,6 +41,7 @@ pub fn put_value(out: &mut [u8], at: usize, value: Value, sent: &[u8], stored: &
 }
 
 // A tag and `=`.
+#[tactic(auto, using(octets::proofs::Runs::room_first, octets::proofs::Runs::room_then, octets::proofs::Runs::then, octets::proofs::Runs::wrote_length), unfolding(crate::specs::Fields::label))]
 pub fn put_label(out: &mut [u8], at: usize, tag: u64) -> usize
     requires { Room out.old at (label tag) }
     ensures { Wrote out.old at (label tag) result out.new }
@@ -51,6 +52,7 @@ pub fn put_label(out: &mut [u8], at: usize, tag: u64) -> usize
 
 // A field with one character. This and the next three are not one function with a closure for the value: what the closure writes would have
 // to be said of it in a clause, which is no shorter than the three lines.
+#[tactic(auto, using(octets::proofs::Runs::room_first, octets::proofs::Runs::room_then, octets::proofs::Runs::then, octets::proofs::Runs::wrote_length), unfolding(crate::specs::Fields::written))]
 pub fn put_char(out: &mut [u8], at: usize, tag: u64, c: u8) -> usize
     requires { Room out.old at (written tag (c ∷ [])) }
     ensures { Wrote out.old at (written tag (c ∷ [])) result out.new }
@@ -61,6 +63,7 @@ pub fn put_char(out: &mut [u8], at: usize, tag: u64, c: u8) -> usize
 }
 
 // A field with a number.
+#[tactic(auto, using(octets::proofs::Runs::room_first, octets::proofs::Runs::room_then, octets::proofs::Runs::then, octets::proofs::Runs::wrote_length), unfolding(crate::specs::Fields::written))]
 pub fn put_number(out: &mut [u8], at: usize, tag: u64, n: u64) -> usize
     requires { Room out.old at (written tag (decimal n)) }
     ensures { Wrote out.old at (written tag (decimal n)) result out.new }
@@ -71,6 +74,7 @@ pub fn put_number(out: &mut [u8], at: usize, tag: u64, n: u64) -> usize
 }
 
 // A field with a yield or a price.
+#[tactic(auto, using(octets::proofs::Runs::room_first, octets::proofs::Runs::room_then, octets::proofs::Runs::then, octets::proofs::Runs::wrote_length), unfolding(crate::specs::Fields::written))]
 pub fn put_price(out: &mut [u8], at: usize, tag: u64, q: Instrument, level: u64) -> usize
     requires { Room out.old at (written tag (level_text q level)) }
     ensures { Wrote out.old at (written tag (level_text q level)) result out.new }
@@ -81,6 +85,7 @@ pub fn put_price(out: &mut [u8], at: usize, tag: u64, q: Instrument, level: u64)
 }
 
 // A field with an average of them.
+#[tactic(auto, using(octets::proofs::Runs::room_first, octets::proofs::Runs::room_then, octets::proofs::Runs::then, octets::proofs::Runs::wrote_length), unfolding(crate::specs::Fields::written))]
 pub fn put_average(out: &mut [u8], at: usize, tag: u64, q: Instrument, mean: u64) -> usize
     requires { Room out.old at (written tag (mean_text q mean)) }
     ensures { Wrote out.old at (written tag (mean_text q mean)) result out.new }
@@ -164,6 +169,7 @@ fn move_to(out: &mut [u8], at: usize, n: usize)
 }
 
 // 10, as three digits.
+#[tactic(auto, using(octets::proofs::Runs::room_first, octets::proofs::Runs::room_then, octets::proofs::Runs::then, octets::proofs::Runs::wrote_length), unfolding(crate::specs::Fields::written, crate::specs::Frame::trailer))]
 pub fn put_trailer(out: &mut [u8], at: usize, sum: u8) -> usize
     requires { Room out.old at (trailer sum) }
     ensures { Wrote out.old at (trailer sum) result out.new }
