@@ -19,10 +19,9 @@ use Rattle.report.proofs.Back.{start}
 use Rattle.readback.specs.Says.{number_of, says_in, says}
 use Rattle.readback.proofs.Said.{backs_say}
 use Rattle.promises.specs.Tallies.{Account, after_report, noted, is_trade, traded_for, is_refused}
-use Rattle.feed.specs.declared.CopyAnswer.TheVariants.{NotCopied}
 use Rattle.feed.specs.Rows.{is_fill_or_kill, copy_row}
 use Rattle.feed.specs.Settings.{client_of, is_setting, copied_by}
-use Rattle.feed.specs.Copies.{unfed, fed_with, is_none, copy_bytes, fed, read_copy_of}
+use Rattle.feed.specs.Copies.{not_copied, unfed, fed_with, is_none, copy_bytes, fed, read_copy_of}
 use Rattle.feed.specs.Kept.{at_tag, is_kept}
 use Rattle.feed.proofs.Clients.{setting_short, setting_text}
 use Rattle.feed.proofs.Copied.{Given}
@@ -170,6 +169,6 @@ module _ (q : Instrument) (subscription shows : ℕ) (port group : List ℕ) (se
   unfolding fed
   fed_copied c = rw (some, set, left, c)
 
-  pub fed_not : copied_by subscription (read_of q report).kind ≡ false → fed q report subscription shows port group n 1024 ≡ unfed (NotCopied n)
+  pub fed_not : copied_by subscription (read_of q report).kind ≡ false → fed q report subscription shows port group n 1024 ≡ unfed (not_copied n)
   unfolding fed
   fed_not c = rw (some, set, left, c)

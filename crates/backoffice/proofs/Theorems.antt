@@ -25,14 +25,16 @@ use Rattle.promises.specs.History.{Call, Submit, Run, Load, Depth, Top, Read, ta
 use Rattle.promises.specs.Tallies.{blank, account_of, sells, bought, sold}
 use Rattle.promises.proofs.Histories.{call_keeps, history_keeps}
 use Rattle.promises.proofs.Theorems.{all_read, balanced}
-use Rattle.feed.specs.declared.CopyAnswer.{CopyAnswer}
+use Rattle.std.proofs.Common.{Result}
+use Rattle.refusals.specs.declared.Refusal.{Refusal}
+use Rattle.feed.specs.declared.Answer.{Answer}
 use Rattle.feed.specs.Settings.{is_setting}
 use Rattle.feed.specs.Copies.{fed, read_copy_of}
 use Rattle.backoffice.specs.Feeds.{copies_from, NumberedFrom}
 use Rattle.backoffice.proofs.Feeding.{numbered, full_accounts, trades_copied}
 
 -- ---- two results that meet a contract are the same, down to every lent byte
-pub copy_is_one : (q : Instrument) (report : List ℕ) (subscription shows : ℕ) (port group : List ℕ) (next : ℕ) (area : List ℕ) (r s : CopyAnswer) (u v : List ℕ)
+pub copy_is_one : (q : Instrument) (report : List ℕ) (subscription shows : ℕ) (port group : List ℕ) (next : ℕ) (area : List ℕ) (r s : Result Answer Refusal) (u v : List ℕ)
     → let f = fed q report subscription shows port group next (length area) in
     r ≡ f.answer → s ≡ f.answer → u ≡ put area 0 f.bytes → v ≡ put area 0 f.bytes → (r ≡ s) × (u ≡ v)
 copy_is_one q report subscription shows port group next area r s u v a b c d = (a ∙ sym b, c ∙ sym d)

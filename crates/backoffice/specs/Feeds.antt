@@ -1,31 +1,23 @@
 -- Reports handed to a feed one by one, each with the number that the one before left (document 02, T-01), and the numbers of the copies.
 -- What a back office tells from the copies, as `read_copy` gives them, is what a member tells from reports. Assumes nothing.
-use Rattle.std.specs.Prelude.{◌≡◌, List, [], ◌∷◌, ◌++◌, ℕ, ◌+◌}
+use Rattle.std.specs.Prelude.{◌≡◌, List, [], ◌∷◌, ◌++◌, ℕ, ◌+◌, Result, Ok, Err, option_map, unwrap_or}
 use Rattle.decimal.specs.declared.Instrument.{Instrument}
 use Rattle.readback.specs.Says.{says}
-use Rattle.feed.specs.declared.CopyAnswer.{CopyAnswer}
-use Rattle.feed.specs.declared.CopyAnswer.TheVariants.{NoRoom, NoReport, BadSetting, NumbersSpent, NotCopied, Copied}
+use Rattle.refusals.specs.declared.Refusal.{Refusal}
+use Rattle.feed.specs.declared.Answer.{Answer}
 use Rattle.feed.specs.Copies.{fed, read_copy_of}
 
 -- ---- the copies
 
 -- what a feed wrote, if it wrote a copy
-abbrev pub written_by : CopyAnswer → List ℕ → List (List ℕ)
-written_by NoRoom bytes = []
-written_by NoReport bytes = []
-written_by BadSetting bytes = []
-written_by NumbersSpent bytes = []
-written_by (NotCopied next) bytes = []
-written_by (Copied len next) bytes = bytes ∷ []
+abbrev pub written_by : Result Answer Refusal → List ℕ → List (List ℕ)
+written_by (Ok c) bytes = unwrap_or (option_map (λ len. bytes ∷ []) c.len) []
+written_by (Err r) bytes = []
 
 -- the number that goes in next; a refusal leaves it
-abbrev pub next_after : ℕ → CopyAnswer → ℕ
-next_after n NoRoom = n
-next_after n NoReport = n
-next_after n BadSetting = n
-next_after n NumbersSpent = n
-next_after n (NotCopied next) = next
-next_after n (Copied len next) = next
+abbrev pub next_after : ℕ → Result Answer Refusal → ℕ
+next_after n (Ok c) = c.next
+next_after n (Err r) = n
 
 -- the copies of reports, from number n on, each in an area of 1,024 bytes
 unfoldable pub copies_from : Instrument → ℕ → ℕ → List ℕ → List ℕ → ℕ → List (List ℕ) → List (List ℕ)

@@ -23,11 +23,13 @@ use Rattle.report.specs.Fields.{row_bytes}
 use Rattle.report.specs.Frame.{report_bytes}
 use Rattle.report.specs.Slots.{slots_of}
 use Rattle.report.specs.Reports.{kind_of, read_framed, reading_of, read_of}
-use Rattle.feed.specs.declared.CopyAnswer.{CopyAnswer}
-use Rattle.feed.specs.declared.CopyAnswer.TheVariants as answer
+use Rattle.std.proofs.Common.{Result, Err}
+use Rattle.refusals.specs.declared.Refusal.{Refusal}
+use Rattle.refusals.specs.declared.Refusal.TheVariants as refusal
+use Rattle.feed.specs.declared.Answer.{Answer}
 use Rattle.feed.specs.Rows.{copy_row, copy_slots}
 use Rattle.feed.specs.Settings.{client_of, is_setting, copied_by}
-use Rattle.feed.specs.Copies.{Fed, unfed, fed_with, is_none, copy_bytes, fed, copy_kind, read_copy_of}
+use Rattle.feed.specs.Copies.{Fed, unfed, not_copied as passed_over, copied as copied_so, fed_with, is_none, copy_bytes, fed, copy_kind, read_copy_of}
 use Rattle.feed.proofs.Clients.{longest_most, setting_short, setting_text}
 use Rattle.feed.proofs.Copied.{Given}
 use Rattle.feed.proofs.Theorems.{row_few}
@@ -66,57 +68,57 @@ module _ (q : Instrument) (report : List ℕ) (subscription shows : ℕ) (port g
   abbrev client : List ℕ
   client = client_of shows port group
 
-  unfed_is : (a : CopyAnswer) → all ≡ unfed a → (a ≡ all.answer) × (area ≡ put area 0 all.bytes)
+  unfed_is : (a : Result Answer Refusal) → all ≡ unfed a → (a ≡ all.answer) × (area ≡ put area 0 all.bytes)
   unfolding put
   unfed_is a e = (sym (ap (λ (f : Fed). f.answer) e), sym (ap (λ (f : Fed). put area 0 f.bytes) e))
 
-  no_room_is : length area < 1024 → all ≡ unfed answer.NoRoom
+  no_room_is : length area < 1024 → all ≡ unfed (Err refusal.NoRoom)
   unfolding fed
   no_room_is h = rw (lt-ltb (length area) 1024 h)
 
-  pub no_room : length area < 1024 → (answer.NoRoom ≡ all.answer) × (area ≡ put area 0 all.bytes)
-  no_room h = unfed_is answer.NoRoom (no_room_is h)
+  pub no_room : length area < 1024 → (Err refusal.NoRoom ≡ all.answer) × (area ≡ put area 0 all.bytes)
+  no_room h = unfed_is (Err refusal.NoRoom) (no_room_is h)
 
   module _ (room : 1024 ≤ length area) (r : Reading) (re : r ≡ read_of q report) (t : Bool) (te : t ≡ is_none r.kind) where
     none_is : is_none (read_of q report).kind ≡ t
     none_is = sym (te ∙ ap (λ (x : Reading). is_none x.kind) re)
 
-    no_report_is : t ≡ true → all ≡ unfed answer.NoReport
+    no_report_is : t ≡ true → all ≡ unfed (Err refusal.NoReport)
     unfolding fed
     no_report_is y = rw (le-ltb (length area) 1024 room, none_is ∙ y)
 
-    pub no_report : t ≡ true → (answer.NoReport ≡ all.answer) × (area ≡ put area 0 all.bytes)
-    no_report y = unfed_is answer.NoReport (no_report_is y)
+    pub no_report : t ≡ true → (Err refusal.NoReport ≡ all.answer) × (area ≡ put area 0 all.bytes)
+    no_report y = unfed_is (Err refusal.NoReport) (no_report_is y)
 
     module _ (some : t ≡ false) (u : Bool) (ue : u ≡ is_setting q subscription shows port group) where
-      bad_setting_is : u ≡ false → all ≡ unfed answer.BadSetting
+      bad_setting_is : u ≡ false → all ≡ unfed (Err refusal.BadFeed)
       unfolding fed
       bad_setting_is y = rw (le-ltb (length area) 1024 room, none_is ∙ some, sym ue ∙ y)
 
-      pub bad_setting : u ≡ false → (answer.BadSetting ≡ all.answer) × (area ≡ put area 0 all.bytes)
-      bad_setting y = unfed_is answer.BadSetting (bad_setting_is y)
+      pub bad_setting : u ≡ false → (Err refusal.BadFeed ≡ all.answer) × (area ≡ put area 0 all.bytes)
+      bad_setting y = unfed_is (Err refusal.BadFeed) (bad_setting_is y)
 
       module _ (set : u ≡ true) where
         set_is : is_setting q subscription shows port group ≡ true
         set_is = sym ue ∙ set
 
-        spent_is : (eqb next 0 || ltb 999999999 next) ≡ true → all ≡ unfed answer.NumbersSpent
+        spent_is : (eqb next 0 || ltb 999999999 next) ≡ true → all ≡ unfed (Err refusal.NumbersSpent)
         unfolding fed
         spent_is y = rw (le-ltb (length area) 1024 room, none_is ∙ some, set_is, y)
 
-        pub spent : (eqb next 0 || ltb 999999999 next) ≡ true → (answer.NumbersSpent ≡ all.answer) × (area ≡ put area 0 all.bytes)
-        spent y = unfed_is answer.NumbersSpent (spent_is y)
+        pub spent : (eqb next 0 || ltb 999999999 next) ≡ true → (Err refusal.NumbersSpent ≡ all.answer) × (area ≡ put area 0 all.bytes)
+        spent y = unfed_is (Err refusal.NumbersSpent) (spent_is y)
 
         module _ (left : (eqb next 0 || ltb 999999999 next) ≡ false) (v : Bool) (ve : v ≡ copied_by subscription r.kind) where
           copied_by_lem : copied_by subscription (read_of q report).kind ≡ v
           copied_by_lem = sym (ve ∙ ap (λ (x : Reading). copied_by subscription x.kind) re)
 
-          not_copied_is : v ≡ false → all ≡ unfed (answer.NotCopied next)
+          not_copied_is : v ≡ false → all ≡ unfed (passed_over next)
           unfolding fed
           not_copied_is n = rw (le-ltb (length area) 1024 room, none_is ∙ some, set_is, left, copied_by_lem ∙ n)
 
-          pub not_copied : v ≡ false → (answer.NotCopied next ≡ all.answer) × (area ≡ put area 0 all.bytes)
-          not_copied n = unfed_is (answer.NotCopied next) (not_copied_is n)
+          pub not_copied : v ≡ false → (passed_over next ≡ all.answer) × (area ≡ put area 0 all.bytes)
+          not_copied n = unfed_is (passed_over next) (not_copied_is n)
 
           -- what writing asks for
           low : 1 ≤ next
@@ -147,12 +149,12 @@ module _ (q : Instrument) (report : List ℕ) (subscription shows : ℕ) (port g
           copied_is_all y = rw (le-ltb (length area) 1024 room, none_is ∙ some, set_is, left, copied_by_lem ∙ y)
 
           pub copied : v ≡ true → (n : ℕ) (after : List ℕ) → Wrote area 0 (copy_bytes report next client r.fields) n after
-              → (answer.Copied n (next + 1) ≡ all.answer) × (after ≡ put area 0 all.bytes)
+              → (copied_so n (next + 1) ≡ all.answer) × (after ≡ put area 0 all.bytes)
           copied y n after w =
               let e = copied_is_all y in
               let f = ap (λ (x : Reading). copy_bytes report next client x.fields) re in
               let place : n ≡ length (copy_bytes report next client r.fields) = omega (arith, w.place) in (
-                ap (λ (k : ℕ). answer.Copied k (next + 1)) (place ∙ ap length f) ∙ sym (ap (λ (x : Fed). x.answer) e),
+                ap (λ (k : ℕ). copied_so k (next + 1)) (place ∙ ap length f) ∙ sym (ap (λ (x : Fed). x.answer) e),
                 w.bytes_in ∙ ap (put area 0) f ∙ sym (ap (λ (x : Fed). put area 0 x.bytes) e),
               )
 

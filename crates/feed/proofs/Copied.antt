@@ -13,7 +13,6 @@ use Rattle.octets.specs.Octets.{part_at}
 use Rattle.octets.proofs.Bools.{split, both_l, both_r}
 use Rattle.decimal.specs.Writing.{decimal}
 use Rattle.decimal.specs.Canonical.{bare_of, within}
-use Rattle.decimal.specs.declared.Said.TheVariants.{Value as Says}
 use Rattle.decimal.proofs.RoundTrip.{bare_back}
 use Rattle.decimal.specs.declared.Instrument.{Instrument}
 use Rattle.decimal.specs.declared.Instrument.TheVariants.{Bonds, Equities}
@@ -23,7 +22,6 @@ use Rattle.report.specs.declared.Field.{Field}
 use Rattle.report.specs.declared.Shape.{Shape}
 use Rattle.report.specs.declared.Shape.TheVariants as shape
 use Rattle.report.specs.declared.Slot.{Slot}
-use Rattle.report.specs.declared.Pick.TheVariants.{Is}
 use Rattle.report.specs.declared.Kind.{Kind}
 use Rattle.report.specs.declared.Kind.TheVariants.{Accepted, Replaced, Canceled, Trade, Rejected, CancelReject, SessionReject, Refused}
 use Rattle.report.specs.Fields.{field, is_absent, label, row_bytes}
@@ -38,6 +36,7 @@ use Rattle.feed.specs.Settings.{is_identifier, copied_by}
 use Rattle.feed.specs.Kept.{at_tag, is_kept}
 use Rattle.feed.proofs.Filled.{Filled, filled_none, filled_some, filled_skip, filled_front, distinct, tells, filled_fits}
 use Rattle.feed.proofs.Shown.{Tagged, filled_tagged, tag_at, has, shown_at, shown_slot, shown_slots, shown_fills}
+use Rattle.std.proofs.Common.{Some}
 
 -- ---- the slots of 34 and 17 take every number of a feed
 abbrev pub numbers : Shape → Bool
@@ -83,13 +82,13 @@ module _ (q : Instrument) (s client : List ℕ) (n : ℕ) where
         let r = by slot.shape e in
         record { tag_is = refl; here = refl; proper = r.0; picked = r.1 }
       where
-        by : (f : Shape) → numbers f ≡ true → Proper f × ((place : ℕ) → value_in f place (decimal n) ≡ Is (Number n))
+        by : (f : Shape) → numbers f ≡ true → Proper f × ((place : ℕ) → value_in f place (decimal n) ≡ Some (Number n))
         by shape.Nothing e = absurd (false≢true e)
         by (shape.OneOf a b c d x) e = absurd (false≢true e)
         by (shape.Range least most) e =
             let a = leb-true least 1 (both_l (leb least 1) (leb 999999999 most) e) in
             let b = leb-true 999999999 most (both_r (leb least 1) (leb 999999999 most) e) in
-            let said : within least most (bare_of 9 (decimal n)) ≡ Says n =
+            let said : within least most (bare_of 9 (decimal n)) ≡ Some n =
             rw (bare_back 8 n (omega (arith, g.high)) (omega (arith, g.high))) (simp (le-leb least n (omega (arith, g.low)), le-leb n most (omega (arith, g.high)))) in
             (tt, λ place. ap number_in said)
         by (shape.Listed a b c d x f h i) e = absurd (false≢true e)
@@ -106,7 +105,7 @@ module _ (q : Instrument) (s client : List ℕ) (n : ℕ) where
     client_is = take-length client
 
     picked : (place : ℕ) → eqb (length client) 0 ≡ false → all_from 33 client ≡ true
-        → text_in (longest q) 33 place (part_at client 0 (length client)) ≡ Is (Sent place (length (part_at client 0 (length client))))
+        → text_in (longest q) 33 place (part_at client 0 (length client)) ≡ Some (Sent place (length (part_at client 0 (length client))))
     unfolding text_in
     picked place a b = rw (client_is, a, le-ltb (longest q) (length client) g.short, b)
 

@@ -19,22 +19,21 @@ use Rattle.report.specs.declared.Field.{Field}
 use Rattle.report.specs.declared.Shape.{Shape}
 use Rattle.report.specs.declared.Shape.TheVariants as shape
 use Rattle.report.specs.declared.Slot.{Slot}
-use Rattle.report.specs.declared.Pick.TheVariants.{Is}
-use Rattle.report.specs.declared.Got.TheVariants.{Value as Found, Wrong}
 use Rattle.report.specs.Fields.{field, value_bytes, label, written, field_bytes, row_bytes}
 use Rattle.report.specs.Frame.{check_sum, front, trailer, report_bytes}
 use Rattle.report.specs.Shapes.{value_in}
-use Rattle.report.specs.Parse.{starts, len_to, field_at, row, read_row}
+use Rattle.report.specs.Parse.{starts, len_to, field_at, row, read_row, found}
 use Rattle.report.specs.Reports.{kind_for, first_of, kind_of}
 use Rattle.report.proofs.Bytes.{field_none}
 use Rattle.report.proofs.Labels.{differ, written_starts}
 use Rattle.report.proofs.Taken.{Proper, taken}
-use Rattle.report.proofs.Parses.{field_within}
+use Rattle.report.proofs.Parses.{found_value, field_within}
 use Rattle.report.proofs.Only.{AllProper, Valued, value_found, next_row}
 use Rattle.report.proofs.Back.{moved, Fit, Fits, fits_none, fits_some, fits_skip, fit_bytes}
 use Rattle.report.proofs.Firsts.{pass, hit, report_first}
 use Rattle.feed.specs.Kept.{at_tag}
 use Rattle.feed.proofs.Shaped.{again, is_never, is_same}
+use Rattle.std.proofs.Common.{Some, None}
 
 -- fields slot by slot: one is the slot's, or may be missing and is
 pub data Filled (sent stored : List ℕ) : List Slot → List Field → Type 0 where
@@ -66,11 +65,11 @@ module _ (s stored : List ℕ) where
   abbrev Told : Slot → Value → Type 0
   Told slot x = Fit s stored slot (field slot.tag x) ⊎ ((x ≡ Absent) × (slot.optional ≡ true))
 
-  skip_told : (slot : Slot) (at : ℕ) (x : Value) (n : ℕ) (o : Bool) → slot.optional ≡ o → cond o (Found Absent at) Wrong ≡ Found x n → Told slot x
-  skip_told slot at x n true o e = let z : x ≡ Absent = cc in inr (z, o)
+  skip_told : (slot : Slot) (at : ℕ) (x : Value) (n : ℕ) (o : Bool) → slot.optional ≡ o → cond o (found Absent at) None ≡ found x n → Told slot x
+  skip_told slot at x n true o e = inr (sym (found_value Absent x at n e), o)
   skip_told slot at x n false o e = let z : ◌≡◌ {A = ℕ} 0 1 = cc in absurd (omega arith)
 
-  field_told : (at : ℕ) (slot : Slot) (x : Value) (n : ℕ) → Proper slot.shape → field_at s at slot ≡ Found x n → Told slot x
+  field_told : (at : ℕ) (slot : Slot) (x : Value) (n : ℕ) → Proper slot.shape → field_at s at slot ≡ found x n → Told slot x
   unfolding field_at
   field_told at slot x n proper e =
       split (starts (label slot.tag) (drop at s))
@@ -86,8 +85,8 @@ module _ (s stored : List ℕ) where
   read_fills at (slot ∷ slots) fs n h p e =
       let c = next_row slot.tag (field_at s at slot) (λ m. read_row s m slots) fs n e in
       subst (λ (l : List Field). Filled s stored (slot ∷ slots) l) (sym c.all)
-      (one_more_lem slot c.value slots c.rest (field_told at slot c.value c.next p.0 c.found)
-      (read_fills c.next slots c.rest n (field_within s c.value c.next at slot h c.found) p.1 c.left))
+      (one_more_lem slot c.value slots c.rest (field_told at slot c.value c.next p.0 c.read)
+      (read_fills c.next slots c.rest n (field_within s c.value c.next at slot h c.read) p.1 c.left))
 
 -- ---- what is read has its texts in the report
 abbrev is_stored : Value → Bool
@@ -133,11 +132,11 @@ module _ (s : List ℕ) where
       let part : length (part_at s p (length val)) ≡ length val = part_long p l len in
       ap is_stored (is_same x (moved s [] p x) (sym v.picked ∙ again s [] p slot.shape p val x part v.picked)) ∙ moved_sent s [] p x
 
-  skip_sent : (at : ℕ) (x : Value) (n : ℕ) (o : Bool) → cond o (Found Absent at) Wrong ≡ Found x n → is_stored x ≡ false
-  skip_sent at x n true e = let z : x ≡ Absent = cc in rw z
+  skip_sent : (at : ℕ) (x : Value) (n : ℕ) (o : Bool) → cond o (found Absent at) None ≡ found x n → is_stored x ≡ false
+  skip_sent at x n true e = ap is_stored (sym (found_value Absent x at n e))
   skip_sent at x n false e = let z : ◌≡◌ {A = ℕ} 0 1 = cc in absurd (omega arith)
 
-  field_sent : (at : ℕ) (slot : Slot) (x : Value) (n : ℕ) → field_at s at slot ≡ Found x n → is_stored x ≡ false
+  field_sent : (at : ℕ) (slot : Slot) (x : Value) (n : ℕ) → field_at s at slot ≡ found x n → is_stored x ≡ false
   unfolding field_at
   field_sent at slot x n e =
       split (starts (label slot.tag) (drop at s))
@@ -150,7 +149,7 @@ module _ (s : List ℕ) where
   read_says stored other g at [] fs n e = let a : fs ≡ [] = cc in rw a
   read_says stored other g at (slot ∷ slots) fs n e =
       let c = next_row slot.tag (field_at s at slot) (λ m. read_row s m slots) fs n e in
-      let one = same_bytes_lem s stored other c.value (field_sent at slot c.value c.next c.found) in
+      let one = same_bytes_lem s stored other c.value (field_sent at slot c.value c.next c.read) in
       let more = read_says stored other g c.next slots c.rest n c.left in
       rw c.all (ap (λ (v : List ℕ). cond (eqb slot.tag g) v (at_tag (value_bytes s stored) [] g c.rest)) one ∙ ap (cond (eqb slot.tag g) (value_bytes s other c.value)) more)
 
@@ -196,7 +195,7 @@ module _ (sent stored : List ℕ) where
   pub unused_never : (slot : Slot) (f : Field) → Fit sent stored slot f → is_unused slot.shape ≡ false
   unused_never slot f p = by slot.shape (p.picked 0)
     where
-      by : (g : Shape) → value_in g 0 (value_bytes sent stored f.value) ≡ Is (moved sent stored 0 f.value) → is_unused g ≡ false
+      by : (g : Shape) → value_in g 0 (value_bytes sent stored f.value) ≡ Some (moved sent stored 0 f.value) → is_unused g ≡ false
       by shape.Nothing e = absurd (is_never (moved sent stored 0 f.value) e)
       by (shape.OneOf a b c d g) e = refl
       by (shape.Range least most) e = refl

@@ -19,7 +19,6 @@ use Rattle.report.specs.declared.Field.{Field}
 use Rattle.report.specs.declared.Shape.{Shape}
 use Rattle.report.specs.declared.Shape.TheVariants as shape
 use Rattle.report.specs.declared.Slot.{Slot}
-use Rattle.report.specs.declared.Pick.TheVariants.{Is, No}
 use Rattle.report.specs.declared.Kind.{Kind}
 use Rattle.report.specs.declared.Kind.TheVariants.{Accepted, Replaced, Canceled, Trade, Rejected, CancelReject, SessionReject, Refused}
 use Rattle.report.specs.Fields.{field, value_bytes, label, field_bytes}
@@ -30,6 +29,7 @@ use Rattle.feed.specs.Rows.{is_four, is_fill_or_kill, value_of, ioc_value, ioc_f
 use Rattle.feed.specs.Kept.{at_tag, is_kept}
 use Rattle.feed.proofs.Shaped.{is_same}
 use Rattle.feed.proofs.Filled.{Filled, filled_none, filled_some, filled_skip}
+use Rattle.std.proofs.Common.{Some, None}
 
 -- ---- looking a value up: what is left decides
 pub record Sought (g : ℕ) (fs : List Field) (i : ℕ) : Type 0 where
@@ -336,13 +336,13 @@ sized [] = false
 sized (slot ∷ slots) = cond (eqb slot.tag 38) (not slot.optional && is_quantity slot.shape) (sized slots)
 
 -- what is one of 0, 3 and 4, and not 4, is one of 0 and 3
-one_less_by : (a b c : Bool) (x : ℕ) (m : Value) → cond (a || b || c || c || c) (Is (Char x)) No ≡ Is m → (m ≡ Char x → c ≡ false) → cond (a || b || b || b || b) (Is (Char x)) No ≡ Is m
+one_less_by : (a b c : Bool) (x : ℕ) (m : Value) → cond (a || b || c || c || c) (Some (Char x)) None ≡ Some m → (m ≡ Char x → c ≡ false) → cond (a || b || b || b || b) (Some (Char x)) None ≡ Some m
 one_less_by true b c x m e n = e
 one_less_by false true c x m e n = e
 one_less_by false false true x m e n = absurd (false≢true (sym (n (sym (is_same (Char x) m e)))))
 one_less_by false false false x m e n = e
 
-one_less : (b : List ℕ) (m : Value) → one_in 48 51 52 52 52 b ≡ Is m → is_four m ≡ false → one_in 48 51 51 51 51 b ≡ Is m
+one_less : (b : List ℕ) (m : Value) → one_in 48 51 52 52 52 b ≡ Some m → is_four m ≡ false → one_in 48 51 51 51 51 b ≡ Some m
 unfolding one_in
 one_less b m e n =
     split (eqb (length b) 1)

@@ -22,10 +22,11 @@ use Rattle.report.specs.Parse.{value_at, field_at, hop, place_of}
 use Rattle.report.specs.Slots.{accepted_slots, canceled_slots, trade_slots, rejected_slots}
 use Rattle.report.specs.Reports.{body_at, trailer_at, read_framed, execution_for, kind_for, first_of, kind_of, one_reason, refused, read_of}
 use Rattle.report.specs.declared.Kind.TheVariants.{Canceled, Trade}
-use Rattle.feed.specs.declared.CopyAnswer.TheVariants.{NoReport, BadSetting, NumbersSpent, NotCopied, Copied}
+use Rattle.std.proofs.Common.{Err}
+use Rattle.refusals.specs.declared.Refusal.TheVariants.{NoReport, BadFeed, NumbersSpent}
 use Rattle.feed.specs.Rows.{with797, is_fill_or_kill, ioc_value, ioc_field, shown_row, copy_value, copy_field, copy_row, copy_slot, copy_slots}
 use Rattle.feed.specs.Settings.{client_of, is_identifier, are_identifiers, is_setting}
-use Rattle.feed.specs.Copies.{copy_bytes, fed, copy_number, read_copy_of}
+use Rattle.feed.specs.Copies.{copied, not_copied, copy_bytes, fed, copy_number, read_copy_of}
 
 -- open the definitions that a copy is computed with
 computes : ℕ
@@ -62,12 +63,12 @@ abbrev rejected : List ℕ
 rejected = message "8=FIX.4.2|9=136|35=8|34=13|49=V|50=DJGB|52=20260105-09:00:02|56=P|6=0.000000|11=BUY-2|14=0|17=13|20=0|37=NONE|38=42|39=8|54=1|55=350|103=99|150=8|151=0|10=144|"
 
 -- a full feed that shows both, at number 5: 34=5, 17=5, 109=P1-G, and 797=Y between 423 and 851
-pub copy_of_trade : fed Bonds trade 2 3 p1 g 5 1024 ≡ record { answer = Copied 274 6; bytes = message "8=FIX.4.2|9=251|35=8|34=5|49=V|50=DJGB|52=20260105-09:00:01|56=P|1=ACC-1|6=0.100666|11=BUY-1|14=300|17=5|20=0|31=0.100|32=200|37=7|38=1200|39=1|40=2|44=0.100|47=A|54=1|55=350|59=0|60=20260105-09:00:01|109=P1-G|150=1|151=900|375=0|382=1|423=9|797=Y|851=1|880=9|8060=1|10=060|" }
+pub copy_of_trade : fed Bonds trade 2 3 p1 g 5 1024 ≡ record { answer = copied 274 6; bytes = message "8=FIX.4.2|9=251|35=8|34=5|49=V|50=DJGB|52=20260105-09:00:01|56=P|1=ACC-1|6=0.100666|11=BUY-1|14=300|17=5|20=0|31=0.100|32=200|37=7|38=1200|39=1|40=2|44=0.100|47=A|54=1|55=350|59=0|60=20260105-09:00:01|109=P1-G|150=1|151=900|375=0|382=1|423=9|797=Y|851=1|880=9|8060=1|10=060|" }
 unfolding computes
 copy_of_trade = refl
 
 -- one that shows the group, at its last number: 109=G though the report has none, and 797=Y between 423 and 8060
-pub copy_of_accepted : fed Bonds accepted 2 2 [] g 999999999 1024 ≡ record { answer = Copied 239 1000000000; bytes = message "8=FIX.4.2|9=216|35=8|34=999999999|49=V|50=DJGB|52=20260105-09:00:02|56=P|6=0.000000|11=BUY-1|14=0|17=999999999|20=0|37=255|38=500|39=0|40=2|44=-0.005|47=P|54=2|55=350|59=3|60=20260105-09:00:02|109=G|150=0|151=500|423=9|797=Y|8060=6|10=150|" }
+pub copy_of_accepted : fed Bonds accepted 2 2 [] g 999999999 1024 ≡ record { answer = copied 239 1000000000; bytes = message "8=FIX.4.2|9=216|35=8|34=999999999|49=V|50=DJGB|52=20260105-09:00:02|56=P|6=0.000000|11=BUY-1|14=0|17=999999999|20=0|37=255|38=500|39=0|40=2|44=-0.005|47=P|54=2|55=350|59=3|60=20260105-09:00:02|109=G|150=0|151=500|423=9|797=Y|8060=6|10=150|" }
 unfolding computes
 copy_of_accepted = refl
 
@@ -75,16 +76,16 @@ copy_of_accepted = refl
 abbrev kill_shown : List ℕ
 kill_shown = message "8=FIX.4.2|9=215|35=8|34=5|49=V|50=DJGB|52=20260105-09:00:01|56=P|6=0.000000|11=BUY-1|14=0|17=5|20=0|37=7|38=1200|39=4|40=2|44=0.100|47=A|54=1|55=350|59=3|60=20260105-09:00:01|109=P1-G|110=1200|150=4|151=0|378=99|423=9|797=Y|8060=1|10=180|"
 
-pub copy_of_kill : fed Bonds kill 2 3 p1 g 5 1024 ≡ record { answer = Copied 238 6; bytes = kill_shown }
+pub copy_of_kill : fed Bonds kill 2 3 p1 g 5 1024 ≡ record { answer = copied 238 6; bytes = kill_shown }
 unfolding computes
 copy_of_kill = refl
 
-pub copy_of_kill_and_110 : fed Bonds kill_and110 2 3 p1 g 5 1024 ≡ record { answer = Copied 238 6; bytes = kill_shown }
+pub copy_of_kill_and_110 : fed Bonds kill_and110 2 3 p1 g 5 1024 ≡ record { answer = copied 238 6; bytes = kill_shown }
 unfolding computes
 copy_of_kill_and_110 = refl
 
 -- any other order's minimum is the report's
-pub copy_of_minimum : fed Bonds with_minimum 2 3 p1 g 5 1024 ≡ record { answer = Copied 235 6; bytes = message "8=FIX.4.2|9=212|35=8|34=5|49=V|50=DJGB|52=20260105-09:00:01|56=P|6=0.000000|11=BUY-1|14=0|17=5|20=0|37=7|38=1200|39=4|40=2|44=0.100|47=A|54=1|55=350|59=3|60=20260105-09:00:01|109=P1-G|110=7|150=4|151=0|378=99|423=9|797=Y|8060=1|10=037|" }
+pub copy_of_minimum : fed Bonds with_minimum 2 3 p1 g 5 1024 ≡ record { answer = copied 235 6; bytes = message "8=FIX.4.2|9=212|35=8|34=5|49=V|50=DJGB|52=20260105-09:00:01|56=P|6=0.000000|11=BUY-1|14=0|17=5|20=0|37=7|38=1200|39=4|40=2|44=0.100|47=A|54=1|55=350|59=3|60=20260105-09:00:01|109=P1-G|110=7|150=4|151=0|378=99|423=9|797=Y|8060=1|10=037|" }
 unfolding computes
 copy_of_minimum = refl
 
@@ -98,20 +99,20 @@ unfolding computes
 four_refused = refl
 
 -- a Rejected is not copied and takes no number, nor is an Accepted by a reconciliation feed
-pub rejected_not : fed Bonds rejected 2 3 p1 g 5 1024 ≡ record { answer = NotCopied 5; bytes = [] }
+pub rejected_not : fed Bonds rejected 2 3 p1 g 5 1024 ≡ record { answer = not_copied 5; bytes = [] }
 unfolding computes
 rejected_not = refl
 
-pub accepted_not : fed Bonds accepted 1 3 p1 g 5 1024 ≡ record { answer = NotCopied 5; bytes = [] }
+pub accepted_not : fed Bonds accepted 1 3 p1 g 5 1024 ≡ record { answer = not_copied 5; bytes = [] }
 unfolding computes
 accepted_not = refl
 
 -- refusals come first: a Rejected with number 0, and one with an identifier that is shown and empty, though its number is 0 too
-pub rejected_spent : fed Bonds rejected 2 3 p1 g 0 1024 ≡ record { answer = NumbersSpent; bytes = [] }
+pub rejected_spent : fed Bonds rejected 2 3 p1 g 0 1024 ≡ record { answer = Err NumbersSpent; bytes = [] }
 unfolding computes
 rejected_spent = refl
 
-pub rejected_unset : fed Bonds rejected 2 3 p1 [] 0 1024 ≡ record { answer = BadSetting; bytes = [] }
+pub rejected_unset : fed Bonds rejected 2 3 p1 [] 0 1024 ≡ record { answer = Err BadFeed; bytes = [] }
 unfolding computes
 rejected_unset = refl
 
@@ -125,7 +126,7 @@ sale = message "8=FIX.4.2|9=239|35=8|34=9|49=V|50=DAY|52=20260105-09:00:01|56=P|
 abbrev sale_shown : List ℕ
 sale_shown = message "8=FIX.4.2|9=247|35=8|34=5|49=V|50=DAY|52=20260105-09:00:01|56=P|1=ACC-1|6=100.0063|11=SELL-1|14=300|17=5|20=0|31=100.1|32=200|37=7|38=1200|39=1|40=2|44=100.0|47=A|54=5|55=130A|59=0|60=20260105-09:00:01|109=P1-G|150=1|151=900|544=2|797=Y|851=1|880=9|8060=1|8214=2|10=164|"
 
-pub copy_of_sale : fed Equities sale 1 3 p1 g 5 1024 ≡ record { answer = Copied 270 6; bytes = sale_shown }
+pub copy_of_sale : fed Equities sale 1 3 p1 g 5 1024 ≡ record { answer = copied 270 6; bytes = sale_shown }
 unfolding computes
 copy_of_sale = refl
 
@@ -143,12 +144,12 @@ abbrev bought : List ℕ
 bought = message "8=FIX.4.2|9=183|35=8|34=9|49=V|50=DAY|52=20260105-09:00:02|56=P|6=0.0000|11=BUY-1|14=0|17=9|20=0|37=255|38=500|39=0|40=2|44=0.0|47=P|54=1|55=9501|59=3|60=20260105-09:00:02|150=0|151=500|544=1|8060=6|10=179|"
 
 -- 109 has twenty characters, 797=Y stands between 544 and 8060
-pub copy_of_bought : fed Equities bought 2 2 [] (bytes "GGGGGGGGGGGGGGGGGGGG") 5 1024 ≡ record { answer = Copied 237 6; bytes = message "8=FIX.4.2|9=214|35=8|34=5|49=V|50=DAY|52=20260105-09:00:02|56=P|6=0.0000|11=BUY-1|14=0|17=5|20=0|37=255|38=500|39=0|40=2|44=0.0|47=P|54=1|55=9501|59=3|60=20260105-09:00:02|109=GGGGGGGGGGGGGGGGGGGG|150=0|151=500|544=1|797=Y|8060=6|10=072|" }
+pub copy_of_bought : fed Equities bought 2 2 [] (bytes "GGGGGGGGGGGGGGGGGGGG") 5 1024 ≡ record { answer = copied 237 6; bytes = message "8=FIX.4.2|9=214|35=8|34=5|49=V|50=DAY|52=20260105-09:00:02|56=P|6=0.0000|11=BUY-1|14=0|17=5|20=0|37=255|38=500|39=0|40=2|44=0.0|47=P|54=1|55=9501|59=3|60=20260105-09:00:02|109=GGGGGGGGGGGGGGGGGGGG|150=0|151=500|544=1|797=Y|8060=6|10=072|" }
 unfolding computes
 copy_of_bought = refl
 
 -- twenty-one are too many for equities, not for bonds
-pub bought_long : fed Equities bought 2 2 [] (bytes "GGGGGGGGGGGGGGGGGGGGG") 5 1024 ≡ record { answer = BadSetting; bytes = [] }
+pub bought_long : fed Equities bought 2 2 [] (bytes "GGGGGGGGGGGGGGGGGGGGG") 5 1024 ≡ record { answer = Err BadFeed; bytes = [] }
 unfolding computes
 bought_long = refl
 
@@ -157,11 +158,11 @@ unfolding computes
 accepted_long = refl
 
 -- neither market's reports are the other's
-pub bought_not_bonds : fed Bonds bought 2 3 p1 g 5 1024 ≡ record { answer = NoReport; bytes = [] }
+pub bought_not_bonds : fed Bonds bought 2 3 p1 g 5 1024 ≡ record { answer = Err NoReport; bytes = [] }
 unfolding computes
 bought_not_bonds = refl
 
-pub accepted_not_equities : fed Equities accepted 2 3 p1 g 5 1024 ≡ record { answer = NoReport; bytes = [] }
+pub accepted_not_equities : fed Equities accepted 2 3 p1 g 5 1024 ≡ record { answer = Err NoReport; bytes = [] }
 unfolding computes
 accepted_not_equities = refl
 

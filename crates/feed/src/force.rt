@@ -9,39 +9,26 @@ use report::{Field, Value};
 fn is_four(value: Value) -> bool
     ensures { result ≡ is_four value }
 {
-    match value {
-        Value::Absent => false,
-        Value::Number(_) => false,
-        Value::Char(c) => c == b'4',
-        Value::Word {
-            w: _,
-            x: _,
-            y: _,
-            z: _,
-        } => false,
-        Value::Sent { from: _, len: _ } => false,
-        Value::Stored { from: _, len: _ } => false,
-        Value::Level { of: _, level: _ } => false,
-        Value::Mean { of: _, mean: _ } => false,
-    }
+    let Value::Char(c) = value else {
+        return false;
+    };
+    c == b'4'
 }
 
 // The value of a tag, absent where no field has it.
 fn value_of(fields: [Field; 36], tag: u64) -> Value
     ensures { result ≡ value_of tag fields }
 {
-    let mut i = 0;
-    while i < 36 {
-        let field = fields[i];
+    for field in fields {
         if field.tag == tag {
             return field.value;
         }
-        i += 1;
     }
     Value::Absent
 }
 
 // A field of a Fill or Kill order with this quantity, as a copy shows it.
+#[tactic(auto, unfolding(crate::specs::Rows::ioc_field, crate::specs::Rows::ioc_value))]
 fn ioc_field(field: Field, quantity: Value) -> Field
     ensures { result ≡ ioc_field quantity field }
 {
@@ -66,16 +53,15 @@ fn ioc_row(fields: [Field; 36], quantity: Value) -> [Field; 36]
     ensures { result ≡ map (ioc_field quantity) fields }
 {
     let mut row = fields;
-    let mut i = 0;
-    while i < 36 {
+    for i in 0..36 {
         let field = row[i];
         row[i] = ioc_field(field, quantity);
-        i += 1;
     }
     row
 }
 
 // The fields of a report, its 59 and 110 as a copy shows them.
+#[tactic(auto, using(crate::proofs::Shown::shown_kill, crate::proofs::Shown::shown_still))]
 pub fn shown_row(fields: [Field; 36]) -> [Field; 36]
     ensures { result ≡ shown_row fields }
 {

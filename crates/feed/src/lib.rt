@@ -18,20 +18,18 @@ ghost use Rattle.feed.specs.Copies.{fed, copy_bytes, read_copy_of};
 use crate::rows::{copy_row, copy_slots};
 use crate::settings::{client_text, copy_kind, is_copied, is_none, is_setting};
 use decimal::Instrument;
+use refusals::Refusal;
 use report::read::{kind_of, read, read_as};
 use report::slots::slots_of;
 use report::write::write_report;
 use report::{Field, Reading};
 
-// What a feed answers: refused with nothing changed; no copy, with the same number; or a copy of that many bytes, with the next number.
-#[derive(Clone, Copy)]
-pub enum CopyAnswer {
-    NoRoom,
-    NoReport,
-    BadSetting,
-    NumbersSpent,
-    NotCopied(u64),
-    Copied { len: usize, next: u64 },
+// What a feed that does not refuse answers: how long the copy is, or that there is none; and the feed's next number, which is the same
+// where there is none.
+#[derive(Clone, Copy, PartialEq, Eq)]
+pub struct Answer {
+    pub len: Option<usize>,
+    pub next: u64,
 }
 
 // Writes the copy of a report with these fields.
@@ -59,7 +57,8 @@ fn write_copy(
     )
 }
 
-// Hands a feed one report of its market: its copy at the start of the area, or nothing written.
+// Hands a feed one report of its market: its copy at the start of the area, or nothing written. A feed that cannot be set up so is refused as
+// a bad feed.
 pub fn copy(
     q: Instrument,
     report: &[u8],
@@ -69,33 +68,33 @@ pub fn copy(
     group: &[u8],
     next: u64,
     area: &mut [u8],
-) -> CopyAnswer
+) -> Result<Answer, Refusal>
     ensures { (result ≡ (fed q report.now subscription shows port.now group.now next (length area.old)).answer)
         × (area.new ≡ put area.old 0 (fed q report.now subscription shows port.now group.now next (length area.old)).bytes) }
 {
     if area.len() < 1024 {
-        return CopyAnswer::NoRoom;
+        return Err(Refusal::NoRoom);
     }
     let reading = read(q, report);
     let kind = reading.kind;
     if is_none(kind) {
-        return CopyAnswer::NoReport;
+        return Err(Refusal::NoReport);
     }
     if !is_setting(q, subscription, shows, port, group) {
-        return CopyAnswer::BadSetting;
+        return Err(Refusal::BadFeed);
     }
     if (next == 0) | (next > 999999999) {
-        return CopyAnswer::NumbersSpent;
+        return Err(Refusal::NumbersSpent);
     }
     if is_copied(subscription, kind) {
         let fields = reading.fields;
         let len = write_copy(area, fields, report, shows, port, group, next);
-        return CopyAnswer::Copied {
-            len,
+        return Ok(Answer {
+            len: Some(len),
             next: next + 1,
-        };
+        });
     }
-    CopyAnswer::NotCopied(next)
+    Ok(Answer { len: None, next })
 }
 
 // The kind and fields of a copy of a market's report; what is none is refused, which is the paper's refusal 11.

@@ -8,6 +8,7 @@ use decimal::Instrument;
 use report::{Field, Shape, Slot, Value};
 
 // The value of a field of a copy.
+#[tactic(auto, unfolding(crate::specs::Rows::copy_value))]
 fn copy_value(value: Value, tag: u64, number: u64, width: usize) -> Value
     ensures { result ≡ copy_value number width tag value }
 {
@@ -34,6 +35,7 @@ fn is_new(tag: u64) -> bool
 }
 
 // A field of a copy.
+#[tactic(auto, unfolding(crate::specs::Rows::copy_field))]
 fn copy_field(field: Field, number: u64, width: usize) -> Field
     ensures { result ≡ copy_field number width field }
 {
@@ -53,23 +55,21 @@ pub fn copy_row(fields: [Field; 36], number: u64, width: usize) -> [Field; 36]
         value: Value::Char(b'Y'),
     };
     let mut behind = false;
-    let mut i = 0;
-    while i < 35 {
-        let at = i;
+    for at in 0..35 {
         let first = row[at];
         let tag = first.tag;
         behind = behind | (tag > 797);
-        i += 1;
         if behind {
             let field = row[at];
             row[at] = held;
             held = field;
-        } else {
-            if is_new(tag) {
-                let field = row[at];
-                row[at] = copy_field(field, number, width);
-            }
+            continue;
         }
+        if !is_new(tag) {
+            continue;
+        }
+        let field = row[at];
+        row[at] = copy_field(field, number, width);
     }
     row[35] = held;
     row
@@ -86,6 +86,7 @@ pub fn longest(q: Instrument) -> usize
 }
 
 // A slot of a copy.
+#[tactic(auto, unfolding(crate::specs::Rows::copy_slot))]
 fn copy_slot(q: Instrument, slot: Slot) -> Slot
     ensures { result ≡ copy_slot q slot }
 {
@@ -113,7 +114,7 @@ fn copy_slot(q: Instrument, slot: Slot) -> Slot
     slot
 }
 
-// The slots of a copy.
+// The slots of a copy. Not one function with the row's: that takes a field only where it moves or changes, and this each slot.
 pub fn copy_slots(q: Instrument, slots: [Slot; 36]) -> [Slot; 36]
     ensures { result ≡ copy_slots q slots }
 {
@@ -130,18 +131,15 @@ pub fn copy_slots(q: Instrument, slots: [Slot; 36]) -> [Slot; 36]
         },
     };
     let mut behind = false;
-    let mut i = 0;
-    while i < 35 {
-        let at = i;
+    for at in 0..35 {
         let slot = all[at];
         behind = behind | (slot.tag > 797);
-        i += 1;
         if behind {
             all[at] = held;
             held = slot;
-        } else {
-            all[at] = copy_slot(q, slot);
+            continue;
         }
+        all[at] = copy_slot(q, slot);
     }
     all[35] = held;
     all

@@ -1,4 +1,5 @@
-// How a feed is set up: whether its settings mean something, the text of 109, which kinds it copies.
+// How a feed is set up: whether its settings mean something, the text of 109, which kinds it copies. The settings are the numbers that the C
+// interface takes, since the definitions of specs/Settings speak of those: 0 or any other number that is no setting comes as far as here.
 ghost use Rattle.std.specs.Prelude.{◌≡◌, ◌&&◌, ◌≤◌, leb, length};
 ghost use Rattle.octets.specs.Written.{Room, Wrote};
 ghost use Rattle.feed.specs.Rows.{longest as longest_of};
@@ -13,6 +14,7 @@ use report::Kind;
 use report::values::all_from;
 
 // Whether a text is an identifier of at most so many characters.
+#[tactic(auto, using(crate::proofs::Clients::none_not, crate::proofs::Clients::long_not, crate::proofs::Clients::all_so))]
 fn is_identifier(v: &[u8], most: usize) -> bool
     ensures { result ≡ (is_identifier v.now && leb (length v.now) most) }
 {
@@ -26,6 +28,7 @@ fn is_identifier(v: &[u8], most: usize) -> bool
 }
 
 // Whether the identifiers that 109 shows are some, and 109 is not too long.
+#[tactic(auto, using(crate::proofs::Clients::client_port, crate::proofs::Clients::client_group, crate::proofs::Clients::client_short, crate::proofs::Clients::client_not, crate::proofs::Clients::client_other, crate::proofs::Clients::both_few))]
 fn is_client(q: Instrument, shows: u64, port: &[u8], group: &[u8]) -> bool
     ensures { result ≡ (are_identifiers shows port.now group.now && leb (length (client_of shows port.now group.now)) (longest_of q)) }
 {
@@ -48,6 +51,7 @@ fn is_client(q: Instrument, shows: u64, port: &[u8], group: &[u8]) -> bool
 }
 
 // Whether a feed can be set up so.
+#[tactic(auto, using(crate::proofs::Clients::setting_known, crate::proofs::Clients::setting_unknown))]
 pub fn is_setting(q: Instrument, subscription: u64, shows: u64, port: &[u8], group: &[u8]) -> bool
     ensures { result ≡ is_setting q subscription shows port.now group.now }
 {
@@ -58,6 +62,7 @@ pub fn is_setting(q: Instrument, subscription: u64, shows: u64, port: &[u8], gro
 }
 
 // Writes the text of 109, and gives its length.
+#[tactic(auto, using(crate::proofs::Clients::room_port, crate::proofs::Clients::room_group, crate::proofs::Clients::room_first_one, crate::proofs::Clients::room_hyphen, crate::proofs::Clients::room_second_one))]
 pub fn client_text(out: &mut [u8], shows: u64, port: &[u8], group: &[u8]) -> usize
     requires { Room out.old 0 (client_of shows port.now group.now) }
     ensures { Wrote out.old 0 (client_of shows port.now group.now) result out.new }
@@ -77,16 +82,7 @@ pub fn client_text(out: &mut [u8], shows: u64, port: &[u8], group: &[u8]) -> usi
 pub fn is_none(kind: Kind) -> bool
     ensures { result ≡ is_none kind }
 {
-    match kind {
-        Kind::Accepted => false,
-        Kind::Replaced => false,
-        Kind::Canceled => false,
-        Kind::Trade => false,
-        Kind::Rejected => false,
-        Kind::CancelReject => false,
-        Kind::SessionReject => false,
-        Kind::Refused => true,
-    }
+    matches!(kind, Kind::Refused)
 }
 
 // Whether reports of this kind are copied.
@@ -94,14 +90,9 @@ pub fn is_copied(subscription: u64, kind: Kind) -> bool
     ensures { result ≡ copied_by subscription kind }
 {
     match kind {
-        Kind::Accepted => subscription == 2,
-        Kind::Replaced => subscription == 2,
-        Kind::Canceled => subscription == 2,
+        Kind::Accepted | Kind::Replaced | Kind::Canceled => subscription == 2,
         Kind::Trade => true,
-        Kind::Rejected => false,
-        Kind::CancelReject => false,
-        Kind::SessionReject => false,
-        Kind::Refused => false,
+        Kind::Rejected | Kind::CancelReject | Kind::SessionReject | Kind::Refused => false,
     }
 }
 

@@ -9,8 +9,7 @@ use Rattle.matching.specs.declared.Level.{Level}
 use Rattle.market.specs.Depth.{DepthAnswer}
 use Rattle.refusals.specs.declared.Refusal.{Refusal}
 use Rattle.refusals.specs.declared.Refusal.TheVariants.{BadBlock}
-use Rattle.report.specs.declared.Part.{Part}
-use Rattle.report.specs.declared.Part.TheVariants.{At, Nowhere}
+use Rattle.fix.specs.declared.frame.Part.{Part}
 
 -- ---- Depth
 
@@ -30,17 +29,17 @@ quote_of q None = pos 0
 
 -- ---- the place of a field
 
-abbrev pub is_there : Part → ℕ
-is_there (At start len) = 1
-is_there Nowhere = 0
+abbrev pub is_there : Option Part → ℕ
+is_there (Some part) = 1
+is_there None = 0
 
-abbrev pub start_of : Part → ℕ
-start_of (At start len) = start
-start_of Nowhere = 0
+abbrev pub start_of : Option Part → ℕ
+start_of (Some part) = part.start
+start_of None = 0
 
-abbrev pub len_of : Part → ℕ
-len_of (At start len) = len
-len_of Nowhere = 0
+abbrev pub len_of : Option Part → ℕ
+len_of (Some part) = part.len
+len_of None = 0
 
 -- ---- the bad block of an image, which counts from 0
 

@@ -11,10 +11,11 @@ ghost use Rattle.kamurjesh.specs.Numbers.{level_in, signed_of, quote_of, is_ther
 
 use calls::{OpenAnswer, RunAnswer, SubmitAnswer};
 use decimal::Instrument;
-use feed::CopyAnswer;
+use feed::Answer;
+use fix::frame::Part;
 use matching::Level;
-use refusals::Refusal;
-use report::{Kind, Part};
+use refusals::{Refusal, answer_number};
+use report::Kind;
 
 // The paper's number of Open's answer.
 pub fn open_number(answer: OpenAnswer) -> u64
@@ -203,73 +204,49 @@ pub fn kind_number(kind: Kind) -> u64
 }
 
 // Whether a field is there.
-pub fn is_there(part: Part) -> u64
+pub fn is_there(part: Option<Part>) -> u64
     ensures { result ≡ is_there part }
 {
-    match part {
-        Part::At { start: _, len: _ } => 1,
-        Part::Nowhere => 0,
-    }
+    u64::from(part.is_some())
 }
 
 // The first byte of its value.
-pub fn start_of(part: Part) -> u64
+pub fn start_of(part: Option<Part>) -> u64
     ensures { result ≡ start_of part }
 {
-    match part {
-        Part::At { start, len: _ } => start as u64,
-        Part::Nowhere => 0,
-    }
+    part.map_or(0, |part| part.start as u64)
 }
 
 // The length of its value.
-pub fn len_of(part: Part) -> u64
+pub fn len_of(part: Option<Part>) -> u64
     ensures { result ≡ len_of part }
 {
-    match part {
-        Part::At { start: _, len } => len as u64,
-        Part::Nowhere => 0,
-    }
+    part.map_or(0, |part| part.len as u64)
 }
 
 // The paper's number of a feed's answer.
-pub fn copy_number(answer: CopyAnswer) -> u64
+pub fn copy_number(answer: Result<Answer, Refusal>) -> u64
     ensures { result ≡ copy_number answer }
 {
-    match answer {
-        CopyAnswer::NoRoom => 1,
-        CopyAnswer::NoReport => 11,
-        CopyAnswer::BadSetting => 17,
-        CopyAnswer::NumbersSpent => 4,
-        CopyAnswer::NotCopied(_) => 0,
-        CopyAnswer::Copied { len: _, next: _ } => 0,
-    }
+    answer_number(&answer)
 }
 
-// The length of the copy.
-pub fn copy_length(answer: CopyAnswer) -> u64
+// The length of the copy, 0 where there is none.
+pub fn copy_length(answer: Result<Answer, Refusal>) -> u64
     ensures { result ≡ copy_length answer }
 {
     match answer {
-        CopyAnswer::NoRoom => 0,
-        CopyAnswer::NoReport => 0,
-        CopyAnswer::BadSetting => 0,
-        CopyAnswer::NumbersSpent => 0,
-        CopyAnswer::NotCopied(_) => 0,
-        CopyAnswer::Copied { len, next: _ } => len as u64,
+        Ok(copied) => copied.len.map_or(0, |len| len as u64),
+        Err(_) => 0,
     }
 }
 
-// The feed's next number.
-pub fn copy_next(answer: CopyAnswer) -> u64
+// The feed's next number after it, 0 where it is refused.
+pub fn copy_next(answer: Result<Answer, Refusal>) -> u64
     ensures { result ≡ copy_next answer }
 {
     match answer {
-        CopyAnswer::NoRoom => 0,
-        CopyAnswer::NoReport => 0,
-        CopyAnswer::BadSetting => 0,
-        CopyAnswer::NumbersSpent => 0,
-        CopyAnswer::NotCopied(next) => next,
-        CopyAnswer::Copied { len: _, next } => next,
+        Ok(copied) => copied.next,
+        Err(_) => 0,
     }
 }

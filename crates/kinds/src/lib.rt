@@ -11,39 +11,32 @@ ghost use Rattle.kinds.specs.Standing.{is_row, is_canceled};
 
 use crate::standing::row_end;
 use decimal::Instrument;
+use report::Kind;
 use report::read::{body_at, kind_of, read_as, trailer_at};
 use report::slots::slots_of;
-use report::{Frame, Kind};
 
 // Whether a kind is the one whose fields depend on each other.
 fn is_canceled(kind: Kind) -> bool
     ensures { result ≡ is_canceled kind }
 {
-    match kind {
-        Kind::Accepted => false,
-        Kind::Replaced => false,
-        Kind::Canceled => true,
-        Kind::Trade => false,
-        Kind::Rejected => false,
-        Kind::CancelReject => false,
-        Kind::SessionReject => false,
-        Kind::Refused => false,
-    }
+    matches!(kind, Kind::Canceled)
 }
 
 // Whether the bytes are framed as a report, and the body has the fields of this kind.
 fn is_framed(q: Instrument, s: &[u8], kind: Kind) -> bool
     ensures { result ≡ is_row (read_framed s.now (slots_of q kind)) }
 {
-    let frame = body_at(s);
-    let Frame::Body { from, len } = frame else {
+    let Some(body) = body_at(s) else {
         return false;
     };
-    let end = from + len;
+    let end = body.start + body.len;
     if !trailer_at(s, end) {
         return false;
     }
-    row_end(q, kind, s, from) == end
+    let Some(next) = row_end(q, kind, s, body.start) else {
+        return false;
+    };
+    next == end
 }
 
 // The kind of a report of a market, as `read` tells it, with no field kept.

@@ -12,7 +12,6 @@ use Rattle.octets.specs.Octets.{same_bytes}
 use Rattle.octets.proofs.Bools.{split, both_l, both_r, or_r}
 use Rattle.decimal.specs.declared.Instrument.{Instrument}
 use Rattle.decimal.specs.declared.Instrument.TheVariants.{Bonds, Equities}
-use Rattle.decimal.specs.declared.Said.TheVariants.{Value as Says}
 use Rattle.decimal.specs.Instruments.{highest, highest_mean}
 use Rattle.decimal.specs.Reading.{is_digit, run_of, digit_run, num_of}
 use Rattle.decimal.specs.Writing.{decimal, mean_of}
@@ -30,7 +29,6 @@ use Rattle.report.specs.declared.Value.{Value}
 use Rattle.report.specs.declared.Value.TheVariants.{Absent, Number, Char, Word, Sent, Stored, Level, Mean}
 use Rattle.report.specs.declared.Shape.{Shape}
 use Rattle.report.specs.declared.Shape.TheVariants as shape
-use Rattle.report.specs.declared.Pick.TheVariants.{Is}
 use Rattle.report.specs.Fields.{is_absent, value_bytes, word_bytes, group_of}
 use Rattle.report.specs.Shapes.{one_in, number_in, word_in, order_id_in, text_in, time_in, quote_in, average_in, value_in}
 use Rattle.report.specs.Slots.{one_of, exact, sides, symbols}
@@ -39,11 +37,12 @@ use Rattle.report.proofs.Back.{moved, same_back}
 use Rattle.rows.specs.Rows.{group, digit, or_digit, or_number, or_nobody, avg_px, replaced_status, trade_status}
 use Rattle.ticket.specs.Legible.{is_among}
 use Rattle.readback.specs.Right.{is_part, TextRight, CodeRight, TimeRight}
+use Rattle.std.proofs.Common.{Some}
 
 -- the shape takes the value and gives it back, a text at its place in the report
 pub record Takes (sent stored : List ℕ) (f : Shape) (v : Value) : Type 0 where
   pub here : is_absent v ≡ false
-  pub picked : (place : ℕ) → value_in f place (value_bytes sent stored v) ≡ Is (moved sent stored place v)
+  pub picked : (place : ℕ) → value_in f place (value_bytes sent stored v) ≡ Some (moved sent stored place v)
 
 -- ---- a number of a list: what holds of each holds of it
 abbrev pub Each : (ℕ → Type 0) → List ℕ → Type 0
@@ -110,7 +109,7 @@ part_here (Stored from len) e = refl
 part_here (Level q level) e = refl
 part_here (Mean q mean) e = refl
 
-within_back : (least most n : ℕ) → least ≤ n → n ≤ most → n < 10 ^ 9 → within least most (bare_of 9 (decimal n)) ≡ Says n
+within_back : (least most n : ℕ) → least ≤ n → n ≤ most → n < 10 ^ 9 → within least most (bare_of 9 (decimal n)) ≡ Some n
 within_back least most n l h f = rw (bare_back 8 n f (omega arith)) (simp (le-leb least n l, le-leb n most h))
 
 module _ (sent stored : List ℕ) where
@@ -349,19 +348,19 @@ module _ (sent stored : List ℕ) where
         here = part_here v r.a_text;
         picked = λ place.
             rw (ne_eqb (length b) 0 (λ e. omega (arith, e, r.some)), le-ltb most (length b) r.few, r.all)
-            (ap Is (part_moved sent stored place v r.a_text));
+            (ap Some (part_moved sent stored place v r.a_text));
       }
 
   pub code_takes : (q : Instrument) (v : Value) → CodeRight sent stored q v → Takes sent stored (symbols q) v
   unfolding num_of
   code_takes Bonds v r =
-      record { here = part_here v r.a_text; picked = λ place. rw r.digits (ap Is (part_moved sent stored place v r.a_text)) }
+      record { here = part_here v r.a_text; picked = λ place. rw r.digits (ap Some (part_moved sent stored place v r.a_text)) }
   code_takes Equities v r = text_takes 9 32 v r
 
   pub time_takes : (v : Value) → TimeRight sent stored v → Takes sent stored shape.Time v
   unfolding time_in
   time_takes v r =
-      record { here = part_here v r.a_text; picked = λ place. rw r.time (ap Is (part_moved sent stored place v r.a_text)) }
+      record { here = part_here v r.a_text; picked = λ place. rw r.time (ap Some (part_moved sent stored place v r.a_text)) }
 
   -- ---- yields, prices and AvgPx
   pub level_takes : (q : Instrument) (l : ℕ) → 0 < l → l ≤ highest q → Takes sent stored (shape.Level q) (Level q l)

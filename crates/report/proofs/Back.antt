@@ -12,25 +12,22 @@ use borrow.Author.Tests.{eq-eqb, ne_eqb, le-leb}
 use Rattle.octets.specs.Octets.{part_at, same_bytes}
 use Rattle.decimal.specs.Writing.{decimal}
 use Rattle.decimal.specs.Canonical.{bare_of, within}
-use Rattle.decimal.specs.declared.Said.TheVariants.{Value as Says}
 use Rattle.decimal.proofs.RoundTrip.{bare_back}
 use Rattle.report.specs.declared.Value.{Value}
 use Rattle.report.specs.declared.Value.TheVariants.{Absent, Number, Char, Word, Sent, Stored, Level, Mean}
 use Rattle.report.specs.declared.Field.{Field}
 use Rattle.report.specs.declared.Slot.{Slot}
-use Rattle.report.specs.declared.Pick.TheVariants.{Is}
-use Rattle.report.specs.declared.Got.TheVariants.{Value as Found}
-use Rattle.report.specs.declared.Frame.TheVariants.{Body}
 use Rattle.report.specs.declared.Kind.{Kind}
 use Rattle.report.specs.declared.Kind.TheVariants.{Accepted, Replaced, Canceled, Trade, Rejected, CancelReject, SessionReject, Refused}
 use Rattle.report.specs.Fields.{field, is_absent, value_bytes, label, written, field_bytes, row_bytes}
 use Rattle.report.specs.Frame.{check_sum, version, front, trailer, report_bytes}
 use Rattle.report.specs.Shapes.{number_in, value_in}
-use Rattle.report.specs.Parse.{starts, len_to, field_at, row, cons_row, next_rows, read_row}
-use Rattle.report.specs.Reports.{length_slot, body_at, trailer_at, checked, read_framed, one_reason, agreed, reading_of}
+use Rattle.report.specs.Parse.{starts, len_to, field_at, row, cons_row, next_rows, read_row, found}
+use Rattle.report.specs.Reports.{length_slot, body_at, trailer_at, checked, read_framed, one_reason, agreed, reading_of, part}
 use Rattle.report.proofs.Bytes.{field_none}
 use Rattle.report.proofs.Parses.{value_is}
 use Rattle.report.proofs.Taken.{NoSoh, Taken, Proper, taken, width_of}
+use Rattle.std.proofs.Common.{Some}
 
 len_to_back : (v post : List ℕ) → NoSoh v → len_to (v ++ (1 ∷ post)) ≡ length v
 len_to_back [] post p = refl
@@ -47,8 +44,8 @@ same_back (a ∷ s) = rw (eq-eqb a a refl) (same_back s)
 
 -- ---- a field is read back where it stands, if its value is
 pub field_back : (pre value post : List ℕ) (slot : Slot) (x : Value) → NoSoh value
-    → value_in slot.shape (length pre + length (label slot.tag)) value ≡ Is x
-    → field_at (pre ++ (written slot.tag value ++ post)) (length pre) slot ≡ Found x (length pre + length (written slot.tag value))
+    → value_in slot.shape (length pre + length (label slot.tag)) value ≡ Some x
+    → field_at (pre ++ (written slot.tag value ++ post)) (length pre) slot ≡ found x (length pre + length (written slot.tag value))
 unfolding field_at written
 field_back pre value post slot x n e =
     let t = label slot.tag in
@@ -66,8 +63,8 @@ field_back pre value post slot x n e =
     let cut : take (v + length value - v) (drop v s) ≡ value = rw (sub, there) (take_at value (1 ∷ post) (length value) refl) in
     let last : v + length value + 1 ≡ length pre + length (t ++ value ++ (1 ∷ [])) = omega (arith, length-append (t ++ value) (1 ∷ []), length-append t value) in
     rw st
-    (sym (value_is s v slot.shape (v + length value) end less (Is x) (sym (ap (value_in slot.shape v) cut ∙ e)))
-    ∙ ap (λ (k : ℕ). Found x k) last)
+    (sym (value_is s v slot.shape (v + length value) end less (Some x) (sym (ap (value_in slot.shape v) cut ∙ e)))
+    ∙ ap (λ (k : ℕ). found x k) last)
 
 -- ---- a row that fits its slots
 
@@ -87,7 +84,7 @@ pub record Fit (sent stored : List ℕ) (slot : Slot) (f : Field) : Type 0 where
   pub tag_is : f.tag ≡ slot.tag
   pub here : is_absent f.value ≡ false
   pub proper : Proper slot.shape
-  pub picked : (place : ℕ) → value_in slot.shape place (value_bytes sent stored f.value) ≡ Is (moved sent stored place f.value)
+  pub picked : (place : ℕ) → value_in slot.shape place (value_bytes sent stored f.value) ≡ Some (moved sent stored place f.value)
 
 -- fields slot by slot; one that may be missing is, and what follows has another tag
 pub data Fits (sent stored post : List ℕ) : List Slot → List Field → Type 0 where
@@ -105,7 +102,7 @@ backs sent stored at (f ∷ fs) =
     field f.tag (moved sent stored (at + length (label f.tag)) f.value) ∷ backs sent stored (at + length (field_bytes sent stored f)) fs
 
 skip_back : (pre rest : List ℕ) (slot : Slot) → slot.optional ≡ true → starts (label slot.tag) rest ≡ false
-    → field_at (pre ++ rest) (length pre) slot ≡ Found Absent (length pre)
+    → field_at (pre ++ rest) (length pre) slot ≡ found Absent (length pre)
 unfolding field_at
 skip_back pre rest slot o e = rw (ap (starts (label slot.tag)) (drop_at pre rest (length pre) refl) ∙ e, o)
 
@@ -148,7 +145,7 @@ rows_back sent stored post pre slots fs (fits_some {slot} {f} {slots = ss} {fs =
     let last : length pre + length (b ++ t) ≡ length (pre ++ b) + length t = omega (arith, next, length-append b t) in
     let y = moved sent stored (length pre + length (label slot.tag)) f.value in
     let clean = (fit_taken sent stored slot f 0 p).clean in
-    let one : field_at s (length pre) slot ≡ Found y (length pre + length b) =
+    let one : field_at s (length pre) slot ≡ found y (length pre + length b) =
     rw (s_is, fit_bytes sent stored slot f p) (field_back pre v (t ++ post) slot y clean (p.picked (length pre + length (label slot.tag)))) in
     let rest : read_row s (length pre + length b) ss ≡ row (backs sent stored (length pre + length b) gs) (length pre + length (b ++ t)) =
     rw (last, s_is₂, ← next) (rows_back sent stored post (pre ++ b) ss gs r) in
@@ -193,21 +190,21 @@ ten : length (written 8 version) ≡ 10
 unfolding written label version decimal
 ten = refl
 
-length_back : (body : List ℕ) → 1 ≤ length body → length body ≤ 489 → field_at (report_bytes body) 10 length_slot ≡ Found (Number (length body)) (start body)
+length_back : (body : List ℕ) → 1 ≤ length body → length body ≤ 489 → field_at (report_bytes body) 10 length_slot ≡ found (Number (length body)) (start body)
 unfolding report_bytes front
 length_back body l h =
     let n = length body in
     let tail = trailer (check_sum (written 8 version ++ written 9 (decimal n) ++ body)) in
     let s_is : written 8 version ++ written 9 (decimal n) ++ body ++ tail ≡ written 8 version ++ (written 9 (decimal n) ++ (body ++ tail)) = simp append_assoc in
-    let says : within 1 999 (bare_of 9 (decimal n)) ≡ Says n = rw (bare_back 8 n (omega arith) (omega arith)) (simp (le-leb 1 n l, le-leb n 999 (omega arith))) in
-    let picked : (place : ℕ) → value_in length_slot.shape place (decimal n) ≡ Is (Number n) = λ place. ap number_in says in
+    let says : within 1 999 (bare_of 9 (decimal n)) ≡ Some n = rw (bare_back 8 n (omega arith) (omega arith)) (simp (le-leb 1 n l, le-leb n 999 (omega arith))) in
+    let picked : (place : ℕ) → value_in length_slot.shape place (decimal n) ≡ Some (Number n) = λ place. ap number_in says in
     let clean = (taken length_slot.shape 0 (decimal n) (Number n) tt (picked 0)).clean in
     ap (λ (s : List ℕ). field_at s 10 length_slot) s_is
     ∙ ap (λ (k : ℕ). field_at (written 8 version ++ (written 9 (decimal n) ++ (body ++ tail))) k length_slot) (sym ten)
     ∙ field_back (written 8 version) (decimal n) (body ++ tail) length_slot (Number n) clean (picked (length (written 8 version) + length (label 9)))
-    ∙ ap (λ (k : ℕ). Found (Number n) k) (sym (length-append (written 8 version) (written 9 (decimal n))))
+    ∙ ap (λ (k : ℕ). found (Number n) k) (sym (length-append (written 8 version) (written 9 (decimal n))))
 
-body_back : (body : List ℕ) → 1 ≤ length body → length body ≤ 489 → body_at (report_bytes body) ≡ Body (start body) (length body)
+body_back : (body : List ℕ) → 1 ≤ length body → length body ≤ 489 → body_at (report_bytes body) ≡ part (start body) (length body)
 unfolding body_at report_bytes front
 body_back body l h =
     let n = length body in
@@ -219,7 +216,7 @@ body_back body l h =
     omega (arith, length-append (written 8 version ++ written 9 (decimal n) ++ body) tail, length-append (written 8 version ++ written 9 (decimal n)) body) in
     rw (st, length_back body l h) (simp (le-leb (start body + n) (length s) len))
 
-framed_in : (s : List ℕ) (slots : List Slot) (from len : ℕ) → body_at s ≡ Body from len → read_framed s slots ≡ checked s (from + len) (read_row s from slots)
+framed_in : (s : List ℕ) (slots : List Slot) (from len : ℕ) → body_at s ≡ part from len → read_framed s slots ≡ checked s (from + len) (read_row s from slots)
 unfolding read_framed
 framed_in s slots from len e = rw e
 

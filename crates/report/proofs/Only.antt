@@ -17,20 +17,19 @@ use Rattle.report.specs.declared.Value.TheVariants.{Absent, Number, Char, Word, 
 use Rattle.report.specs.declared.Field.{Field}
 use Rattle.report.specs.declared.Shape.{Shape}
 use Rattle.report.specs.declared.Slot.{Slot}
-use Rattle.report.specs.declared.Pick.{Pick}
-use Rattle.report.specs.declared.Pick.TheVariants.{Is, No}
 use Rattle.report.specs.declared.Got.{Got}
-use Rattle.report.specs.declared.Got.TheVariants.{Value as Found, Wrong}
-use Rattle.report.specs.declared.Frame.{Frame}
-use Rattle.report.specs.declared.Frame.TheVariants.{Body, Not}
+use Rattle.fix.specs.declared.frame.Part.{Part}
 use Rattle.report.specs.Fields.{field, value_bytes, label, written, field_bytes, row_bytes}
 use Rattle.report.specs.Frame.{check_sum, version, front, trailer, report_bytes}
 use Rattle.report.specs.Shapes.{value_in}
-use Rattle.report.specs.Parse.{starts, len_to, got_of, value_at, field_at, Rows, row, bad, cons_row, next_rows, read_row}
-use Rattle.report.specs.Reports.{length_in, length_slot, body_at, trailer_at, checked, in_frame, read_framed}
+use Rattle.report.specs.Parse.{starts, len_to, got_of, value_at, field_at, Rows, row, bad, cons_row, next_rows, read_row, found}
+use Rattle.report.specs.Reports.{length_is, length_in, length_slot, body_at, trailer_at, checked, in_frame, read_framed, part}
 use Rattle.report.proofs.Bytes.{field_some}
 use Rattle.report.proofs.Labels.{starts_length}
 use Rattle.report.proofs.Taken.{Proper, taken, same_is}
+use Rattle.report.proofs.Parses.{found_next, found_value}
+use Rattle.report.proofs.Frames.{part_start, part_len}
+use Rattle.std.proofs.Common.{Option, Some, None, option_and_then}
 
 -- ---- pieces of a list
 pub starts_split : (p s : List ℕ) → starts p s ≡ true → s ≡ p ++ drop (length p) s
@@ -53,20 +52,20 @@ soh_split (b ∷ s) h =
 -- ---- a value
 pub record Valued (s : List ℕ) (v : ℕ) (shape : Shape) (x : Value) (n : ℕ) : Type 0 where
   pub within : v + len_to (drop v s) < length s
-  pub picked : value_in shape v (take (len_to (drop v s)) (drop v s)) ≡ Is x
+  pub picked : value_in shape v (take (len_to (drop v s)) (drop v s)) ≡ Some x
   pub next : n ≡ v + len_to (drop v s) + 1
 
-got_found : (p : Pick) (m : ℕ) (x : Value) (n : ℕ) → got_of p m ≡ Found x n → (p ≡ Is x) × (n ≡ m)
-got_found (Is y) m x n e = (cc, cc)
-got_found No m x n e = let z : ◌≡◌ {A = ℕ} 0 1 = cc in absurd (omega arith)
+got_found : (p : Option Value) (m : ℕ) (x : Value) (n : ℕ) → got_of p m ≡ found x n → (p ≡ Some x) × (n ≡ m)
+got_found (Some y) m x n e = (ap Some (found_value y x m n e), found_next y x m n e)
+got_found None m x n e = let z : ◌≡◌ {A = ℕ} 0 1 = cc in absurd (omega arith)
 
-pub value_found : (s : List ℕ) (v : ℕ) (shape : Shape) (x : Value) (n : ℕ) → value_at s v shape ≡ Found x n → Valued s v shape x n
+pub value_found : (s : List ℕ) (v : ℕ) (shape : Shape) (x : Value) (n : ℕ) → value_at s v shape ≡ found x n → Valued s v shape x n
 unfolding value_at
 value_found s v shape x n e =
     split (ltb (v + len_to (drop v s)) (length s))
     (λ t. let p = got_found (value_in shape v (take (len_to (drop v s)) (drop v s))) (v + len_to (drop v s) + 1) x n (rw t at e) in
     record { within = ltb-true (v + len_to (drop v s)) (length s) t; picked = p.0; next = p.1 })
-    (λ t. let z : Wrong ≡ Found x n = rw t at e in let y : ◌≡◌ {A = ℕ} 0 1 = cc in absurd (omega arith))
+    (λ t. let z : None ≡ found x n = rw t at e in let y : ◌≡◌ {A = ℕ} 0 1 = cc in absurd (omega arith))
 
 -- ---- a field: from place at to place n stand its bytes
 pub record Piece (s : List ℕ) (at n : ℕ) (bytes : List ℕ) : Type 0 where
@@ -110,11 +109,11 @@ module _ (s stored : List ℕ) (at : ℕ) (slot : Slot) (x : Value) (n : ℕ) (h
         stands = let z : n - at ≡ 0 = omega (arith, ne) in rw (z, xe);
       }
 
-  skip_found : (o : Bool) → slot.optional ≡ o → cond o (Found Absent at) Wrong ≡ Found x n → Piece s at n (field_bytes s stored (field slot.tag x))
-  skip_found true o e = skipped o (cc) (cc)
+  skip_found : (o : Bool) → slot.optional ≡ o → cond o (found Absent at) None ≡ found x n → Piece s at n (field_bytes s stored (field slot.tag x))
+  skip_found true o e = skipped o (sym (found_value Absent x at n e)) (found_next Absent x at n e)
   skip_found false o e = let z : ◌≡◌ {A = ℕ} 0 1 = cc in absurd (omega arith)
 
-  pub field_only : field_at s at slot ≡ Found x n → Piece s at n (field_bytes s stored (field slot.tag x))
+  pub field_only : field_at s at slot ≡ found x n → Piece s at n (field_bytes s stored (field slot.tag x))
   unfolding field_at
   field_only e =
       split (starts (label slot.tag) (drop at s))
@@ -139,11 +138,11 @@ piece_then s at m n xs ys p q =
           ∙ ap (λ (w : List ℕ). w ++ take (n - m) (drop m s)) p.stands ∙ ap (λ (w : List ℕ). xs ++ w) q.stands;
     }
 
-pub record Consed (tag : ℕ) (g : Got) (k : ℕ → Rows) (fs : List Field) (n : ℕ) : Type 0 where
+pub record Consed (tag : ℕ) (g : Option Got) (k : ℕ → Rows) (fs : List Field) (n : ℕ) : Type 0 where
   pub value : Value
   pub next : ℕ
   pub rest : List Field
-  pub found : g ≡ Found value next
+  pub read : g ≡ found value next
   pub left : k next ≡ row rest n
   pub all : fs ≡ field tag value ∷ rest
 
@@ -151,11 +150,11 @@ cons_row_lem : (f : Field) (r : Rows) (fs : List Field) (n : ℕ) → cons_row f
 cons_row_lem f (row gs m) fs n e = (gs, cc, cc)
 cons_row_lem f bad fs n e = let z : ◌≡◌ {A = ℕ} 0 1 = cc in absurd (omega arith)
 
-pub next_row : (tag : ℕ) (g : Got) (k : ℕ → Rows) (fs : List Field) (n : ℕ) → next_rows tag g k ≡ row fs n → Consed tag g k fs n
-next_row tag (Found x m) k fs n e =
-    let c = cons_row_lem (field tag x) (k m) fs n e in
-    record { value = x; next = m; rest = c.0; found = refl; left = c.1; all = c.2 }
-next_row tag Wrong k fs n e = let z : ◌≡◌ {A = ℕ} 0 1 = cc in absurd (omega arith)
+pub next_row : (tag : ℕ) (g : Option Got) (k : ℕ → Rows) (fs : List Field) (n : ℕ) → next_rows tag g k ≡ row fs n → Consed tag g k fs n
+next_row tag (Some g) k fs n e =
+    let c = cons_row_lem (field tag g.value) (k g.next) fs n e in
+    record { value = g.value; next = g.next; rest = c.0; read = refl; left = c.1; all = c.2 }
+next_row tag None k fs n e = let z : ◌≡◌ {A = ℕ} 0 1 = cc in absurd (omega arith)
 
 pub row_only : (s stored : List ℕ) (at : ℕ) (slots : List Slot) (fs : List Field) (n : ℕ) → at ≤ length s → AllProper slots
     → read_row s at slots ≡ row fs n → Piece s at n (row_bytes s stored fs)
@@ -165,7 +164,7 @@ row_only s stored at [] fs n h p e =
     record { on = omega (arith, b); within = omega (arith, b); stands = let z : n - at ≡ 0 = omega (arith, b) in rw (z, a) }
 row_only s stored at (slot ∷ slots) fs n h p e =
     let c = next_row slot.tag (field_at s at slot) (λ m. read_row s m slots) fs n e in
-    let one = field_only s stored at slot c.value c.next h p.0 c.found in
+    let one = field_only s stored at slot c.value c.next h p.0 c.read in
     let more = row_only s stored c.next slots c.rest n one.within p.1 c.left in
     subst (λ (w : List Field). Piece s at n (row_bytes s stored w)) (sym c.all)
     (piece_then s at c.next n (field_bytes s stored (field slot.tag c.value)) (row_bytes s stored c.rest) one more)
@@ -174,7 +173,7 @@ row_only s stored at (slot ∷ slots) fs n h p e =
 pub record Framed (s : List ℕ) (slots : List Slot) (fs : List Field) (n : ℕ) : Type 0 where
   pub from : ℕ
   pub len : ℕ
-  pub body : body_at s ≡ Body from len
+  pub body : body_at s ≡ part from len
   pub fields : read_row s from slots ≡ row fs n
   pub end : n ≡ from + len
   pub sum : trailer_at s (from + len) ≡ true
@@ -188,36 +187,41 @@ checked_row s end (row gs m) fs n e =
     (λ t. let z : bad ≡ row fs n = rw t at e in let y : ◌≡◌ {A = ℕ} 0 1 = cc in absurd (omega arith))
 checked_row s end bad fs n e = let z : ◌≡◌ {A = ℕ} 0 1 = cc in absurd (omega arith)
 
-in_frame_lem : (s : List ℕ) (slots : List Slot) (f : Frame) (fs : List Field) (n : ℕ) → body_at s ≡ f → in_frame s slots f ≡ row fs n → Framed s slots fs n
-in_frame_lem s slots (Body from len) fs n b e =
-    let c = checked_row s (from + len) (read_row s from slots) fs n e in
-    record { from = from; len = len; body = b; fields = c.0; end = c.1; sum = c.2 }
-in_frame_lem s slots Not fs n b e = let z : ◌≡◌ {A = ℕ} 0 1 = cc in absurd (omega arith)
+in_frame_lem : (s : List ℕ) (slots : List Slot) (f : Option Part) (fs : List Field) (n : ℕ) → body_at s ≡ f → in_frame s slots f ≡ row fs n → Framed s slots fs n
+in_frame_lem s slots (Some p) fs n b e =
+    let c = checked_row s (p.start + p.len) (read_row s p.start slots) fs n e in
+    record { from = p.start; len = p.len; body = b; fields = c.0; end = c.1; sum = c.2 }
+in_frame_lem s slots None fs n b e = let z : ◌≡◌ {A = ℕ} 0 1 = cc in absurd (omega arith)
 
 pub framed_found : (s : List ℕ) (slots : List Slot) (fs : List Field) (n : ℕ) → read_framed s slots ≡ row fs n → Framed s slots fs n
 unfolding read_framed
 framed_found s slots fs n e = in_frame_lem s slots (body_at s) fs n refl e
 
-length_found_lem : (g : Got) (n from len : ℕ) → length_in g n ≡ Body from len → g ≡ Found (Number len) from
-length_found_lem (Found Absent next) n from len e = let z : ◌≡◌ {A = ℕ} 0 1 = cc in absurd (omega arith)
-length_found_lem (Found (Number k) next) n from len e =
+length_found_lem : (v : Value) (next n from len : ℕ) → length_is v next n ≡ part from len → (v ≡ Number len) × (next ≡ from)
+length_found_lem (Number k) next n from len e =
     split (leb (next + k) n)
-    (λ t. let z : Body next k ≡ Body from len = rw t at e in cc)
-    (λ t. let z : Not ≡ Body from len = rw t at e in let y : ◌≡◌ {A = ℕ} 0 1 = cc in absurd (omega arith))
-length_found_lem (Found (Char c) next) n from len e = let z : ◌≡◌ {A = ℕ} 0 1 = cc in absurd (omega arith)
-length_found_lem (Found (Word w x y k) next) n from len e = let z : ◌≡◌ {A = ℕ} 0 1 = cc in absurd (omega arith)
-length_found_lem (Found (Sent f l) next) n from len e = let z : ◌≡◌ {A = ℕ} 0 1 = cc in absurd (omega arith)
-length_found_lem (Found (Stored f l) next) n from len e = let z : ◌≡◌ {A = ℕ} 0 1 = cc in absurd (omega arith)
-length_found_lem (Found (Level q l) next) n from len e = let z : ◌≡◌ {A = ℕ} 0 1 = cc in absurd (omega arith)
-length_found_lem (Found (Mean q l) next) n from len e = let z : ◌≡◌ {A = ℕ} 0 1 = cc in absurd (omega arith)
-length_found_lem Wrong n from len e = let z : ◌≡◌ {A = ℕ} 0 1 = cc in absurd (omega arith)
+    (λ t. let z : part next k ≡ part from len = rw t at e in (ap Number (part_len next from k len z), part_start next from k len z))
+    (λ t. let z : None ≡ part from len = rw t at e in let y : ◌≡◌ {A = ℕ} 0 1 = cc in absurd (omega arith))
+length_found_lem Absent next n from len e = let z : ◌≡◌ {A = ℕ} 0 1 = cc in absurd (omega arith)
+length_found_lem (Char c) next n from len e = let z : ◌≡◌ {A = ℕ} 0 1 = cc in absurd (omega arith)
+length_found_lem (Word w x y k) next n from len e = let z : ◌≡◌ {A = ℕ} 0 1 = cc in absurd (omega arith)
+length_found_lem (Sent f l) next n from len e = let z : ◌≡◌ {A = ℕ} 0 1 = cc in absurd (omega arith)
+length_found_lem (Stored f l) next n from len e = let z : ◌≡◌ {A = ℕ} 0 1 = cc in absurd (omega arith)
+length_found_lem (Level q l) next n from len e = let z : ◌≡◌ {A = ℕ} 0 1 = cc in absurd (omega arith)
+length_found_lem (Mean q l) next n from len e = let z : ◌≡◌ {A = ℕ} 0 1 = cc in absurd (omega arith)
 
-pub body_found : (s : List ℕ) (from len : ℕ) → body_at s ≡ Body from len → (starts (written 8 version) s ≡ true) × (field_at s 10 length_slot ≡ Found (Number len) from)
+length_got_lem : (g : Option Got) (n from len : ℕ) → option_and_then (λ got. length_in got n) g ≡ part from len → g ≡ found (Number len) from
+length_got_lem (Some got) n from len e =
+    let p = length_found_lem got.value got.next n from len e in
+    ap Some (ap (λ (v : Value). record { value = v; next = got.next }) p.0 ∙ ap (λ (m : ℕ). record { value = Number len; next = m }) p.1)
+length_got_lem None n from len e = let z : ◌≡◌ {A = ℕ} 0 1 = cc in absurd (omega arith)
+
+pub body_found : (s : List ℕ) (from len : ℕ) → body_at s ≡ part from len → (starts (written 8 version) s ≡ true) × (field_at s 10 length_slot ≡ found (Number len) from)
 unfolding body_at
 body_found s from len e =
     split (starts (written 8 version) s)
-    (λ t. (t, length_found_lem (field_at s 10 length_slot) (length s) from len (rw t at e)))
-    (λ t. let z : Not ≡ Body from len = rw t at e in let y : ◌≡◌ {A = ℕ} 0 1 = cc in absurd (omega arith))
+    (λ t. (t, length_got_lem (field_at s 10 length_slot) (length s) from len (rw t at e)))
+    (λ t. let z : None ≡ part from len = rw t at e in let y : ◌≡◌ {A = ℕ} 0 1 = cc in absurd (omega arith))
 
 ten : length (written 8 version) ≡ 10
 unfolding written label version decimal

@@ -19,21 +19,19 @@ use Rattle.report.specs.declared.Value.TheVariants.{Absent}
 use Rattle.report.specs.declared.Field.{Field}
 use Rattle.report.specs.declared.Shape.{Shape}
 use Rattle.report.specs.declared.Slot.{Slot}
-use Rattle.report.specs.declared.Pick.{Pick}
-use Rattle.report.specs.declared.Pick.TheVariants.{Is, No}
 use Rattle.report.specs.declared.Got.{Got}
-use Rattle.report.specs.declared.Got.TheVariants.{Value as Found, Wrong}
 use Rattle.report.specs.Fields.{field, label}
 use Rattle.report.specs.Shapes.{value_in}
-use Rattle.report.specs.Parse.{starts, len_to, got_of, value_at, field_at, Rows, row, bad, cons_row, next_rows, read_row}
+use Rattle.report.specs.Parse.{starts, len_to, got_of, value_at, field_at, Rows, row, bad, cons_row, next_rows, read_row, found}
+use Rattle.std.proofs.Common.{Option, Some, None, option_map, unwrap_or}
 
 -- ---- values
 module _ (s : List ℕ) (v : ℕ) (shape : Shape) (e : ℕ) (k : e ≡ v + len_to (drop v s)) where
-  pub value_none : length s ≤ e → Wrong ≡ value_at s v shape
+  pub value_none : length s ≤ e → None ≡ value_at s v shape
   unfolding value_at
   value_none h = rw (← k, le-ltb e (length s) h)
 
-  module _ (h : e < length s) (p : Pick) (q : p ≡ value_in shape v (take (e - v) (drop v s))) where
+  module _ (h : e < length s) (p : Option Value) (q : p ≡ value_in shape v (take (e - v) (drop v s))) where
     pub value_is : got_of p (e + 1) ≡ value_at s v shape
     unfolding value_at
     value_is =
@@ -41,10 +39,10 @@ module _ (s : List ℕ) (v : ℕ) (shape : Shape) (e : ℕ) (k : e ≡ v + len_t
         let m : v + (e - v) ≡ e = omega (arith, k) in
         rw (l, m, lt-ltb e (length s) h, q)
 
-    pub value_yes : (x : Value) → p ≡ Is x → Found x (e + 1) ≡ value_at s v shape
+    pub value_yes : (x : Value) → p ≡ Some x → found x (e + 1) ≡ value_at s v shape
     value_yes x i = sym (ap (λ w. got_of w (e + 1)) i) ∙ value_is
 
-    pub value_no : p ≡ No → Wrong ≡ value_at s v shape
+    pub value_no : p ≡ None → None ≡ value_at s v shape
     value_no i = sym (ap (λ w. got_of w (e + 1)) i) ∙ value_is
 
 -- ---- fields
@@ -65,17 +63,17 @@ module _ (s : List ℕ) (at tag k : ℕ) (e : k ≡ length (decimal tag)) (h : a
   end_none n = rw (sym st ∙ n)
 
 module _ (s : List ℕ) (at : ℕ) (slot : Slot) (k : ℕ) (e : k ≡ length (decimal slot.tag)) (h : at ≤ length s) (t : Bool) (st : t ≡ starts (label slot.tag) (drop at s)) where
-  pub field_yes : t ≡ true → (g : Got) → g ≡ value_at s (at + k + 1) slot.shape → g ≡ field_at s at slot
+  pub field_yes : t ≡ true → (g : Option Got) → g ≡ value_at s (at + k + 1) slot.shape → g ≡ field_at s at slot
   unfolding field_at
   field_yes y g q =
       let v : at + length (label slot.tag) ≡ at + k + 1 = omega (arith, label_length slot.tag) in
       rw (sym st ∙ y, v) q
 
-  pub field_skip : t ≡ false → slot.optional ≡ true → Found Absent at ≡ field_at s at slot
+  pub field_skip : t ≡ false → slot.optional ≡ true → found Absent at ≡ field_at s at slot
   unfolding field_at
   field_skip n o = rw (sym st ∙ n, o)
 
-  pub field_wrong : t ≡ false → slot.optional ≡ false → Wrong ≡ field_at s at slot
+  pub field_wrong : t ≡ false → slot.optional ≡ false → None ≡ field_at s at slot
   unfolding field_at
   field_wrong n o = rw (sym st ∙ n, o)
 
@@ -99,31 +97,38 @@ module _ (s : List ℕ) (at : ℕ) (slot : Slot) (k : ℕ) (ke : k ≡ length (d
   pub there_ends : at < e → e ≡ at + k + 1 + len_to (drop (at + k + 1) s)
   there_ends l = rw (there l) at q
 
-  pub there_yes : at < e → (g : Got) → g ≡ value_at s (at + k + 1) slot.shape → g ≡ field_at s at slot
+  pub there_yes : at < e → (g : Option Got) → g ≡ value_at s (at + k + 1) slot.shape → g ≡ field_at s at slot
   there_yes l = field_yes s at slot k ke h true (sym (there l)) refl
 
-  pub there_skip : e ≤ at → slot.optional ≡ true → Found Absent at ≡ field_at s at slot
+  pub there_skip : e ≤ at → slot.optional ≡ true → found Absent at ≡ field_at s at slot
   there_skip l = field_skip s at slot k ke h false (sym (nowhere l)) refl
 
-  pub there_wrong : e ≤ at → slot.optional ≡ false → Wrong ≡ field_at s at slot
+  pub there_wrong : e ≤ at → slot.optional ≡ false → None ≡ field_at s at slot
   there_wrong l = field_wrong s at slot k ke h false (sym (nowhere l)) refl
+
+-- what was found is one value at one place
+pub found_next : (x y : Value) (m n : ℕ) → found x m ≡ found y n → n ≡ m
+found_next x y m n e = sym (ap (λ (g : Option Got). unwrap_or (option_map (λ h. h.next) g) 0) e)
+
+pub found_value : (x y : Value) (m n : ℕ) → found x m ≡ found y n → x ≡ y
+found_value x y m n e = ap (λ (g : Option Got). unwrap_or (option_map (λ h. h.value) g) Absent) e
 
 -- the place behind a field is within the bytes
 module _ (s : List ℕ) (x : Value) (n : ℕ) where
-  got_within : (p : Pick) (t : Bool) (m : ℕ) → ltb m (length s) ≡ t → cond t (got_of p (m + 1)) Wrong ≡ Found x n → n ≤ length s
-  got_within (Is y) true m e q = let i : n ≡ m + 1 = cc in omega (arith, ltb-true m (length s) e)
-  got_within No true m e q = let z : ◌≡◌ {A = ℕ} 0 1 = cc in absurd (omega arith)
+  got_within : (p : Option Value) (t : Bool) (m : ℕ) → ltb m (length s) ≡ t → cond t (got_of p (m + 1)) None ≡ found x n → n ≤ length s
+  got_within (Some y) true m e q = omega (arith, found_next y x (m + 1) n q, ltb-true m (length s) e)
+  got_within None true m e q = let z : ◌≡◌ {A = ℕ} 0 1 = cc in absurd (omega arith)
   got_within p false m e q = let z : ◌≡◌ {A = ℕ} 0 1 = cc in absurd (omega arith)
 
-  value_within : (v : ℕ) (shape : Shape) → value_at s v shape ≡ Found x n → n ≤ length s
+  value_within : (v : ℕ) (shape : Shape) → value_at s v shape ≡ found x n → n ≤ length s
   unfolding value_at
   value_within v shape e = got_within (value_in shape v (take (len_to (drop v s)) (drop v s))) (ltb (v + len_to (drop v s)) (length s)) (v + len_to (drop v s)) refl e
 
-  skip_within : (at : ℕ) (o : Bool) → at ≤ length s → cond o (Found Absent at) Wrong ≡ Found x n → n ≤ length s
-  skip_within at true h e = let i : n ≡ at = cc in omega arith
+  skip_within : (at : ℕ) (o : Bool) → at ≤ length s → cond o (found Absent at) None ≡ found x n → n ≤ length s
+  skip_within at true h e = omega (arith, found_next Absent x at n e)
   skip_within at false h e = let z : ◌≡◌ {A = ℕ} 0 1 = cc in absurd (omega arith)
 
-  pub field_within : (at : ℕ) (slot : Slot) → at ≤ length s → field_at s at slot ≡ Found x n → n ≤ length s
+  pub field_within : (at : ℕ) (slot : Slot) → at ≤ length s → field_at s at slot ≡ found x n → n ≤ length s
   unfolding field_at
   field_within at slot h e =
       split (starts (label slot.tag) (drop at s))
@@ -173,13 +178,13 @@ module _ (s : List ℕ) (at : ℕ) (slots : List Slot) (fields : List Field) (ne
     here : read_row s at slots ≡ prepend f.read (next_rows (get_or slots i d).tag (field_at s next (get_or slots i d)) (λ m. read_row s m (drop (suc i) slots)))
     here = f.rest ∙ ap (λ (q : List Slot). prepend f.read (read_row s next q)) (drop-cons slots i d (omega (arith, f.all)))
 
-    pub so_wrong : field_at s next (get_or slots i d) ≡ Wrong → read_row s at slots ≡ bad
+    pub so_wrong : field_at s next (get_or slots i d) ≡ None → read_row s at slots ≡ bad
     so_wrong e =
         here
-        ∙ ap (λ (g : Got). prepend f.read (next_rows (get_or slots i d).tag g (λ m. read_row s m (drop (suc i) slots)))) e
+        ∙ ap (λ (g : Option Got). prepend f.read (next_rows (get_or slots i d).tag g (λ m. read_row s m (drop (suc i) slots)))) e
         ∙ prepend_bad f.read
 
-    pub so_more : (x : Value) (n : ℕ) → field_at s next (get_or slots i d) ≡ Found x n → SoFar s at slots (set fields i (field (get_or slots i d).tag x)) n (i + 1)
+    pub so_more : (x : Value) (n : ℕ) → field_at s next (get_or slots i d) ≡ found x n → SoFar s at slots (set fields i (field (get_or slots i d).tag x)) n (i + 1)
     so_more x n e =
         let r : 36 - i ≡ suc (36 - (i + 1)) = omega (arith, h) in
         let y : Field = field (get_or slots i d).tag x in
@@ -192,7 +197,7 @@ module _ (s : List ℕ) (at : ℕ) (slots : List Slot) (fields : List Field) (ne
               ∙ sym (append_snoc f.read y (replicate (36 - (i + 1)) (field 0 Absent)));
           rest =
               here
-              ∙ ap (λ (g : Got). prepend f.read (next_rows (get_or slots i d).tag g (λ m. read_row s m (drop (suc i) slots)))) e
+              ∙ ap (λ (g : Option Got). prepend f.read (next_rows (get_or slots i d).tag g (λ m. read_row s m (drop (suc i) slots)))) e
               ∙ sym (prepend_snoc f.read y (read_row s n (drop (suc i) slots)))
               ∙ ap (λ (j : ℕ). prepend (f.read ++ (y ∷ [])) (read_row s n (drop j slots))) (sym (add-one i));
           all = f.all;

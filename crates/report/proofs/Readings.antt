@@ -13,14 +13,14 @@ use Rattle.decimal.specs.declared.Instrument.{Instrument}
 use Rattle.report.specs.declared.Slot.{Slot}
 use Rattle.report.specs.declared.Kind.{Kind}
 use Rattle.report.specs.declared.Kind.TheVariants.{CancelReject, SessionReject, Refused}
-use Rattle.report.specs.declared.Part.TheVariants.{At, Nowhere}
 use Rattle.report.specs.declared.Reading.{Reading}
 use Rattle.report.specs.Fields.{label}
 use Rattle.report.specs.Parse.{len_to, place_of}
 use Rattle.report.specs.Slots.{slots_of}
-use Rattle.report.specs.Reports.{execution_for, kind_for, first_of, kind_of, reading_of, read_framed, read_of, part_of}
+use Rattle.report.specs.Reports.{execution_for, kind_for, first_of, kind_of, reading_of, read_framed, read_of, part_of, part}
 use Rattle.report.proofs.Labels.{label_length}
 use Rattle.report.proofs.Walks.{place_within}
+use Rattle.std.proofs.Common.{None}
 
 -- ---- where a field stands
 module _ (s : List ℕ) (tag p : ℕ) (e : p ≡ place_of (label tag) true s) where
@@ -28,7 +28,7 @@ module _ (s : List ℕ) (tag p : ℕ) (e : p ≡ place_of (label tag) true s) wh
   unfolding first_of
   first_none h = rw (← e) (sym (get_or-eq_default s 0 {n = p + length (label tag)} (omega arith)))
 
-  pub part_none : length s ≤ p → Nowhere ≡ part_of s tag
+  pub part_none : length s ≤ p → None ≡ part_of s tag
   unfolding part_of
   part_none h = rw (← e, le-ltb p (length s) h)
 
@@ -49,7 +49,7 @@ module _ (s : List ℕ) (tag p : ℕ) (e : p ≡ place_of (label tag) true s) wh
     unfolding first_of
     first_some b q = rw (← e) (q ∙ ap (λ (j : ℕ). get_or s j 0) (sym from))
 
-    pub part_some : (n : ℕ) → n ≡ p + k + 1 + len_to (drop (p + k + 1) s) → At (p + k + 1) (n - (p + k + 1)) ≡ part_of s tag
+    pub part_some : (n : ℕ) → n ≡ p + k + 1 + len_to (drop (p + k + 1) s) → part (p + k + 1) (n - (p + k + 1)) ≡ part_of s tag
     unfolding part_of
     part_some n q =
         let z = from in

@@ -12,13 +12,12 @@ use Rattle.octets.specs.Octets.{part_at, same_bytes}
 use Rattle.octets.proofs.Bools.{split, both_l, both_r}
 use Rattle.decimal.specs.declared.Instrument.{Instrument}
 use Rattle.decimal.specs.declared.Instrument.TheVariants.{Bonds, Equities}
-use Rattle.decimal.specs.declared.Said.{Said}
-use Rattle.decimal.specs.declared.Said.TheVariants.{Value as Says, Wrong as Saysnot}
 use Rattle.decimal.specs.Reading.{digit_run, number, is_number, num_of, is_time}
 use Rattle.decimal.specs.Instruments.{amount_from, signed, decimals, mean_decimals, highest, highest_mean}
 use Rattle.decimal.specs.Writing.{decimal, places, plain, fixed, zero_of, level_text, mean_text}
 use Rattle.decimal.specs.Canonical.{bare_of, within, level_in, mean_in}
-use Rattle.decimal.proofs.Numbers.{digit_low, let_through}
+use Rattle.decimal.proofs.Numbers.{digit_low}
+use Rattle.std.proofs.lemmas.Option.{cond_some}
 use Rattle.decimal.proofs.Times.{time_short, time_low}
 use Rattle.decimal.proofs.Afters.{digits_head, digits_tail, digits_decimal, digits_places}
 use Rattle.decimal.proofs.Digits.{decimal_few}
@@ -27,9 +26,9 @@ use Rattle.report.specs.declared.Value.{Value}
 use Rattle.report.specs.declared.Value.TheVariants.{Number, Char, Word, Sent, Level, Mean}
 use Rattle.report.specs.declared.Shape.{Shape}
 use Rattle.report.specs.declared.Shape.TheVariants as shape
-use Rattle.report.specs.declared.Pick.TheVariants.{Is, No}
 use Rattle.report.specs.Fields.{is_absent, word_bytes, value_bytes}
 use Rattle.report.specs.Shapes.{one_in, number_in, listed_in, word_in, order_id_in, all_from, text_in, place_in, time_in, quote_in, average_in, value_in}
+use Rattle.std.proofs.Common.{Option, Some, None}
 
 -- ---- no byte is SOH
 abbrev pub NoSoh : List ℕ → Type 0
@@ -120,18 +119,18 @@ width_of shape.Time = 21
 width_of (shape.Level q) = 11
 width_of (shape.Average q) = 14
 
-is_injective : (x y : Value) → Is x ≡ Is y → x ≡ y
+is_injective : (x y : Value) → Some x ≡ Some y → x ≡ y
 is_injective x y e = cc
 
-no_never : (x : Value) → No ≡ Is x → ⊥
+no_never : (x : Value) → None ≡ Some x → ⊥
 no_never x e = let z : ◌≡◌ {A = ℕ} 0 1 = cc in omega arith
 
-cond_is : (t : Bool) (y x : Value) → cond t (Is y) No ≡ Is x → (t ≡ true) × (y ≡ x)
+cond_is : (t : Bool) (y x : Value) → cond t (Some y) None ≡ Some x → (t ≡ true) × (y ≡ x)
 cond_is true y x e = (refl, is_injective y x e)
 cond_is false y x e = absurd (no_never x e)
 
 -- numbers
-taken_bare : (v : List ℕ) (from n : ℕ) → bare_of 9 v ≡ Says n → Taken v 9 from (Number n)
+taken_bare : (v : List ℕ) (from n : ℕ) → bare_of 9 v ≡ Some n → Taken v 9 from (Number n)
 taken_bare v from n e =
     let w = bare_only 9 v n (omega arith) e in
     let m : n < 10 ^ 9 = bare_small 9 v n (omega arith) e in
@@ -142,32 +141,32 @@ taken_bare v from n e =
       bytes = λ s stored p. sym w;
     }
 
-within_says : (low high n : ℕ) (q : Said) → within low high q ≡ Says n → q ≡ Says n
-within_says low high n (Says m) e = by (leb low m && leb m high) e
+within_says : (low high n : ℕ) (q : Option ℕ) → within low high q ≡ Some n → q ≡ Some n
+within_says low high n (Some m) e = by (leb low m && leb m high) e
   where
-    by : (t : Bool) → cond t (Says m) Saysnot ≡ Says n → Says m ≡ Says n
+    by : (t : Bool) → cond t (Some m) None ≡ Some n → Some m ≡ Some n
     by true e = e
     by false e = let z : ◌≡◌ {A = ℕ} 0 1 = cc in absurd (omega arith)
-within_says low high n Saysnot e = let z : ◌≡◌ {A = ℕ} 0 1 = cc in absurd (omega arith)
+within_says low high n None e = let z : ◌≡◌ {A = ℕ} 0 1 = cc in absurd (omega arith)
 
-record SaidSo (q : Said) (x : Value) (f : ℕ → Value) : Type 0 where
+record SaidSo (q : Option ℕ) (x : Value) (f : ℕ → Value) : Type 0 where
   pub said : ℕ
-  pub says : q ≡ Says said
+  pub says : q ≡ Some said
   pub is : f said ≡ x
 
-number_says : (q : Said) (x : Value) → number_in q ≡ Is x → SaidSo q x Number
-number_says (Says n) x e = record { said = n; says = refl; is = is_injective (Number n) x e }
-number_says Saysnot x e = absurd (no_never x e)
+number_says : (q : Option ℕ) (x : Value) → number_in q ≡ Some x → SaidSo q x Number
+number_says (Some n) x e = record { said = n; says = refl; is = is_injective (Number n) x e }
+number_says None x e = absurd (no_never x e)
 
-taken_number : (v : List ℕ) (from : ℕ) (x : Value) (low high : ℕ) → number_in (within low high (bare_of 9 v)) ≡ Is x → Taken v 9 from x
+taken_number : (v : List ℕ) (from : ℕ) (x : Value) (low high : ℕ) → number_in (within low high (bare_of 9 v)) ≡ Some x → Taken v 9 from x
 taken_number v from x low high e =
     let n = number_says (within low high (bare_of 9 v)) x e in
     rw (← n.is) (taken_bare v from n.said (within_says low high n.said (bare_of 9 v) n.says))
 
-listed_says : (a b c d e f g h : ℕ) (q : Said) (x : Value) → listed_in a b c d e f g h q ≡ Is x → SaidSo q x Number
-listed_says a b c d e f g h (Says n) x q =
+listed_says : (a b c d e f g h : ℕ) (q : Option ℕ) (x : Value) → listed_in a b c d e f g h q ≡ Some x → SaidSo q x Number
+listed_says a b c d e f g h (Some n) x q =
     record { said = n; says = refl; is = (cond_is (eqb n a || eqb n b || eqb n c || eqb n d || eqb n e || eqb n f || eqb n g || eqb n h) (Number n) x q).1 }
-listed_says a b c d e f g h Saysnot x q = absurd (no_never x q)
+listed_says a b c d e f g h None x q = absurd (no_never x q)
 
 -- one character
 one_byte : (v : List ℕ) → length v ≡ 1 → v ≡ get_or v 0 0 ∷ []
@@ -203,7 +202,7 @@ Proper shape.Time = Unit {0}
 Proper (shape.Level q) = Unit {0}
 Proper (shape.Average q) = Unit {0}
 
-taken_one : (v : List ℕ) (from : ℕ) (x : Value) (a b c d e : ℕ) → (a ≡ 1 → ⊥) × (b ≡ 1 → ⊥) × (c ≡ 1 → ⊥) × (d ≡ 1 → ⊥) × (e ≡ 1 → ⊥) → one_in a b c d e v ≡ Is x → Taken v 1 from x
+taken_one : (v : List ℕ) (from : ℕ) (x : Value) (a b c d e : ℕ) → (a ≡ 1 → ⊥) × (b ≡ 1 → ⊥) × (c ≡ 1 → ⊥) × (d ≡ 1 → ⊥) × (e ≡ 1 → ⊥) → one_in a b c d e v ≡ Some x → Taken v 1 from x
 unfolding one_in
 taken_one v from x a b c d e n q =
     split (eqb (length v) 1)
@@ -213,7 +212,7 @@ taken_one v from x a b c d e n q =
     let clean : NoSoh (get_or v 0 0 ∷ []) = (five (get_or v 0 0) a b c d e p.0 n, tt) in
     let whole : Taken v 1 from (Char (get_or v 0 0)) = record { clean = subst (λ (u : List ℕ). NoSoh u) (sym w) clean; few = omega (arith, eqb-true (length v) 1 l); here = refl; bytes = λ s stored z. sym w } in
     subst (λ (u : Value). Taken v 1 from u) p.1 whole)
-    (λ l. let z : No ≡ Is x = rw l at q in absurd (no_never x z))
+    (λ l. let z : None ≡ Some x = rw l at q in absurd (no_never x z))
 
 -- a word
 clean_word : (w x y z : ℕ) → NoSoh (w ∷ x ∷ y ∷ z ∷ []) → NoSoh (word_bytes w x y z)
@@ -225,7 +224,7 @@ clean_word w x y z n = (n.0, (n.1.0, (n.1.1.0, by)))
 word_few : (w x y z : ℕ) → length (word_bytes w x y z) ≤ 4
 word_few w x y z = split (eqb z 0) (λ e. rw e (lit≤ tt)) (λ e. rw e (lit≤ tt))
 
-taken_word : (v : List ℕ) (from : ℕ) (x : Value) (a b c d : ℕ) → NoSoh (a ∷ b ∷ c ∷ d ∷ []) → word_in a b c d v ≡ Is x → Taken v 4 from x
+taken_word : (v : List ℕ) (from : ℕ) (x : Value) (a b c d : ℕ) → NoSoh (a ∷ b ∷ c ∷ d ∷ []) → word_in a b c d v ≡ Some x → Taken v 4 from x
 unfolding word_in
 taken_word v from x a b c d n q =
     let p = cond_is (same_bytes v (word_bytes a b c d)) (Word a b c d) x q in
@@ -241,38 +240,38 @@ taken_word v from x a b c d n q =
 wider : (v : List ℕ) (m n from : ℕ) (x : Value) → m ≤ n → Taken v m from x → Taken v n from x
 wider v m n from x h t = record { clean = t.clean; few = omega (arith, t.few); here = t.here; bytes = t.bytes }
 
-taken_order_id : (v : List ℕ) (from : ℕ) (x : Value) → order_id_in v ≡ Is x → Taken v 9 from x
+taken_order_id : (v : List ℕ) (from : ℕ) (x : Value) → order_id_in v ≡ Some x → Taken v 9 from x
 unfolding order_id_in word_in
 taken_order_id v from x q =
     split (same_bytes v (78 ∷ 79 ∷ 78 ∷ 69 ∷ []))
-    (λ t. let z : Is (Word 78 79 78 69) ≡ Is x = rw t at q in
+    (λ t. let z : Some (Word 78 79 78 69) ≡ Some x = rw t at q in
     wider v 4 9 from x (omega arith) (taken_word v from x 78 79 78 69 ((λ e. omega (arith, e)), ((λ e. omega (arith, e)), ((λ e. omega (arith, e)), ((λ e. omega (arith, e)), tt)))) (rw t z)))
     (λ t. taken_number v from x 1 999999999 (rw t at q))
 
 -- texts
-taken_text : (v : List ℕ) (from : ℕ) (x : Value) (most low : ℕ) → 1 < low → text_in most low from v ≡ Is x → Taken v most from x
+taken_text : (v : List ℕ) (from : ℕ) (x : Value) (most low : ℕ) → 1 < low → text_in most low from v ≡ Some x → Taken v most from x
 unfolding text_in
 taken_text v from x most low n q =
     split (eqb (length v) 0)
-    (λ t. let z : No ≡ Is x = rw t at q in absurd (no_never x z))
+    (λ t. let z : None ≡ Some x = rw t at q in absurd (no_never x z))
     (λ t.
-    let q₂ : cond (ltb most (length v)) No (cond (all_from low v) (Is (Sent from (length v))) No) ≡ Is x = rw t at q in
+    let q₂ : cond (ltb most (length v)) None (cond (all_from low v) (Some (Sent from (length v))) None) ≡ Some x = rw t at q in
     split (ltb most (length v))
-    (λ u. let z : No ≡ Is x = rw u at q₂ in absurd (no_never x z))
+    (λ u. let z : None ≡ Some x = rw u at q₂ in absurd (no_never x z))
     (λ u.
     let p = cond_is (all_from low v) (Sent from (length v)) x (rw u at q₂) in
     subst (λ (y : Value). Taken v most from y) p.1
     (record { clean = clean_from low v n p.0; few = omega (arith, ltb-false most (length v) u); here = refl; bytes = λ s stored z. z })))
 
-place_says : (from len : ℕ) (q : Said) (x : Value) → place_in from len q ≡ Is x → SaidSo q x (λ n. Sent from len)
-place_says from len (Says n) x e = record { said = n; says = refl; is = is_injective (Sent from len) x e }
-place_says from len Saysnot x e = absurd (no_never x e)
+place_says : (from len : ℕ) (q : Option ℕ) (x : Value) → place_in from len q ≡ Some x → SaidSo q x (λ n. Sent from len)
+place_says from len (Some n) x e = record { said = n; says = refl; is = is_injective (Sent from len) x e }
+place_says from len None x e = absurd (no_never x e)
 
-taken_digits : (v : List ℕ) (from : ℕ) (x : Value) → place_in from (length v) (num_of 9 v) ≡ Is x → Taken v 9 from x
+taken_digits : (v : List ℕ) (from : ℕ) (x : Value) → place_in from (length v) (num_of 9 v) ≡ Some x → Taken v 9 from x
 unfolding num_of is_number
 taken_digits v from x q =
     let n = place_says from (length v) (num_of 9 v) x q in
-    let p = let_through (is_number 9 v) (number v) n.said n.says in
+    let p = cond_some (is_number 9 v) (number v) n.said n.says in
     let a = ltb 0 (length v) in
     let b = both_l (a && leb (length v) 9) (eqb (digit_run v) (length v)) p.0 in
     subst (λ (y : Value). Taken v 9 from y) n.is
@@ -284,15 +283,15 @@ taken_digits v from x q =
     })
 
 -- yields and prices, and AvgPx
-quote_says : (i : Instrument) (q : Said) (x : Value) → quote_in i q ≡ Is x → SaidSo q x (Level i)
-quote_says i (Says n) x e = record { said = n; says = refl; is = is_injective (Level i n) x e }
-quote_says i Saysnot x e = absurd (no_never x e)
+quote_says : (i : Instrument) (q : Option ℕ) (x : Value) → quote_in i q ≡ Some x → SaidSo q x (Level i)
+quote_says i (Some n) x e = record { said = n; says = refl; is = is_injective (Level i n) x e }
+quote_says i None x e = absurd (no_never x e)
 
-average_says : (i : Instrument) (q : Said) (x : Value) → average_in i q ≡ Is x → SaidSo q x (Mean i)
-average_says i (Says n) x e = record { said = n; says = refl; is = is_injective (Mean i n) x e }
-average_says i Saysnot x e = absurd (no_never x e)
+average_says : (i : Instrument) (q : Option ℕ) (x : Value) → average_in i q ≡ Some x → SaidSo q x (Mean i)
+average_says i (Some n) x e = record { said = n; says = refl; is = is_injective (Mean i n) x e }
+average_says i None x e = absurd (no_never x e)
 
-taken_quote : (i : Instrument) (v : List ℕ) (from : ℕ) (x : Value) → quote_in i (level_in i v) ≡ Is x → Taken v 11 from x
+taken_quote : (i : Instrument) (v : List ℕ) (from : ℕ) (x : Value) → quote_in i (level_in i v) ≡ Some x → Taken v 11 from x
 taken_quote i v from x q =
     let n = quote_says i (level_in i v) x q in
     let w = level_only i v n.said n.says in
@@ -305,7 +304,7 @@ taken_quote i v from x q =
       bytes = λ s stored z. sym w;
     })
 
-taken_average : (i : Instrument) (v : List ℕ) (from : ℕ) (x : Value) → average_in i (mean_in i v) ≡ Is x → Taken v 14 from x
+taken_average : (i : Instrument) (v : List ℕ) (from : ℕ) (x : Value) → average_in i (mean_in i v) ≡ Some x → Taken v 14 from x
 taken_average i v from x q =
     let n = average_says i (mean_in i v) x q in
     let w = mean_only i v n.said n.says in
@@ -323,7 +322,7 @@ clean_by : (s : List ℕ) → ((i : ℕ) → i < length s → 32 ≤ get_or s i 
 clean_by [] h = tt
 clean_by (b ∷ s) h = ((λ q. omega (arith, h 0 (omega arith))), clean_by s (λ i l. h (suc i) (omega arith)))
 
-taken_time : (v : List ℕ) (from : ℕ) (x : Value) → time_in from v ≡ Is x → Taken v 21 from x
+taken_time : (v : List ℕ) (from : ℕ) (x : Value) → time_in from v ≡ Some x → Taken v 21 from x
 unfolding time_in
 taken_time v from x q =
     let p = cond_is (is_time v) (Sent from (length v)) x q in
@@ -331,7 +330,7 @@ taken_time v from x q =
     (record { clean = clean_by v (time_low v p.0); few = time_short v p.0; here = refl; bytes = λ s stored z. z })
 
 -- ---- whatever the shape
-pub taken : (f : Shape) (from : ℕ) (v : List ℕ) (x : Value) → Proper f → value_in f from v ≡ Is x → Taken v (width_of f) from x
+pub taken : (f : Shape) (from : ℕ) (v : List ℕ) (x : Value) → Proper f → value_in f from v ≡ Some x → Taken v (width_of f) from x
 taken shape.Nothing from v x n q = absurd (no_never x q)
 taken (shape.OneOf a b c d e) from v x n q = taken_one v from x a b c d e n q
 taken (shape.Range least most) from v x n q = taken_number v from x least most q

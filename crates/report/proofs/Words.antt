@@ -10,9 +10,9 @@ use Rattle.octets.specs.Octets.{same_bytes}
 use Rattle.octets.specs.Written.{Room, Wrote}
 use Rattle.octets.proofs.Bools.{split}
 use Rattle.report.specs.declared.Value.TheVariants.{Word}
-use Rattle.report.specs.declared.Pick.TheVariants.{Is, No}
 use Rattle.report.specs.Fields.{word_bytes}
 use Rattle.report.specs.Shapes.{word_in}
+use Rattle.std.proofs.Common.{Some, None}
 
 -- ---- how many there are
 pub word_counts_three : (z : ℕ) → z ≡ 0 → (◌≡◌ {A = ℕ} 3 (cond (eqb z 0) 3 4)) × (3 ≤ 4)
@@ -34,11 +34,11 @@ module _ (w x y z : ℕ) where
     same_word : same_bytes v (word_bytes w x y z) ≡ b
     same_word = sym (be ∙ ap (same_bytes v) (word_front n e))
 
-    pub word_taken : b ≡ true → Is (Word w x y z) ≡ word_in w x y z v
+    pub word_taken : b ≡ true → Some (Word w x y z) ≡ word_in w x y z v
     unfolding word_in
     word_taken t = rw (same_word ∙ t)
 
-    pub word_not : b ≡ false → No ≡ word_in w x y z v
+    pub word_not : b ≡ false → None ≡ word_in w x y z v
     unfolding word_in
     word_not t = rw (same_word ∙ t)
 

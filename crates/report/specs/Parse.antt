@@ -1,16 +1,14 @@
 -- How the fields of a report are read from its bytes, slot by slot: a slot's tag and `=`, a value that goes to the next SOH and
 -- has the slot's shape; a field that may be missing is passed over where another tag stands. Assumes nothing.
-use Rattle.std.specs.Prelude.{ℕ, suc, ◌+◌, Bool, true, false, cond, ◌&&◌, List, [], ◌∷◌, ltb, eqb, length, take, drop, replicate}
+use Rattle.std.specs.Prelude.{ℕ, suc, ◌+◌, Bool, true, false, cond, ◌&&◌, List, [], ◌∷◌, ltb, eqb, length, take, drop, replicate, Option, Some, None}
 use Rattle.octets.specs.Characters.{soh}
+use Rattle.report.specs.declared.Value.{Value}
 use Rattle.report.specs.declared.Value.TheVariants.{Absent}
 use Rattle.report.specs.declared.Field.{Field}
 use Rattle.report.specs.declared.Shape.{Shape}
 use Rattle.report.specs.declared.Slot.{Slot}
 use Rattle.report.specs.declared.Row.{Row}
-use Rattle.report.specs.declared.Pick.{Pick}
-use Rattle.report.specs.declared.Pick.TheVariants.{Is, No}
 use Rattle.report.specs.declared.Got.{Got}
-use Rattle.report.specs.declared.Got.TheVariants.{Value as Found, Wrong}
 use Rattle.report.specs.Fields.{field, label}
 use Rattle.report.specs.Shapes.{value_in}
 
@@ -25,24 +23,28 @@ abbrev pub len_to : List ℕ → ℕ
 len_to [] = 0
 len_to (b ∷ s) = cond (eqb b soh) 0 (suc (len_to s))
 
+-- a value that was read, with the place behind its field
+abbrev pub found : Value → ℕ → Option Got
+found value next = Some (record { value = value; next = next })
+
 -- a value that was picked, with the place behind it
-abbrev pub got_of : Pick → ℕ → Got
-got_of (Is value) next = Found value next
-got_of No next = Wrong
+abbrev pub got_of : Option Value → ℕ → Option Got
+got_of (Some value) next = found value next
+got_of None next = None
 
 -- the value from place v on goes to the next SOH
-unfoldable pub value_at : List ℕ → ℕ → Shape → Got
+unfoldable pub value_at : List ℕ → ℕ → Shape → Option Got
 value_at s v shape =
     cond (ltb (v + len_to (drop v s)) (length s))
     (got_of (value_in shape v (take (len_to (drop v s)) (drop v s))) (v + len_to (drop v s) + 1))
-    Wrong
+    None
 
 -- the field at a place, as its slot says
-unfoldable pub field_at : List ℕ → ℕ → Slot → Got
+unfoldable pub field_at : List ℕ → ℕ → Slot → Option Got
 field_at s at slot =
     cond (starts (label slot.tag) (drop at s))
     (value_at s (at + length (label slot.tag)) slot.shape)
-    (cond slot.optional (Found Absent at) Wrong)
+    (cond slot.optional (found Absent at) None)
 
 -- the fields that were read and the place behind them, or neither
 pub data Rows : Type 0 where
@@ -53,9 +55,9 @@ abbrev pub cons_row : Field → Rows → Rows
 cons_row f (row fs n) = row (f ∷ fs) n
 cons_row f bad = bad
 
-abbrev pub next_rows : ℕ → Got → (ℕ → Rows) → Rows
-next_rows tag (Found value n) k = cons_row (field tag value) (k n)
-next_rows tag Wrong k = bad
+abbrev pub next_rows : ℕ → Option Got → (ℕ → Rows) → Rows
+next_rows tag (Some got) k = cons_row (field tag got.value) (k got.next)
+next_rows tag None k = bad
 
 -- slot by slot
 abbrev pub read_row : List ℕ → ℕ → List Slot → Rows
@@ -66,9 +68,9 @@ read_row s at (slot ∷ slots) = next_rows slot.tag (field_at s at slot) (λ n. 
 abbrev pub no_fields : List Field
 no_fields = replicate 36 (field 0 Absent)
 
-abbrev pub row_of : Rows → Row
-row_of (row fs n) = record { ok = true; next = n; fields = fs }
-row_of bad = record { ok = false; next = 0; fields = no_fields }
+abbrev pub row_of : Rows → Option Row
+row_of (row fs n) = Some (record { next = n; fields = fs })
+row_of bad = None
 
 -- ---- where a field stands
 

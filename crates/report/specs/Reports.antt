@@ -2,23 +2,20 @@
 -- CheckSum of all before it; the body is the fields of one kind, slot by slot, and nothing else. 35, and 150 where 35 is 8, say
 -- which kind it can be. A Canceled has exactly one of 41 and 378. No other field is compared with another. Each market reads its own
 -- reports: q is what it trades. Assumes nothing.
-use Rattle.std.specs.Prelude.{ℕ, ◌+◌, Bool, true, false, cond, not, ◌&&◌, List, ltb, leb, eqb, length, take, drop, get_or}
+use Rattle.std.specs.Prelude.{ℕ, ◌+◌, Bool, true, false, cond, not, ◌&&◌, List, ltb, leb, eqb, length, take, drop, get_or, Option, Some, None, option_and_then}
 use Rattle.octets.specs.Octets.{same_bytes}
 use Rattle.octets.specs.Characters.{byte}
 use Rattle.decimal.specs.declared.Instrument.{Instrument}
+use Rattle.report.specs.declared.Value.{Value}
 use Rattle.report.specs.declared.Value.TheVariants.{Absent, Number, Char, Word, Sent, Stored, Level, Mean}
 use Rattle.report.specs.declared.Field.{Field}
 use Rattle.report.specs.declared.Shape.TheVariants as shape
 use Rattle.report.specs.declared.Slot.{Slot}
 use Rattle.report.specs.declared.Got.{Got}
-use Rattle.report.specs.declared.Got.TheVariants.{Value as Found, Wrong}
-use Rattle.report.specs.declared.Frame.{Frame}
-use Rattle.report.specs.declared.Frame.TheVariants.{Body, Not}
 use Rattle.report.specs.declared.Kind.{Kind}
 use Rattle.report.specs.declared.Kind.TheVariants.{Accepted, Replaced, Canceled, Trade, Rejected, CancelReject, SessionReject, Refused}
 use Rattle.report.specs.declared.Reading.{Reading}
-use Rattle.report.specs.declared.Part.{Part}
-use Rattle.report.specs.declared.Part.TheVariants.{At, Nowhere}
+use Rattle.fix.specs.declared.frame.Part.{Part}
 use Rattle.report.specs.Fields.{field, is_absent, label, written}
 use Rattle.report.specs.Frame.{version, trailer, check_sum}
 use Rattle.report.specs.Parse.{starts, len_to, field_at, Rows, row, bad, read_row, no_fields, place_of}
@@ -26,25 +23,31 @@ use Rattle.report.specs.Slots.{always, slots_of}
 
 -- ---- the frame
 
+-- a part of the bytes
+abbrev pub part : ℕ → ℕ → Option Part
+part start len = Some (record { start = start; len = len })
+
 -- 9 is a number, and the body ends within the bytes
-abbrev pub length_in : Got → ℕ → Frame
-length_in (Found Absent next) n = Not
-length_in (Found (Number len) next) n = cond (leb (next + len) n) (Body next len) Not
-length_in (Found (Char c) next) n = Not
-length_in (Found (Word w x y z) next) n = Not
-length_in (Found (Sent from len) next) n = Not
-length_in (Found (Stored from len) next) n = Not
-length_in (Found (Level q level) next) n = Not
-length_in (Found (Mean q mean) next) n = Not
-length_in Wrong n = Not
+abbrev pub length_is : Value → ℕ → ℕ → Option Part
+length_is Absent next n = None
+length_is (Number len) next n = cond (leb (next + len) n) (part next len) None
+length_is (Char c) next n = None
+length_is (Word w x y z) next n = None
+length_is (Sent from len) next n = None
+length_is (Stored from len) next n = None
+length_is (Level q level) next n = None
+length_is (Mean q mean) next n = None
+
+abbrev pub length_in : Got → ℕ → Option Part
+length_in got n = length_is got.value got.next n
 
 -- 9: up to three digits, since no report is longer than 512 bytes
 abbrev pub length_slot : Slot
 length_slot = always 9 (shape.Range 1 999)
 
 -- where the body stands
-unfoldable pub body_at : List ℕ → Frame
-body_at s = cond (starts (written 8 version) s) (length_in (field_at s 10 length_slot) (length s)) Not
+unfoldable pub body_at : List ℕ → Option Part
+body_at s = cond (starts (written 8 version) s) (option_and_then (λ got. length_in got (length s)) (field_at s 10 length_slot)) None
 
 -- 10 is all that follows the body, and it is true
 unfoldable pub trailer_at : List ℕ → ℕ → Bool
@@ -55,9 +58,9 @@ abbrev pub checked : List ℕ → ℕ → Rows → Rows
 checked s end (row fs next) = cond (eqb next end && trailer_at s end) (row fs next) bad
 checked s end bad = bad
 
-abbrev pub in_frame : List ℕ → List Slot → Frame → Rows
-in_frame s slots (Body from len) = checked s (from + len) (read_row s from slots)
-in_frame s slots Not = bad
+abbrev pub in_frame : List ℕ → List Slot → Option Part → Rows
+in_frame s slots (Some body) = checked s (body.start + body.len) (read_row s body.start slots)
+in_frame s slots None = bad
 
 -- the fields of a report that has these slots
 unfoldable pub read_framed : List ℕ → List Slot → Rows
@@ -117,8 +120,8 @@ unfoldable pub read_of : Instrument → List ℕ → Reading
 read_of q s = reading_of (kind_of s) (read_framed s (slots_of q (kind_of s)))
 
 -- where the value of the first field with a tag stands, and how long it is
-unfoldable pub part_of : List ℕ → ℕ → Part
+unfoldable pub part_of : List ℕ → ℕ → Option Part
 part_of s tag =
     cond (ltb (place_of (label tag) true s) (length s))
-    (At (place_of (label tag) true s + length (label tag)) (len_to (drop (place_of (label tag) true s + length (label tag)) s)))
-    Nowhere
+    (part (place_of (label tag) true s + length (label tag)) (len_to (drop (place_of (label tag) true s + length (label tag)) s)))
+    None

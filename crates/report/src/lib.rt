@@ -41,7 +41,8 @@ pub struct Place {
 }
 
 // What the value of a field may be: one of five characters; a number in a range; one of eight numbers; a word; an OrderID, or
-// NONE; a text of at most so many characters from one on to 7E hex; 1 to 9 digits; a time; a yield or a price; AvgPx.
+// NONE; a text of at most so many characters from one on to 7E hex; 1 to 9 digits; a time; a yield or a price; AvgPx. The five and the
+// eight stand one by one, since an array is a list of any length in a definition.
 #[derive(Clone, Copy)]
 pub enum Shape {
     Nothing,
@@ -95,29 +96,21 @@ pub struct Slot {
     pub shape: Shape,
 }
 
-// A value that was read, or none.
+// The value of a field that was read, and the place behind the field.
 #[derive(Clone, Copy)]
-pub enum Pick {
-    Is(Value),
-    No,
+pub struct Got {
+    pub value: Value,
+    pub next: usize,
 }
 
-// A field that was read, and the place behind it.
-#[derive(Clone, Copy)]
-pub enum Got {
-    Value { value: Value, next: usize },
-    Wrong,
-}
-
-// The fields of a row that was read and the place behind them, or not ok.
+// The fields of a row that was read, and the place behind them.
 #[derive(Clone, Copy)]
 pub struct Row {
-    pub ok: bool,
     pub next: usize,
     pub fields: [Field; 36],
 }
 
-// The kinds of reports, and what is none.
+// The kinds of reports, and what is none: `Refused` is a kind, since the theorems above speak of the kind and the fields of any bytes.
 #[derive(Clone, Copy)]
 pub enum Kind {
     Accepted,
@@ -135,18 +128,4 @@ pub enum Kind {
 pub struct Reading {
     pub kind: Kind,
     pub fields: [Field; 36],
-}
-
-// Where the body of a report stands.
-#[derive(Clone, Copy)]
-pub enum Frame {
-    Body { from: usize, len: usize },
-    Not,
-}
-
-// Where the value of a field stands in a report.
-#[derive(Clone, Copy)]
-pub enum Part {
-    At { start: usize, len: usize },
-    Nowhere,
 }

@@ -6,7 +6,7 @@ ghost use Rattle.report.specs.Search.{Passes, Cleared};
 ghost use Rattle.report.specs.Parse.{starts, len_to, value_at, field_at, row_of, read_row, hop, place_of};
 
 use crate::values::pick_value;
-use crate::{Field, Got, Pick, Row, Shape, Slot, Value};
+use crate::{Field, Got, Row, Shape, Slot, Value};
 use decimal::write::digits;
 
 // Whether the tag of k digits and `=` stand at a place. Most tags have two.
@@ -40,17 +40,16 @@ pub fn value_end(s: &[u8], from: usize) -> usize
     requires { from ≤ length s.now }
     ensures { result ≡ from + len_to (drop from s.now) }
 {
-    let mut e = from;
-    while e < s.len() {
+    for e in from..s.len() {
         if s[e] == 1 {
             return e;
         }
-        e += 1;
     }
-    e
+    s.len()
 }
 
 // Where the value of the field at a place ends, if the tag of k digits stands there; the place itself if it does not.
+#[tactic(auto, using(crate::proofs::Parses::label_fits, crate::proofs::Parses::value_fits, crate::proofs::Parses::end_there, crate::proofs::Parses::end_none))]
 fn end_at(s: &[u8], at: usize, tag: u64, k: usize) -> usize
     requires { (at ≤ length s.now) × (k ≡ length (decimal tag)) }
     ensures { result ≡ cond (starts (label tag) (drop at s.now)) (at + k + 1 + len_to (drop (at + k + 1) s.now)) at }
@@ -62,21 +61,21 @@ fn end_at(s: &[u8], at: usize, tag: u64, k: usize) -> usize
 }
 
 // The value from a place to its SOH, and the place behind that.
-fn value_at(s: &[u8], v: usize, e: usize, shape: Shape) -> Got
+#[tactic(auto, using(crate::proofs::Parses::value_none, crate::proofs::Parses::value_yes, crate::proofs::Parses::value_no))]
+fn value_at(s: &[u8], v: usize, e: usize, shape: Shape) -> Option<Got>
     requires { e ≡ v + len_to (drop v s.now) }
     ensures { result ≡ value_at s.now v shape }
 {
-    if e < s.len() {
-        return match pick_value(&s[v..e], shape, v) {
-            Pick::Is(value) => Got::Value { value, next: e + 1 },
-            Pick::No => Got::Wrong,
-        };
+    if e >= s.len() {
+        return None;
     }
-    Got::Wrong
+    let value = pick_value(&s[v..e], shape, v)?;
+    Some(Got { value, next: e + 1 })
 }
 
 // The field that stands at a place, as its slot says: its tag has k digits, and its value ends at e if it stands there.
-fn field_at(s: &[u8], at: usize, k: usize, e: usize, slot: Slot) -> Got
+#[tactic(auto, using(crate::proofs::Parses::there_fits, crate::proofs::Parses::there_from, crate::proofs::Parses::there_ends, crate::proofs::Parses::there_yes, crate::proofs::Parses::there_skip, crate::proofs::Parses::there_wrong))]
+fn field_at(s: &[u8], at: usize, k: usize, e: usize, slot: Slot) -> Option<Got>
     requires at_in_bounds { (at ≤ length s.now) × (k ≡ length (decimal slot.tag)) }
     requires e_value { e ≡ cond (starts (label slot.tag) (drop at s.now)) (at + k + 1 + len_to (drop (at + k + 1) s.now)) at }
     ensures { result ≡ field_at s.now at slot }
@@ -86,17 +85,17 @@ fn field_at(s: &[u8], at: usize, k: usize, e: usize, slot: Slot) -> Got
     if e > at {
         return value_at(s, at + k + 1, e, shape);
     }
-    if optional {
-        return Got::Value {
-            value: Value::Absent,
-            next: at,
-        };
+    if !optional {
+        return None;
     }
-    Got::Wrong
+    Some(Got {
+        value: Value::Absent,
+        next: at,
+    })
 }
 
 // The fields that stand from a place on, as the slots say. A shape is taken from its slot once the end of the value is known.
-pub fn read_row(s: &[u8], at: usize, slots: [Slot; 36]) -> Row
+pub fn read_row(s: &[u8], at: usize, slots: [Slot; 36]) -> Option<Row>
     requires { at ≤ length s.now }
     ensures { result ≡ row_of (read_row s.now at slots) }
 {
@@ -105,36 +104,24 @@ pub fn read_row(s: &[u8], at: usize, slots: [Slot; 36]) -> Row
         value: Value::Absent,
     }; 36];
     let mut next = at;
-    let mut i = 0;
-    while i < 36 {
+    for i in 0..36 {
         let first = slots[i];
         let tag = first.tag;
         let k = digits(tag);
         let e = end_at(s, next, tag, k);
         let slot = slots[i];
-        let got = field_at(s, next, k, e, slot);
-        let Got::Value { value, next: n } = got else {
-            return Row {
-                ok: false,
-                next: 0,
-                fields: [Field {
-                    tag: 0,
-                    value: Value::Absent,
-                }; 36],
-            };
+        let got = field_at(s, next, k, e, slot)?;
+        fields[i] = Field {
+            tag,
+            value: got.value,
         };
-        fields[i] = Field { tag, value };
-        next = n;
-        i += 1;
+        next = got.next;
     }
-    Row {
-        ok: true,
-        next,
-        fields,
-    }
+    Some(Row { next, fields })
 }
 
 // The place behind the next SOH, or the end.
+#[tactic(auto, using(crate::proofs::Walks::past_some, crate::proofs::Walks::past_none))]
 fn past(s: &[u8], at: usize) -> usize
     requires { at ≤ length s.now }
     ensures { result ≡ at + hop (drop at s.now) }
@@ -148,6 +135,7 @@ fn past(s: &[u8], at: usize) -> usize
 
 // Whether a field with a tag of k digits may begin behind the byte at place i: an SOH stands there, and where the label would end its last digit
 // and `=`.
+#[tactic(auto, using(crate::proofs::Walks::pass_one))]
 fn may_begin(s: &[u8], i: usize, tag: u64, k: usize) -> bool
     requires { (i + k + 1 < length s.now) × (k ≡ length (decimal tag)) }
     ensures { Passes tag s.now i 1 result }
@@ -161,15 +149,14 @@ fn may_soon(s: &[u8], at: usize, tag: u64, k: usize) -> bool
     ensures { Passes tag s.now at 32 result }
 {
     let mut any = false;
-    let mut j = 0;
-    while j < 32 {
+    for j in 0..32 {
         any = any | may_begin(s, at + j, tag, k);
-        j += 1;
     }
     any
 }
 
-// A place up to which no field with a tag of k digits begins, once the one at the first place does not.
+// A place up to which no field with a tag of k digits begins, once the one at the first place does not. A `while`, since the place is what is
+// answered.
 fn clear(s: &[u8], at: usize, tag: u64, k: usize) -> usize
     requires { (at ≤ length s.now) × (k ≡ length (decimal tag)) }
     ensures { Cleared tag s.now at result }
@@ -184,7 +171,7 @@ fn clear(s: &[u8], at: usize, tag: u64, k: usize) -> usize
     to
 }
 
-// The place of the first field with a tag, or the end where there is none.
+// The place of the first field with a tag, or the end where there is none. A `while`, since the place goes on by as much as was passed.
 pub fn place_of(s: &[u8], tag: u64) -> usize
     ensures { result ≡ place_of (label tag) true s.now }
 {

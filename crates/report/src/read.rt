@@ -7,51 +7,34 @@ ghost use Rattle.report.specs.Reports.{length_in, length_slot, body_at, trailer_
 use crate::parse::{label_at, place_of, read_row, value_end};
 use crate::slots::slots_of;
 use crate::write::{is_absent, put_trailer};
-use crate::{Field, Frame, Got, Kind, Part, Reading, Row, Slot, Value};
+use crate::{Field, Got, Kind, Reading, Row, Slot, Value};
+use decimal::Instrument;
 use decimal::canonical::read_within;
 use decimal::read::byte_at;
 use decimal::write::digits;
-use decimal::{Instrument, Said};
-use fix::frame::checksum;
+use fix::frame::{Part, checksum};
 use octets::{part_at, same};
 
-// 9, where the body ends within the n bytes.
-fn length_in(got: Got, n: usize) -> Frame
+// Where the body stands, as 9 says, if it ends within the n bytes.
+#[tactic(auto, using(crate::proofs::Frames::length_past, crate::proofs::Frames::length_more, crate::proofs::Frames::length_yes))]
+fn length_in(got: Got, n: usize) -> Option<Part>
     ensures { result ≡ length_in got n }
 {
-    match got {
-        Got::Value { value, next } => match value {
-            Value::Number(len) => {
-                if next > n {
-                    return Frame::Not;
-                }
-                if len > (n - next) as u64 {
-                    return Frame::Not;
-                }
-                Frame::Body {
-                    from: next,
-                    len: len as usize,
-                }
-            }
-            Value::Absent => Frame::Not,
-            Value::Char(_) => Frame::Not,
-            Value::Word {
-                w: _,
-                x: _,
-                y: _,
-                z: _,
-            } => Frame::Not,
-            Value::Sent { from: _, len: _ } => Frame::Not,
-            Value::Stored { from: _, len: _ } => Frame::Not,
-            Value::Level { of: _, level: _ } => Frame::Not,
-            Value::Mean { of: _, mean: _ } => Frame::Not,
-        },
-        Got::Wrong => Frame::Not,
+    let start = got.next;
+    let Value::Number(len) = got.value else {
+        return None;
+    };
+    if (start > n) || (len > (n - start) as u64) {
+        return None;
     }
+    Some(Part {
+        start,
+        len: len as usize,
+    })
 }
 
 // 9, which stands behind the ten bytes of 8.
-fn length_at(s: &[u8]) -> Got
+fn length_at(s: &[u8]) -> Option<Got>
     requires { 10 ≤ length s.now }
     ensures { result ≡ field_at s.now 10 length_slot }
 {
@@ -59,28 +42,26 @@ fn length_at(s: &[u8]) -> Got
         let e = value_end(s, 12);
         if e < s.len() {
             let from = 12;
-            return match read_within(&s[from..e], 9, 1, 999) {
-                Said::Value(n) => Got::Value {
-                    value: Value::Number(n),
-                    next: e + 1,
-                },
-                Said::Wrong => Got::Wrong,
-            };
+            let n = read_within(&s[from..e], 9, 1, 999)?;
+            return Some(Got {
+                value: Value::Number(n),
+                next: e + 1,
+            });
         }
     }
-    Got::Wrong
+    None
 }
 
-// 8 and 9: where the body begins, and how long it is.
-pub fn body_at(s: &[u8]) -> Frame
+// 8 and 9: where the body stands.
+pub fn body_at(s: &[u8]) -> Option<Part>
     ensures { result ≡ body_at s.now }
 {
     let version = [56u8, 61, 70, 73, 88, 46, 52, 46, 50, 1];
     if same(part_at(s, 0, 10), &version) {
-        let got = length_at(s);
+        let got = length_at(s)?;
         return length_in(got, s.len());
     }
-    Frame::Not
+    None
 }
 
 // 10: whether the bytes from a place on are the trailer of those before it.
@@ -106,31 +87,22 @@ fn first_of(s: &[u8], tag: u64) -> u8
 }
 
 // The execution report that 150 says.
+#[tactic(auto, unfolding(crate::specs::Reports::execution_for))]
 fn execution_for(b: u8) -> Kind
     ensures { result ≡ execution_for b }
 {
-    if b == b'0' {
-        return Kind::Accepted;
+    match b {
+        b'0' => Kind::Accepted,
+        b'5' => Kind::Replaced,
+        b'4' => Kind::Canceled,
+        b'1' | b'2' => Kind::Trade,
+        b'8' => Kind::Rejected,
+        _ => Kind::Refused,
     }
-    if b == b'5' {
-        return Kind::Replaced;
-    }
-    if b == b'4' {
-        return Kind::Canceled;
-    }
-    if b == b'1' {
-        return Kind::Trade;
-    }
-    if b == b'2' {
-        return Kind::Trade;
-    }
-    if b == b'8' {
-        return Kind::Rejected;
-    }
-    Kind::Refused
 }
 
 // The kind that a report can be, by 35 and 150.
+#[tactic(auto, using(crate::proofs::Readings::kind_session, crate::proofs::Readings::kind_cancel, crate::proofs::Readings::kind_execution, crate::proofs::Readings::kind_none))]
 pub fn kind_of(s: &[u8]) -> Kind
     ensures { result ≡ kind_of s.now }
 {
@@ -148,6 +120,7 @@ pub fn kind_of(s: &[u8]) -> Kind
 }
 
 // Whether exactly one of 41 and 378 of a Canceled is there.
+#[tactic(auto, unfolding(crate::specs::Reports::one_reason))]
 fn one_reason(fields: [Field; 36]) -> bool
     ensures { result ≡ one_reason fields }
 {
@@ -155,11 +128,7 @@ fn one_reason(fields: [Field; 36]) -> bool
     let g = fields[27];
     let orig = f.value;
     let restated = g.value;
-    let b = is_absent(restated);
-    if is_absent(orig) {
-        return !b;
-    }
-    b
+    is_absent(orig) != is_absent(restated)
 }
 
 // Whether the fields are those of one way of writing the kind.
@@ -167,14 +136,14 @@ fn agrees(kind: Kind, fields: [Field; 36]) -> bool
     ensures { result ≡ agreed kind fields }
 {
     match kind {
-        Kind::Accepted => true,
-        Kind::Replaced => true,
         Kind::Canceled => one_reason(fields),
-        Kind::Trade => true,
-        Kind::Rejected => true,
-        Kind::CancelReject => true,
-        Kind::SessionReject => true,
         Kind::Refused => false,
+        Kind::Accepted
+        | Kind::Replaced
+        | Kind::Trade
+        | Kind::Rejected
+        | Kind::CancelReject
+        | Kind::SessionReject => true,
     }
 }
 
@@ -195,19 +164,18 @@ fn nothing() -> Reading
 pub fn read_as(s: &[u8], kind: Kind, slots: [Slot; 36]) -> Reading
     ensures { result ≡ reading_of kind (read_framed s.now slots) }
 {
-    let frame = body_at(s);
-    let Frame::Body { from, len } = frame else {
+    let Some(body) = body_at(s) else {
         return nothing();
     };
-    let end = from + len;
+    let end = body.start + body.len;
     if !trailer_at(s, end) {
         return nothing();
     }
-    let row = read_row(s, from, slots);
-    let next = row.next;
-    let ok = row.ok;
+    let Some(row) = read_row(s, body.start, slots) else {
+        return nothing();
+    };
     let fields = row.fields;
-    if ok & (next == end) & agrees(kind, fields) {
+    if (row.next == end) & agrees(kind, fields) {
         return Reading { kind, fields };
     }
     nothing()
@@ -222,18 +190,19 @@ pub fn read(q: Instrument, s: &[u8]) -> Reading
 }
 
 // Where the value of the first field with a tag stands.
-pub fn field(s: &[u8], tag: u64) -> Part
+#[tactic(auto, using(crate::proofs::Readings::part_none, crate::proofs::Readings::part_some, crate::proofs::Readings::label_fits, crate::proofs::Readings::value_fits))]
+pub fn field(s: &[u8], tag: u64) -> Option<Part>
     ensures { result ≡ part_of s.now tag }
 {
     let p = place_of(s, tag);
     if p >= s.len() {
-        return Part::Nowhere;
+        return None;
     }
     let k = digits(tag);
     let start = p + k + 1;
     let end = value_end(s, start);
-    Part::At {
+    Some(Part {
         start,
         len: end - start,
-    }
+    })
 }

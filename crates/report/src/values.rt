@@ -2,57 +2,61 @@
 ghost use Rattle.std.specs.Prelude.{◌≡◌, cond, eqb, ◌≤◌, length};
 ghost use Rattle.report.specs.Shapes.{one_in, number_in, listed_in, word_in, order_id_in, all_from, text_in, place_in, time_in, quote_in, average_in, value_in};
 
-use crate::{Pick, Shape, Value};
+use crate::{Shape, Value};
+use decimal::Instrument;
 use decimal::canonical::{read_bare, read_level, read_mean, read_within};
 use decimal::read::{is_time, read_number};
-use decimal::{Instrument, Said};
 use octets::same;
 
 // One of five characters.
-pub fn pick_one(v: &[u8], a: u8, b: u8, c: u8, d: u8, e: u8) -> Pick
+#[tactic(auto, unfolding(crate::specs::Shapes::one_in))]
+pub fn pick_one(v: &[u8], a: u8, b: u8, c: u8, d: u8, e: u8) -> Option<Value>
     ensures { result ≡ one_in a b c d e v.now }
 {
     if v.len() != 1 {
-        return Pick::No;
+        return None;
     }
     let x = v[0];
     if (x == a) | (x == b) | (x == c) | (x == d) | (x == e) {
-        return Pick::Is(Value::Char(x));
+        return Some(Value::Char(x));
     }
-    Pick::No
+    None
 }
 
 // A number.
-pub fn pick_number(said: Said) -> Pick
+pub fn pick_number(said: Option<u64>) -> Option<Value>
     ensures { result ≡ number_in said }
 {
-    match said {
-        Said::Value(n) => Pick::Is(Value::Number(n)),
-        Said::Wrong => Pick::No,
-    }
+    said.map(|n| Value::Number(n))
 }
 
 // One of eight numbers.
-pub fn pick_listed(said: Said, a: u8, b: u8, c: u8, d: u8, e: u8, f: u8, g: u8, h: u8) -> Pick
+pub fn pick_listed(
+    said: Option<u64>,
+    a: u8,
+    b: u8,
+    c: u8,
+    d: u8,
+    e: u8,
+    f: u8,
+    g: u8,
+    h: u8,
+) -> Option<Value>
     ensures { result ≡ listed_in a b c d e f g h said }
 {
-    match said {
-        Said::Value(n) => {
-            if (n == a as u64)
-                | (n == b as u64)
-                | (n == c as u64)
-                | (n == d as u64)
-                | (n == e as u64)
-                | (n == f as u64)
-                | (n == g as u64)
-                | (n == h as u64)
-            {
-                return Pick::Is(Value::Number(n));
-            }
-            Pick::No
-        }
-        Said::Wrong => Pick::No,
+    let n = said?;
+    if (n == a as u64)
+        | (n == b as u64)
+        | (n == c as u64)
+        | (n == d as u64)
+        | (n == e as u64)
+        | (n == f as u64)
+        | (n == g as u64)
+        | (n == h as u64)
+    {
+        return Some(Value::Number(n));
     }
+    None
 }
 
 // How many characters a word with this fourth one has.
@@ -66,24 +70,25 @@ pub fn word_length(z: u8) -> usize
 }
 
 // A word.
-pub fn pick_word(v: &[u8], w: u8, x: u8, y: u8, z: u8) -> Pick
+pub fn pick_word(v: &[u8], w: u8, x: u8, y: u8, z: u8) -> Option<Value>
     ensures { result ≡ word_in w x y z v.now }
 {
     let word = [w, x, y, z];
     let n = word_length(z);
     if same(v, &word[..n]) {
-        return Pick::Is(Value::Word { w, x, y, z });
+        return Some(Value::Word { w, x, y, z });
     }
-    Pick::No
+    None
 }
 
 // An OrderID, 1 to 999,999,999, or NONE.
-pub fn pick_order_id(v: &[u8]) -> Pick
+#[tactic(auto, unfolding(crate::specs::Shapes::order_id_in))]
+pub fn pick_order_id(v: &[u8]) -> Option<Value>
     ensures { result ≡ order_id_in v.now }
 {
     let word = [78u8, 79, 78, 69];
     if same(v, &word) {
-        return Pick::Is(Value::Word {
+        return Some(Value::Word {
             w: 78,
             x: 79,
             y: 78,
@@ -97,81 +102,72 @@ pub fn pick_order_id(v: &[u8]) -> Pick
 pub fn all_from(v: &[u8], low: u8) -> bool
     ensures { result ≡ all_from low v.now }
 {
-    let mut i = 0;
-    while i < v.len() {
-        if v[i] < low {
+    for b in v {
+        if *b < low {
             return false;
         }
-        if v[i] > 126 {
+        if *b > 126 {
             return false;
         }
-        i += 1;
     }
     true
 }
 
 // 1 to `most` characters.
-pub fn pick_text(v: &[u8], from: usize, most: usize, low: u8) -> Pick
+#[tactic(auto, unfolding(crate::specs::Shapes::text_in))]
+pub fn pick_text(v: &[u8], from: usize, most: usize, low: u8) -> Option<Value>
     ensures { result ≡ text_in most low from v.now }
 {
     if v.len() == 0 {
-        return Pick::No;
+        return None;
     }
     if v.len() > most {
-        return Pick::No;
+        return None;
     }
     if all_from(v, low) {
-        return Pick::Is(Value::Sent { from, len: v.len() });
+        return Some(Value::Sent { from, len: v.len() });
     }
-    Pick::No
+    None
 }
 
 // A text that says a number, by its place.
-pub fn pick_place(said: Said, from: usize, len: usize) -> Pick
+pub fn pick_place(said: Option<u64>, from: usize, len: usize) -> Option<Value>
     ensures { result ≡ place_in from len said }
 {
-    match said {
-        Said::Value(_) => Pick::Is(Value::Sent { from, len }),
-        Said::Wrong => Pick::No,
-    }
+    said.map(|_| Value::Sent { from, len })
 }
 
 // A time.
-pub fn pick_time(v: &[u8], from: usize) -> Pick
+#[tactic(auto, unfolding(crate::specs::Shapes::time_in))]
+pub fn pick_time(v: &[u8], from: usize) -> Option<Value>
     ensures { result ≡ time_in from v.now }
 {
     if is_time(v) {
-        return Pick::Is(Value::Sent { from, len: v.len() });
+        return Some(Value::Sent { from, len: v.len() });
     }
-    Pick::No
+    None
 }
 
 // A yield or a price.
-pub fn pick_quote(q: Instrument, said: Said) -> Pick
+pub fn pick_quote(q: Instrument, said: Option<u64>) -> Option<Value>
     ensures { result ≡ quote_in q said }
 {
-    match said {
-        Said::Value(n) => Pick::Is(Value::Level { of: q, level: n }),
-        Said::Wrong => Pick::No,
-    }
+    said.map(|n| Value::Level { of: q, level: n })
 }
 
 // AvgPx.
-pub fn pick_average(q: Instrument, said: Said) -> Pick
+pub fn pick_average(q: Instrument, said: Option<u64>) -> Option<Value>
     ensures { result ≡ average_in q said }
 {
-    match said {
-        Said::Value(n) => Pick::Is(Value::Mean { of: q, mean: n }),
-        Said::Wrong => Pick::No,
-    }
+    said.map(|n| Value::Mean { of: q, mean: n })
 }
 
 // The value that stands at a place of the report.
-pub fn pick_value(v: &[u8], shape: Shape, from: usize) -> Pick
+pub fn pick_value(v: &[u8], shape: Shape, from: usize) -> Option<Value>
     ensures { result ≡ value_in shape from v.now }
 {
     match shape {
-        Shape::Nothing => Pick::No,
+        Shape::Nothing => None,
         Shape::OneOf { a, b, c, d, e } => pick_one(v, a, b, c, d, e),
         Shape::Range { least, most } => pick_number(read_within(v, 9, least, most)),
         Shape::Listed {

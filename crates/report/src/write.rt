@@ -41,6 +41,7 @@ pub fn put_value(out: &mut [u8], at: usize, value: Value, sent: &[u8], stored: &
 }
 
 // A tag and `=`.
+#[tactic(auto, using(octets::proofs::Runs::room_first, octets::proofs::Runs::room_then, octets::proofs::Runs::then, octets::proofs::Runs::wrote_length), unfolding(crate::specs::Fields::label))]
 pub fn put_label(out: &mut [u8], at: usize, tag: u64) -> usize
     requires { Room out.old at (label tag) }
     ensures { Wrote out.old at (label tag) result out.new }
@@ -49,7 +50,9 @@ pub fn put_label(out: &mut [u8], at: usize, tag: u64) -> usize
     put_byte(out, a, b'=')
 }
 
-// A field with one character.
+// A field with one character. This and the next three are not one function with a closure for the value: what the closure writes would have
+// to be said of it in a clause, which is no shorter than the three lines.
+#[tactic(auto, using(octets::proofs::Runs::room_first, octets::proofs::Runs::room_then, octets::proofs::Runs::then, octets::proofs::Runs::wrote_length), unfolding(crate::specs::Fields::written))]
 pub fn put_char(out: &mut [u8], at: usize, tag: u64, c: u8) -> usize
     requires { Room out.old at (written tag (c ∷ [])) }
     ensures { Wrote out.old at (written tag (c ∷ [])) result out.new }
@@ -60,6 +63,7 @@ pub fn put_char(out: &mut [u8], at: usize, tag: u64, c: u8) -> usize
 }
 
 // A field with a number.
+#[tactic(auto, using(octets::proofs::Runs::room_first, octets::proofs::Runs::room_then, octets::proofs::Runs::then, octets::proofs::Runs::wrote_length), unfolding(crate::specs::Fields::written))]
 pub fn put_number(out: &mut [u8], at: usize, tag: u64, n: u64) -> usize
     requires { Room out.old at (written tag (decimal n)) }
     ensures { Wrote out.old at (written tag (decimal n)) result out.new }
@@ -70,6 +74,7 @@ pub fn put_number(out: &mut [u8], at: usize, tag: u64, n: u64) -> usize
 }
 
 // A field with a yield or a price.
+#[tactic(auto, using(octets::proofs::Runs::room_first, octets::proofs::Runs::room_then, octets::proofs::Runs::then, octets::proofs::Runs::wrote_length), unfolding(crate::specs::Fields::written))]
 pub fn put_price(out: &mut [u8], at: usize, tag: u64, q: Instrument, level: u64) -> usize
     requires { Room out.old at (written tag (level_text q level)) }
     ensures { Wrote out.old at (written tag (level_text q level)) result out.new }
@@ -80,6 +85,7 @@ pub fn put_price(out: &mut [u8], at: usize, tag: u64, q: Instrument, level: u64)
 }
 
 // A field with an average of them.
+#[tactic(auto, using(octets::proofs::Runs::room_first, octets::proofs::Runs::room_then, octets::proofs::Runs::then, octets::proofs::Runs::wrote_length), unfolding(crate::specs::Fields::written))]
 pub fn put_average(out: &mut [u8], at: usize, tag: u64, q: Instrument, mean: u64) -> usize
     requires { Room out.old at (written tag (mean_text q mean)) }
     ensures { Wrote out.old at (written tag (mean_text q mean)) result out.new }
@@ -93,21 +99,7 @@ pub fn put_average(out: &mut [u8], at: usize, tag: u64, q: Instrument, mean: u64
 pub fn is_absent(value: Value) -> bool
     ensures { result ≡ is_absent value }
 {
-    match value {
-        Value::Absent => true,
-        Value::Number(_) => false,
-        Value::Char(_) => false,
-        Value::Word {
-            w: _,
-            x: _,
-            y: _,
-            z: _,
-        } => false,
-        Value::Sent { from: _, len: _ } => false,
-        Value::Stored { from: _, len: _ } => false,
-        Value::Level { of: _, level: _ } => false,
-        Value::Mean { of: _, mean: _ } => false,
-    }
+    matches!(value, Value::Absent)
 }
 
 // A field with this tag and this value, or nothing where it is absent.
@@ -146,11 +138,9 @@ pub fn put_row(out: &mut [u8], at: usize, row: [Field; 36], sent: &[u8], stored:
     ensures { Wrote out.old at (row_bytes sent.now stored.now row) result out.new }
 {
     let mut o = at;
-    let mut i = 0;
-    while i < 36 {
+    for i in 0..36 {
         let field = row[i];
         o = put_field(out, o, field, sent, stored);
-        i += 1;
     }
     o
 }
@@ -173,14 +163,13 @@ fn move_to(out: &mut [u8], at: usize, n: usize)
     if at == 16 {
         return;
     }
-    let mut i = 0;
-    while i < n {
+    for i in 0..n {
         out[at + i] = out[16 + i];
-        i += 1;
     }
 }
 
 // 10, as three digits.
+#[tactic(auto, using(octets::proofs::Runs::room_first, octets::proofs::Runs::room_then, octets::proofs::Runs::then, octets::proofs::Runs::wrote_length), unfolding(crate::specs::Fields::written, crate::specs::Frame::trailer))]
 pub fn put_trailer(out: &mut [u8], at: usize, sum: u8) -> usize
     requires { Room out.old at (trailer sum) }
     ensures { Wrote out.old at (trailer sum) result out.new }

@@ -35,7 +35,7 @@ use Rattle.report.specs.Slots.{accepted_slots, replaced_slots, canceled_slots, t
 use Rattle.rows.specs.Rows.{text, or_number, digit, or_digit, or_nobody, group, own_field, last_field, other_field, count_field, avg_px, replaced_status, trade_status, status_of, figures_of, header, accepted_fields, replaced_fields, canceled_fields, trade_fields, cancel_reject_row}
 use Rattle.ticket.specs.Tickets.{or_stored_at, stamp_on, shown_on, row_of, ticket_of, unchanged_on, unchanged_row}
 use Rattle.readback.specs.Says.{says}
-use Rattle.report.specs.declared.Part.TheVariants.{Nowhere}
+use Rattle.std.proofs.Common.{None}
 use Rattle.calls.specs.Read.{read_number}
 use Rattle.octets.specs.Characters.{message}
 use Rattle.clauses.proofs.Books.{fresh, book_r, mixed, book_least, book_kill, shares}
@@ -118,12 +118,12 @@ abbrev without : List ℕ
 without = message "8=FIX.4.2|9=194|35=8|34=1|49=V|50=DJGB|52=20260105-09:00:02|56=P|6=0.000000|11=BUY-1|14=0|17=1|20=0|37=7|38=1200|39=0|40=2|44=0.100|47=A|54=1|55=350|59=0|60=20260105-09:00:02|109=10|150=0|151=1200|423=9|8060=1|10=133|"
 
 -- 1 is not 11, nor 151, whose digits end with it
-shorter_tag : place_of_tag without 1 ≡ Nowhere
+shorter_tag : place_of_tag without 1 ≡ None
 unfolding computes
 shorter_tag = refl
 
 -- a tag that is not there has no place
-no_tag : place_of_tag without 999 ≡ Nowhere
+no_tag : place_of_tag without 999 ≡ None
 unfolding computes
 no_tag = refl
 

@@ -1,11 +1,7 @@
 -- `force::ioc_row` meets its contract. The invariant: what is still to do gives the end.
-use Prim.Native.Nat.{◌-◌}
 use Rattle.feed.specs.Rows.{ioc_field}
 use Rattle.feed.proofs.Shown.{Changing}
 use Rattle.feed.proofs.force.ioc_row.Given as goal
 
 abbrev pub invariant-loop-i : goal.invariant-loop-i
 invariant-loop-i l = Changing (ioc_field l.quantity) l.initial.row l.row l.i
-
-abbrev pub decreases-loop-i : goal.decreases-loop-i
-decreases-loop-i l = 36 - l.i

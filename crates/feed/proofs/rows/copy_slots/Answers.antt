@@ -4,15 +4,15 @@ use Rattle.feed.specs.Rows.{copy_slots}
 use Rattle.feed.proofs.Weaving.{weave_first, weave_behind, weave_before, weave_end}
 use Rattle.feed.proofs.rows.copy_slots.Goals as goal
 
-pub loop-i-init : goal.loop-i-init
-loop-i-init c = weave_first _ _ _ _ (search rules)
+pub loop-at-init : goal.loop-at-init
+loop-at-init c = weave_first _ _ _ _ (search rules)
 
-pub loop-i-preserved-then-behind : goal.loop-i-preserved-then-behind
-loop-i-preserved-then-behind c = weave_behind _ _ _ _ _ _ _ _ c.loop-i.invariant c.loop-i-test.true _ c.if-behind.true
+pub loop-at-preserved-then-behind : goal.loop-at-preserved-then-behind
+loop-at-preserved-then-behind c = weave_behind _ _ _ _ _ _ _ _ c.loop-at.invariant c.loop-at-test.true _ c.if-behind.true
 
-pub loop-i-preserved : goal.loop-i-preserved
-loop-i-preserved c = weave_before _ _ _ _ _ _ _ _ c.loop-i.invariant c.loop-i-test.true _ _ c.copy_slot.ensures c.if-behind.false
+pub loop-at-preserved : goal.loop-at-preserved
+loop-at-preserved c = weave_before _ _ _ _ _ _ _ _ c.loop-at.invariant c.loop-at-test.true _ _ c.copy_slot.ensures c.if-behind.false
 
 pub returns : goal.returns
 unfolding copy_slots
-returns c = weave_end _ _ _ _ _ _ _ _ c.loop-i.invariant c.loop-i-test.false
+returns c = weave_end _ _ _ _ _ _ _ _ c.loop-at.invariant c.loop-at-test.false

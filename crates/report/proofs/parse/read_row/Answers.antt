@@ -12,11 +12,11 @@ loop-i-init c = so_first _ _ _ (search rules) (search rules)
 pub end_at-e-requires : goal.end_at-e-requires
 end_at-e-requires c = (c.loop-i.invariant.within, search rules)
 
-pub returns-in_default : goal.returns-in_default
-returns-in_default c = let l = c.loop-i in let a = c.args in ap row_of (sym (so_wrong a.s.now a.at a.slots l.fields l.next l.i l.invariant (omega arith) _ (sym c.field_at-got.ensures ∙ c.in_default.is)))
+pub returns-in_err-got : goal.returns-in_err-got
+returns-in_err-got c = let l = c.loop-i in let a = c.args in rw c.from_residual.ensures (ap row_of (sym (so_wrong a.s.now a.at a.slots l.fields l.next l.i l.invariant (omega arith) _ (sym c.field_at.ensures ∙ c.in_err-got.was))))
 
 pub loop-i-preserved : goal.loop-i-preserved
-loop-i-preserved c = let l = c.loop-i in let a = c.args in so_more a.s.now a.at a.slots l.fields l.next l.i l.invariant (omega arith) _ _ _ (sym c.field_at-got.ensures ∙ c.in-Value.is)
+loop-i-preserved c = let l = c.loop-i in let a = c.args in so_more a.s.now a.at a.slots l.fields l.next l.i l.invariant (omega arith) _ _ _ (sym c.field_at.ensures ∙ c.in_ok-got.was)
 
 pub returns : goal.returns
 returns c = let l = c.loop-i in let a = c.args in ap row_of (sym (so_done a.s.now a.at a.slots l.fields l.next l.i l.invariant (omega arith)))

@@ -1,12 +1,9 @@
 -- `parse::value_end` meets its contract. The invariant: the SOH is as far as it was.
-use Prim.Native.Nat.{◌≤◌, ◌+◌, ◌-◌}
+use Prim.Native.Nat.{◌+◌}
 use mathlib.Core.Path.{◌≡◌}
-use lib.ListN.{length, drop}
+use lib.ListN.{drop}
 use Rattle.report.specs.Parse.{len_to}
 use Rattle.report.proofs.parse.value_end.Given as goal
 
 abbrev pub invariant-loop-e : goal.invariant-loop-e
-invariant-loop-e l = (l.from ≤ l.e) × (l.e ≤ length l.s) × (l.from + len_to (drop l.from l.s) ≡ l.e + len_to (drop l.e l.s))
-
-abbrev pub decreases-loop-e : goal.decreases-loop-e
-decreases-loop-e l = length l.s - l.e
+invariant-loop-e l = l.from + len_to (drop l.from l.s) ≡ l.e + len_to (drop l.e l.s)

@@ -9,11 +9,11 @@ label_at-requires c = search (rules, one_digit)
 pub value_end-e-requires : goal.value_end-e-requires
 value_end-e-requires c = search (rules, nine_within)
 
-pub returns-in-Value : goal.returns-in-Value
-returns-in-Value c = search (rules, nine_yes)
+pub returns-then-e-s : goal.returns-then-e-s
+returns-then-e-s c = search (rules, nine_yes, c.in_ok-n.was)
 
-pub returns-in-Wrong : goal.returns-in-Wrong
-returns-in-Wrong c = search (rules, nine_wrong)
+pub returns-in_err-n : goal.returns-in_err-n
+returns-in_err-n c = rw c.from_residual.ensures (search (rules, nine_wrong, c.in_err-n.was))
 
 pub returns-else-e-s : goal.returns-else-e-s
 returns-else-e-s c = search (rules, nine_none)

@@ -2,7 +2,7 @@
 use Rattle.report.proofs.values.pick_listed.Goals as goal
 
 pub returns-then-n-a : goal.returns-then-n-a
-returns-then-n-a c = rw (c.in-Value.is, c.if-n-a.true)
+returns-then-n-a c = rw (c.in_ok-n.was, c.if-n-a.true)
 
-pub returns-else-n-a : goal.returns-else-n-a
-returns-else-n-a c = rw (c.in-Value.is, c.if-n-a.false)
+pub returns : goal.returns
+returns c = rw (c.in_ok-n.was, c.if-n-a.false)

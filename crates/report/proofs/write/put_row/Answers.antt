@@ -12,12 +12,6 @@ loop-i-init c = (search rules, search rules, wrote_none _ _)
 pub put_field-o-requires : goal.put_field-o-requires
 put_field-o-requires c = let l = c in let s = l in next_room s.args.sent.now s.args.stored.now s.args.row l.loop-i.i (omega arith) s.requires l.loop-i.invariant.2
 
-pub overflow_add-i : goal.overflow_add-i
-overflow_add-i c = omega arith
-
-pub loop-i-smaller : goal.loop-i-smaller
-loop-i-smaller c = omega arith
-
 pub loop-i-preserved : goal.loop-i-preserved
 loop-i-preserved c = let l = c in let s = l in (omega arith, l.loop-i.invariant.1, next_wrote s.args.sent.now s.args.stored.now s.args.row l.loop-i.i (omega arith) l.loop-i.invariant.2 c.put_field-o.ensures)
 

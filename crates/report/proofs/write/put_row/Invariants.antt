@@ -1,5 +1,5 @@
 -- `write::put_row` meets its contract. The invariant: the first i fields are written.
-use Prim.Native.Nat.{◌≤◌, ◌-◌}
+use Prim.Native.Nat.{◌≤◌}
 use mathlib.Core.Path.{◌≡◌}
 use lib.ListN.{length, take}
 use Rattle.octets.specs.Written.{Wrote}
@@ -8,6 +8,3 @@ use Rattle.report.proofs.write.put_row.Given as goal
 
 abbrev pub invariant-loop-i : goal.invariant-loop-i
 invariant-loop-i l = (l.i ≤ 36) × (length l.row ≡ 36) × Wrote l.initial.out l.at (row_bytes l.sent l.stored (take l.i l.row)) l.o l.out
-
-abbrev pub decreases-loop-i : goal.decreases-loop-i
-decreases-loop-i l = 36 - l.i

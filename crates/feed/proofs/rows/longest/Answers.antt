@@ -1,9 +1,0 @@
--- `rows::longest` meets its contract, by what is traded.
-use lib.Dec.{lit≤}
-use Rattle.feed.proofs.rows.longest.Goals as goal
-
-pub returns-in-Bonds : goal.returns-in-Bonds
-returns-in-Bonds c = (rw c.in-Bonds.is, lit≤ tt)
-
-pub returns-in-Equities : goal.returns-in-Equities
-returns-in-Equities c = (rw c.in-Equities.is, lit≤ tt)
