@@ -1,6 +1,8 @@
 -- What Run answers and leaves (document 01, "The table and its calls", Run and refusals 1 and 2; "Matching, step by step"; document
 -- 02, T-08): for any bytes of a table, any length of the report area and any budget of steps. Assumes nothing.
-use Rattle.std.specs.Prelude.{Bool, cond, not, ◌||◌, List, [], ◌∷◌, ◌++◌, ℕ, zero, suc, ◌+◌, ◌-◌, eqb, ltb, length}
+use Rattle.std.specs.Prelude.{Bool, cond, not, ◌||◌, List, [], ◌∷◌, ◌++◌, ℕ, zero, suc, ◌+◌, ◌-◌, eqb, ltb, length, Result, Ok, Err}
+use Rattle.refusals.specs.declared.Refusal.{Refusal}
+use Rattle.refusals.specs.declared.Refusal.TheVariants.{NoRoom, NoMarket}
 use Rattle.decimal.specs.declared.Instrument.{Instrument}
 use Rattle.matching.specs.declared.Event.{Event}
 use Rattle.table.specs.Heading.{next_of, work_of}
@@ -8,8 +10,7 @@ use Rattle.table.specs.Orders.{applied}
 use Rattle.table.specs.Market.{is_market_of}
 use Rattle.table.specs.Changes.{step_events, stepped}
 use Rattle.ticket.specs.Tickets.{ticket_of, kept_cause}
-use Rattle.calls.specs.declared.RunAnswer.{RunAnswer}
-use Rattle.calls.specs.declared.RunAnswer.TheVariants as answer
+use Rattle.calls.specs.declared.Progress.{Progress}
 use Rattle.calls.specs.Told.{joined, room_asked}
 
 -- ---- the reports of a step
@@ -57,46 +58,36 @@ worked (suc budget) t room =
 
 -- what Run leaves
 pub record Ran : Type 0 where
-  pub answer : RunAnswer
+  pub answer : Result Progress Refusal
   pub table : List ℕ
   pub reports : List (List ℕ)
 
-abbrev pub unmoved : List ℕ → RunAnswer → Ran
-unmoved t a = record { answer = a; table = t; reports = [] }
+abbrev pub unmoved : List ℕ → Refusal → Ran
+unmoved t r = record { answer = Err r; table = t; reports = [] }
+
+-- how far that is
+abbrev pub progress : Worked → Progress
+progress w = record { bytes = length (joined w.reports); reports = length w.reports; steps = w.steps }
 
 abbrev pub done : Worked → Ran
-done w =
-    record {
-      answer = answer.Ran (length (joined w.reports)) (length w.reports) w.steps;
-      table = w.table;
-      reports = w.reports;
-    }
+done w = record { answer = Ok (progress w); table = w.table; reports = w.reports }
 
 -- the call for bonds takes a market of bonds, and that for equities one of equities
 unfoldable pub ran : Instrument → List ℕ → ℕ → ℕ → Ran
 ran q t room budget =
-    cond (ltb room room_asked) (unmoved t answer.NoRoom)
-    (cond (not (is_market_of q t)) (unmoved t answer.NoMarket)
+    cond (ltb room room_asked) (unmoved t NoRoom)
+    (cond (not (is_market_of q t)) (unmoved t NoMarket)
     (done (worked budget t room)))
 
--- the paper's number
-abbrev pub run_number : RunAnswer → ℕ
-run_number answer.NoRoom = 1
-run_number answer.NoMarket = 2
-run_number (answer.Ran bytes reports steps) = 0
-
 -- bytes, reports and steps, each 0 where Run is refused
-abbrev pub run_bytes : RunAnswer → ℕ
-run_bytes answer.NoRoom = 0
-run_bytes answer.NoMarket = 0
-run_bytes (answer.Ran bytes reports steps) = bytes
+abbrev pub run_bytes : Result Progress Refusal → ℕ
+run_bytes (Ok p) = p.bytes
+run_bytes (Err r) = 0
 
-abbrev pub run_reports : RunAnswer → ℕ
-run_reports answer.NoRoom = 0
-run_reports answer.NoMarket = 0
-run_reports (answer.Ran bytes reports steps) = reports
+abbrev pub run_reports : Result Progress Refusal → ℕ
+run_reports (Ok p) = p.reports
+run_reports (Err r) = 0
 
-abbrev pub run_steps : RunAnswer → ℕ
-run_steps answer.NoRoom = 0
-run_steps answer.NoMarket = 0
-run_steps (answer.Ran bytes reports steps) = steps
+abbrev pub run_steps : Result Progress Refusal → ℕ
+run_steps (Ok p) = p.steps
+run_steps (Err r) = 0

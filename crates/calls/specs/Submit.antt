@@ -1,9 +1,12 @@
 -- What Submit answers and leaves (document 01, "The table and its calls", Submit and refusals 1 to 8; document 02, T-08 and T-09): for any
 -- bytes of a table, of a message, and any length of the report area. Assumes nothing.
-use Rattle.std.specs.Prelude.{true, false, cond, not, List, [], ◌∷◌, ℕ, eqb, ltb, length}
+use Rattle.std.specs.Prelude.{true, false, cond, not, List, [], ◌∷◌, ℕ, eqb, ltb, length, Result, Ok, Err}
+use Rattle.refusals.specs.declared.Refusal.{Refusal}
+use Rattle.refusals.specs.declared.Refusal.TheVariants as refusal
+use Rattle.refusals.specs.Refusals.{number_of}
 use Rattle.decimal.specs.declared.Instrument.{Instrument}
 use Rattle.fix.specs.declared.frame.Part.{Part}
-use Rattle.request.specs.declared.Refusal.{Refusal}
+use Rattle.request.specs.declared.Refusal.{Refusal as Fault}
 use Rattle.request.specs.declared.NewOrder.{NewOrder}
 use Rattle.request.specs.declared.Replacement.{Replacement}
 use Rattle.request.specs.declared.Cancellation.{Cancellation}
@@ -24,26 +27,27 @@ use Rattle.report.specs.Fields.{row_bytes}
 use Rattle.report.specs.Frame.{report_bytes}
 use Rattle.ticket.specs.declared.Cause.{Cause}
 use Rattle.ticket.specs.Tickets.{ticket_of, refused_row, unchanged_on, unchanged_row, faulty_row}
-use Rattle.calls.specs.declared.Standing.{Standing}
-use Rattle.calls.specs.declared.Standing.TheVariants.{Stands, Fails}
-use Rattle.calls.specs.declared.SubmitAnswer.{SubmitAnswer}
-use Rattle.calls.specs.declared.SubmitAnswer.TheVariants as answer
+use Rattle.calls.specs.declared.OrderReason.{OrderReason}
+use Rattle.calls.specs.declared.ChangeReason.{ChangeReason}
+use Rattle.calls.specs.declared.ReplyKind.{ReplyKind}
+use Rattle.calls.specs.declared.ReplyKind.TheVariants.{SessionReject, OrderReject, ChangeReject, Taken}
+use Rattle.calls.specs.declared.Reply.{Reply}
 use Rattle.calls.specs.Told.{room_asked}
-use Rattle.calls.specs.Checks.{text_of, holder, new_stands, cancel_stands, replace_stands}
+use Rattle.calls.specs.Checks.{text_of, holder, order_number, change_number, new_stands, cancel_stands, replace_stands}
 
 -- what Submit leaves: its answer, the table, and the report that it wrote, if any
 pub record Submitted : Type 0 where
-  pub answer : SubmitAnswer
+  pub answer : Result Reply Refusal
   pub table : List ℕ
   pub reports : List (List ℕ)
 
 -- nothing is changed
-abbrev pub unchanged : List ℕ → SubmitAnswer → Submitted
-unchanged t a = record { answer = a; table = t; reports = [] }
+abbrev pub unchanged : List ℕ → Refusal → Submitted
+unchanged t r = record { answer = Err r; table = t; reports = [] }
 
 -- one report is written
-abbrev pub reported : List ℕ → List ℕ → (ℕ → SubmitAnswer) → Submitted
-reported t report a = record { answer = a (length report); table = t; reports = report ∷ [] }
+abbrev pub reported : List ℕ → List ℕ → ReplyKind → Submitted
+reported t report kind = record { answer = Ok (record { kind = kind; len = length report }); table = t; reports = report ∷ [] }
 
 -- where a text of the message stands, for a report
 abbrev pub sent_at : Part → Place
@@ -63,26 +67,26 @@ marks_of o = record { capacity = o.terms.capacity; class = o.terms.class; cash =
 module _ (t message : List ℕ) where
   -- ---- what is rejected: a report that takes the next number, and nothing else changes
 
-  unfoldable pub rejecting : List Field → (ℕ → SubmitAnswer) → Submitted
-  rejecting row a = reported (numbered t 1) (report_bytes (row_bytes message t row)) a
+  unfoldable pub rejecting : List Field → ReplyKind → Submitted
+  rejecting row kind = reported (numbered t 1) (report_bytes (row_bytes message t row)) kind
 
   -- a message with a fault
-  unfoldable pub faulted : Refusal → Submitted
+  unfoldable pub faulted : Fault → Submitted
   faulted r =
       rejecting (faulty_row t (next_of t) (sent_at r.time) (record { sequence = r.number; tag = r.tag; kind = sent_at r.kind; reason = r.reason }))
-      (λ n. answer.SessionReject n)
+      SessionReject
 
   -- a new order, for a reason
-  unfoldable pub new_rejected : NewOrder → ℕ → Submitted
+  unfoldable pub new_rejected : NewOrder → OrderReason → Submitted
   new_rejected o reason =
-      rejecting (refused_row t (next_of t) (sent_at o.time) (record { id = sent_at o.id; quantity = o.terms.quantity; side = o.terms.side; code = sent_at o.code; reason = reason }))
-      (λ n. answer.OrderReject n)
+      rejecting (refused_row t (next_of t) (sent_at o.time) (record { id = sent_at o.id; quantity = o.terms.quantity; side = o.terms.side; code = sent_at o.code; reason = order_number reason }))
+      OrderReject
 
   -- a change of record k, or of none, for a reason; response 1 to a cancel, 2 to a replacement
-  unfoldable pub change_rejected : Part → Part → Part → ℕ → ℕ → ℕ → Submitted
+  unfoldable pub change_rejected : Part → Part → Part → ℕ → ChangeReason → ℕ → Submitted
   change_rejected time id original k reason response =
-      rejecting (unchanged_row t (next_of t) (sent_at time) (unchanged_on t k (sent_at id) (sent_at original) reason response))
-      (λ n. answer.ChangeReject n)
+      rejecting (unchanged_row t (next_of t) (sent_at time) (unchanged_on t k (sent_at id) (sent_at original) (change_number reason) response))
+      ChangeReject
 
   -- ---- what is taken: the report of its event, and the table after it
 
@@ -110,7 +114,7 @@ module _ (t message : List ℕ) where
       let account = text_of message o.account in
       reported (entered t k cl_ord_id account (marks_of o) (new_order_of o) (text_of message o.time))
       (ticket_of (accepted t k (next_of t) cl_ord_id account (marks_of o) (new_order_of o)) message (next_of t) (cause_of o.time no_text) (Accepted k (new_order_of o)))
-      (λ n. answer.Taken n)
+      Taken
 
   -- a replacement of record k: the place that it may take is the number of this report
   unfoldable pub replacement_taken : Replacement → ℕ → Submitted
@@ -119,7 +123,7 @@ module _ (t message : List ℕ) where
       let e = Replaced k o.level o.quantity (next_of t) in
       reported (renewed t cl_ord_id e (text_of message o.time))
       (ticket_of (replaced t cl_ord_id e) message (next_of t) (cause_of o.time (sent_at o.original)) e)
-      (λ n. answer.Taken n)
+      Taken
 
   -- a cancel of record k: all that is open
   unfoldable pub cancel_taken : Cancellation → ℕ → Submitted
@@ -128,25 +132,25 @@ module _ (t message : List ℕ) where
       let e = Withdrawn k (open_of (order_at t k)) in
       reported (taken t cl_ord_id e)
       (ticket_of (withdrawn t cl_ord_id e) message (next_of t) (cause_of o.time (sent_at o.original)) e)
-      (λ n. answer.Taken n)
+      Taken
 
   -- ---- the three requests
 
-  abbrev pub entering : NewOrder → Standing → Submitted
-  entering o Stands = new_taken o
-  entering o (Fails reason) = new_rejected o reason
+  abbrev pub entering : NewOrder → Result (Unit {0}) OrderReason → Submitted
+  entering o (Ok stands) = new_taken o
+  entering o (Err reason) = new_rejected o reason
 
-  abbrev pub replacing : Replacement → Standing → Submitted
-  replacing o Stands = replacement_taken o (holder t (text_of message o.original))
-  replacing o (Fails reason) = change_rejected o.time o.id o.original (holder t (text_of message o.original)) reason 2
+  abbrev pub replacing : Replacement → Result (Unit {0}) ChangeReason → Submitted
+  replacing o (Ok stands) = replacement_taken o (holder t (text_of message o.original))
+  replacing o (Err reason) = change_rejected o.time o.id o.original (holder t (text_of message o.original)) reason 2
 
-  abbrev pub canceling : Cancellation → Standing → Submitted
-  canceling o Stands = cancel_taken o (holder t (text_of message o.original))
-  canceling o (Fails reason) = change_rejected o.time o.id o.original (holder t (text_of message o.original)) reason 1
+  abbrev pub canceling : Cancellation → Result (Unit {0}) ChangeReason → Submitted
+  canceling o (Ok stands) = cancel_taken o (holder t (text_of message o.original))
+  canceling o (Err reason) = change_rejected o.time o.id o.original (holder t (text_of message o.original)) reason 1
 
   -- what a message comes to that asks this
   abbrev pub handled : Asked → Submitted
-  handled Garbled = unchanged t answer.Garbled
+  handled Garbled = unchanged t refusal.Garbled
   handled (Refused r) = faulted r
   handled (Enters o) = entering o (new_stands t message o)
   handled (Replaces o) = replacing o (replace_stands t message o)
@@ -156,32 +160,24 @@ module _ (t message : List ℕ) where
 -- message is taken above this number, so that its work cannot run out of numbers
 unfoldable pub submitted : Instrument → List ℕ → List ℕ → ℕ → Submitted
 submitted q t message room =
-    cond (ltb room room_asked) (unchanged t answer.NoRoom)
-    (cond (not (is_market_of q t)) (unchanged t answer.NoMarket)
-    (cond (not (eqb (work_of t) 0)) (unchanged t answer.InWork)
-    (cond (ltb 999998976 (next_of t)) (unchanged t answer.NumbersSpent)
+    cond (ltb room room_asked) (unchanged t refusal.NoRoom)
+    (cond (not (is_market_of q t)) (unchanged t refusal.NoMarket)
+    (cond (not (eqb (work_of t) 0)) (unchanged t refusal.InWork)
+    (cond (ltb 999998976 (next_of t)) (unchanged t refusal.NumbersSpent)
     (handled t message (asked_of (instrument_of t) (venue_of t) (port_of t) message)))))
 
--- the paper's number
-abbrev pub submit_number : SubmitAnswer → ℕ
-submit_number answer.NoRoom = 1
-submit_number answer.NoMarket = 2
-submit_number answer.InWork = 3
-submit_number answer.NumbersSpent = 4
-submit_number answer.Garbled = 5
-submit_number (answer.SessionReject n) = 6
-submit_number (answer.OrderReject n) = 7
-submit_number (answer.ChangeReject n) = 8
-submit_number (answer.Taken n) = 0
+-- the paper's number: of a report, and of a refusal
+abbrev pub reply_number : ReplyKind → ℕ
+reply_number SessionReject = 6
+reply_number OrderReject = 7
+reply_number ChangeReject = 8
+reply_number Taken = 0
+
+abbrev pub submit_number : Result Reply Refusal → ℕ
+submit_number (Ok r) = reply_number r.kind
+submit_number (Err r) = number_of r
 
 -- the length of the report, 0 where none is written
-abbrev pub submit_length : SubmitAnswer → ℕ
-submit_length answer.NoRoom = 0
-submit_length answer.NoMarket = 0
-submit_length answer.InWork = 0
-submit_length answer.NumbersSpent = 0
-submit_length answer.Garbled = 0
-submit_length (answer.SessionReject n) = n
-submit_length (answer.OrderReject n) = n
-submit_length (answer.ChangeReject n) = n
-submit_length (answer.Taken n) = n
+abbrev pub submit_length : Result Reply Refusal → ℕ
+submit_length (Ok r) = r.len
+submit_length (Err r) = 0

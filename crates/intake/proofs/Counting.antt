@@ -10,7 +10,7 @@ use lib.ListN.{length, replicate}
 use Rattle.octets.specs.Octets.{text_bytes}
 use Rattle.octets.proofs.Bools.{not_both}
 use Rattle.decimal.specs.declared.Instrument.{Instrument}
-use Rattle.request.specs.declared.Refusal.{Refusal}
+use Rattle.request.specs.declared.Refusal.{Refusal as Fault}
 use Rattle.request.specs.declared.NewOrder.{NewOrder}
 use Rattle.request.specs.declared.Replacement.{Replacement}
 use Rattle.request.specs.declared.Cancellation.{Cancellation}
@@ -35,10 +35,13 @@ use Rattle.report.specs.Fields.{row_bytes}
 use Rattle.report.specs.Frame.{report_bytes}
 use Rattle.report.proofs.Bytes.{report_length}
 use Rattle.ticket.proofs.Short.{ticket_short, refused_short, unchanged_short, faulty_short}
-use Rattle.calls.specs.declared.Standing.{Standing}
-use Rattle.calls.specs.declared.Standing.TheVariants.{Stands, Fails}
-use Rattle.calls.specs.declared.SubmitAnswer.{SubmitAnswer}
-use Rattle.calls.specs.declared.SubmitAnswer.TheVariants as answer
+use Rattle.std.specs.Prelude.{Result, Ok, Err}
+use Rattle.refusals.specs.declared.Refusal.{Refusal}
+use Rattle.calls.specs.declared.OrderReason.{OrderReason}
+use Rattle.calls.specs.declared.ChangeReason.{ChangeReason}
+use Rattle.calls.specs.declared.ReplyKind.{ReplyKind}
+use Rattle.calls.specs.declared.ReplyKind.TheVariants.{SessionReject, OrderReject, ChangeReject, Taken}
+use Rattle.calls.specs.declared.Reply.{Reply}
 use Rattle.calls.specs.Checks.{text_of, holder, new_stands, cancel_stands, replace_stands}
 use Rattle.calls.specs.Submit.{Submitted, rejecting, faulted, new_rejected, change_rejected, marks_of, new_order_of, new_taken, replacement_taken, cancel_taken, entering, replacing, canceling, handled, submitted, submit_length, submit_number}
 use Rattle.intake.specs.Intake.{Asking}
@@ -48,16 +51,9 @@ use Rattle.intake.proofs.Legibles.{enter_legible, refused_legible, cancel_unmet,
 use Rattle.intake.proofs.Keeping.{Comes, no_room, no_market, in_work, spent, heard, comes}
 
 -- the reports of an answer: one where there is one to read, which is for 0 and for the refusals 6 to 8
-abbrev pub reports_of : SubmitAnswer → ℕ
-reports_of answer.NoRoom = 0
-reports_of answer.NoMarket = 0
-reports_of answer.InWork = 0
-reports_of answer.NumbersSpent = 0
-reports_of answer.Garbled = 0
-reports_of (answer.SessionReject n) = 1
-reports_of (answer.OrderReject n) = 1
-reports_of (answer.ChangeReject n) = 1
-reports_of (answer.Taken n) = 1
+abbrev pub reports_of : Result Reply Refusal → ℕ
+reports_of (Ok r) = 1
+reports_of (Err r) = 0
 
 -- what is counted of a call on t
 pub record Counted (t : List ℕ) (s : Submitted) : Type 0 where
@@ -101,26 +97,25 @@ next_withdrawn t id e l =
 -- ---- each request
 
 module _ (t message : List ℕ) where
-  rejected_counted : {x : Asked} (row : List Field) (f : ℕ → SubmitAnswer) → ((n : ℕ) → reports_of (f n) ≡ 1) → ((n : ℕ) → submit_length (f n) ≡ n)
-      → Asking t message x → length (row_bytes message t row) ≤ 489 → Counted t (rejecting t message row f)
+  rejected_counted : {x : Asked} (row : List Field) (kind : ReplyKind) → Asking t message x → length (row_bytes message t row) ≤ 489 → Counted t (rejecting t message row kind)
   unfolding rejecting
-  rejected_counted row f g h a s =
+  rejected_counted row kind a s =
       record {
-        reports_are = sym (g _);
+        reports_are = refl;
         next_is = next_numbered t t a.market.long refl a.numbers;
-        short = rw (h (length (report_bytes (row_bytes message t row)))) (report_length (row_bytes message t row) s);
+        short = report_length (row_bytes message t row) s;
       }
 
-  faulted_counted : (r : Refusal) → Asking t message (Refused r) → Counted t (faulted t message r)
+  faulted_counted : (r : Fault) → Asking t message (Refused r) → Counted t (faulted t message r)
   unfolding faulted
   faulted_counted r a =
-      rejected_counted _ (λ n. answer.SessionReject n) (λ n. refl) (λ n. refl) a (faulty_short t message _ _ _ (fault_legible t message r a))
+      rejected_counted _ SessionReject a (faulty_short t message _ _ _ (fault_legible t message r a))
 
-  new_counted : (o : NewOrder) (s : Standing) → new_stands t message o ≡ s → Asking t message (Enters o) → Counted t (entering t message o s)
+  new_counted : (o : NewOrder) (s : Result (Unit {0}) OrderReason) → new_stands t message o ≡ s → Asking t message (Enters o) → Counted t (entering t message o s)
   unfolding new_taken new_rejected entered
-  new_counted o (Fails reason) e a =
-      rejected_counted _ (λ n. answer.OrderReject n) (λ n. refl) (λ n. refl) a (refused_short t message _ _ _ (refused_legible t message o a reason e))
-  new_counted o Stands e a =
+  new_counted o (Err reason) e a =
+      rejected_counted _ OrderReject a (refused_short t message _ _ _ (refused_legible t message o a reason e))
+  new_counted o (Ok stands) e a =
       let k : ℕ = record_for t in
       let x : Order = new_order_of t message o in
       let id : List ℕ = text_of message o.id in
@@ -134,12 +129,12 @@ module _ (t message : List ℕ) where
         short = ticket_short u message _ _ _ (enter_legible t message o a e);
       }
 
-  replace_counted : (o : Replacement) (s : Standing) → replace_stands t message o ≡ s → Asking t message (Replaces o) → Counted t (replacing t message o s)
+  replace_counted : (o : Replacement) (s : Result (Unit {0}) ChangeReason) → replace_stands t message o ≡ s → Asking t message (Replaces o) → Counted t (replacing t message o s)
   unfolding replacement_taken change_rejected renewed
-  replace_counted o (Fails reason) e a =
-      rejected_counted _ (λ n. answer.ChangeReject n) (λ n. refl) (λ n. refl) a
-      (unchanged_short t message _ _ _ (unmet_legible t message _ _ _ _ _ _ (replace_unmet t message o a _ refl reason e)))
-  replace_counted o Stands e a =
+  replace_counted o (Err reason) e a =
+      rejected_counted _ ChangeReject a
+      (unchanged_short t message _ _ _ (unmet_legible t message _ (replace_unmet t message o a _ refl) reason))
+  replace_counted o (Ok stands) e a =
       let k : ℕ = holder t (text_of message o.original) in
       let id : List ℕ = text_of message o.id in
       let v : Event = Replaced k o.level o.quantity (next_of t) in
@@ -152,12 +147,12 @@ module _ (t message : List ℕ) where
         short = ticket_short u message _ _ _ (replace_legible t message o a k refl e);
       }
 
-  cancel_counted : (o : Cancellation) (s : Standing) → cancel_stands t message o ≡ s → Asking t message (Cancels o) → Counted t (canceling t message o s)
+  cancel_counted : (o : Cancellation) (s : Result (Unit {0}) ChangeReason) → cancel_stands t message o ≡ s → Asking t message (Cancels o) → Counted t (canceling t message o s)
   unfolding cancel_taken change_rejected taken
-  cancel_counted o (Fails reason) e a =
-      rejected_counted _ (λ n. answer.ChangeReject n) (λ n. refl) (λ n. refl) a
-      (unchanged_short t message _ _ _ (unmet_legible t message _ _ _ _ _ _ (cancel_unmet t message o a _ refl reason e)))
-  cancel_counted o Stands e a =
+  cancel_counted o (Err reason) e a =
+      rejected_counted _ ChangeReject a
+      (unchanged_short t message _ _ _ (unmet_legible t message _ (cancel_unmet t message o a _ refl) reason))
+  cancel_counted o (Ok stands) e a =
       let k : ℕ = holder t (text_of message o.original) in
       let id : List ℕ = text_of message o.id in
       let v : Event = Withdrawn k (open_of (order_at t k)) in
@@ -195,19 +190,19 @@ handled_named t message Garbled e = omega arith
 handled_named t message (Refused r) e = omega arith
 handled_named t message (Enters o) e = by (new_stands t message o) e
   where
-    by : (s : Standing) → submit_number (entering t message o s).answer ≡ 2 → ⊥
-    by Stands e = omega arith
-    by (Fails r) e = omega arith
+    by : (s : Result (Unit {0}) OrderReason) → submit_number (entering t message o s).answer ≡ 2 → ⊥
+    by (Ok stands) e = omega arith
+    by (Err r) e = omega arith
 handled_named t message (Replaces o) e = by (replace_stands t message o) e
   where
-    by : (s : Standing) → submit_number (replacing t message o s).answer ≡ 2 → ⊥
-    by Stands e = omega arith
-    by (Fails r) e = omega arith
+    by : (s : Result (Unit {0}) ChangeReason) → submit_number (replacing t message o s).answer ≡ 2 → ⊥
+    by (Ok stands) e = omega arith
+    by (Err r) e = omega arith
 handled_named t message (Cancels o) e = by (cancel_stands t message o) e
   where
-    by : (s : Standing) → submit_number (canceling t message o s).answer ≡ 2 → ⊥
-    by Stands e = omega arith
-    by (Fails r) e = omega arith
+    by : (s : Result (Unit {0}) ChangeReason) → submit_number (canceling t message o s).answer ≡ 2 → ⊥
+    by (Ok stands) e = omega arith
+    by (Err r) e = omega arith
 
 pub submitted_named : (q : Instrument) (t message : List ℕ) (room : ℕ) → is_market_of q t ≡ true → submit_number (submitted q t message room).answer ≡ 2 → ⊥
 submitted_named q t message room m = by (comes q t message room)

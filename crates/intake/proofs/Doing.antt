@@ -31,7 +31,7 @@ use Rattle.table.proofs.Instruments.{marked_bytes}
 use Rattle.table.proofs.Lookups.{market_sound}
 use Rattle.ticket.specs.declared.Cause.{Cause}
 use Rattle.ticket.specs.Legible.{Legible}
-use Rattle.calls.specs.declared.Standing.TheVariants.{Stands}
+use Rattle.std.specs.Prelude.{Ok}
 use Rattle.calls.specs.Checks.{text_of, holder, new_stands, cancel_stands, replace_stands}
 use Rattle.calls.specs.Submit.{sent_at, no_text, cause_of, marks_of, new_order_of}
 use Rattle.intake.specs.Intake.{Asking, order_with}
@@ -85,7 +85,7 @@ module _ (t message : List ℕ) (o : NewOrder) (a : Asking t message (Enters o))
     pub tif_small : x.tif < 256
     tif_small = rw y (force_small (new_order_of t message o) (new_sound t message o a))
 
-  module _ (s : new_stands t message o ≡ Stands) (k : ℕ) (g : k ≡ record_for t) where
+  module _ (s : new_stands t message o ≡ Ok tt) (k : ℕ) (g : k ≡ record_for t) where
     pub enter_told : (n : ℕ) → n ≡ next_of t → (x : Order) → x ≡ order_with o.terms n → (c : Cause) → c ≡ cause_of o.time no_text → (u : List ℕ)
         → u ≡ accepted t k n (text_of message o.id) (text_of message o.account) (marks_of o) x
         → Legible u message n c (Accepted k x)
@@ -119,7 +119,7 @@ module _ (t message : List ℕ) (o : Replacement) (a : Asking t message (Replace
   pub replaced_stamp_short : length (text_of message o.time) ≤ 21
   replaced_stamp_short = omega (arith, (replaces_spelt _ _ _ message o a.asks).time.spelt.short)
 
-  module _ (s : replace_stands t message o ≡ Stands) (n : ℕ) (q : n ≡ next_of t) where
+  module _ (s : replace_stands t message o ≡ Ok tt) (n : ℕ) (q : n ≡ next_of t) where
     pub renew_due : Due t k (Replaced k o.level o.quantity n)
     renew_due = rw q (replace_due t message o a k h s)
 
@@ -136,7 +136,7 @@ module _ (t message : List ℕ) (o : Cancellation) (a : Asking t message (Cancel
   pub canceled_id_short : (xs : List ℕ) → xs ≡ text_of message o.id → length xs ≤ 32
   canceled_id_short xs e = rw e (cancels_spelt _ _ _ message o a.asks).id.short
 
-  module _ (s : cancel_stands t message o ≡ Stands) where
+  module _ (s : cancel_stands t message o ≡ Ok tt) where
     pub canceled_some : 1 ≤ k
     canceled_some = (cancel_holds t message o k h s).known
 

@@ -24,9 +24,10 @@ use Rattle.table.specs.Changes.{numbered}
 use Rattle.table.proofs.Instruments.{of_market, market_instrument}
 use Rattle.table.proofs.Facts.{market_facts}
 use Rattle.table.proofs.Theorems.{a_number_keeps, a_new_order_keeps, a_replacement_keeps, a_cancel_keeps}
-use Rattle.calls.specs.declared.Standing.{Standing}
-use Rattle.calls.specs.declared.Standing.TheVariants.{Stands, Fails}
-use Rattle.calls.specs.declared.SubmitAnswer.TheVariants as answer
+use Rattle.std.specs.Prelude.{Result, Ok, Err}
+use Rattle.refusals.specs.declared.Refusal.TheVariants.{NoRoom, NoMarket, InWork, NumbersSpent}
+use Rattle.calls.specs.declared.OrderReason.{OrderReason}
+use Rattle.calls.specs.declared.ChangeReason.{ChangeReason}
 use Rattle.calls.specs.Checks.{text_of, holder, new_stands, cancel_stands, replace_stands}
 use Rattle.calls.specs.Submit.{unchanged, rejecting, faulted, new_rejected, change_rejected, marks_of, new_order_of, new_taken, replacement_taken, cancel_taken, entering, replacing, canceling, handled, submitted}
 use Rattle.intake.specs.Intake.{Asking}
@@ -45,27 +46,27 @@ module _ (q : Instrument) (t message : List ℕ) (m : is_market_of q t ≡ true)
   unfolding faulted rejecting
   faulted_kept r a = rejected_kept a
 
-  pub new_kept : (o : NewOrder) (s : Standing) → new_stands t message o ≡ s → Asking t message (Enters o) → is_market_of q (entering t message o s).table ≡ true
+  pub new_kept : (o : NewOrder) (s : Result (Unit {0}) OrderReason) → new_stands t message o ≡ s → Asking t message (Enters o) → is_market_of q (entering t message o s).table ≡ true
   unfolding new_taken new_rejected rejecting
-  new_kept o (Fails reason) e a = rejected_kept a
-  new_kept o Stands e a =
+  new_kept o (Err reason) e a = rejected_kept a
+  new_kept o (Ok stands) e a =
       a_new_order_keeps q t m a.idle (record_for t) (text_of message o.id) (text_of message o.account) (marks_of o)
       (new_order_of t message o) (text_of message o.time) (new_named t message o a e) (new_account_short t message o a) (new_account t message o a)
       (rw same at (new_marked t message o a)) (rw same at (new_quoted t message o a)) (new_enters t message o a e) (new_time t message o a)
 
-  pub replace_kept : (o : Replacement) (s : Standing) → replace_stands t message o ≡ s → Asking t message (Replaces o) → is_market_of q (replacing t message o s).table ≡ true
+  pub replace_kept : (o : Replacement) (s : Result (Unit {0}) ChangeReason) → replace_stands t message o ≡ s → Asking t message (Replaces o) → is_market_of q (replacing t message o s).table ≡ true
   unfolding replacement_taken change_rejected rejecting
-  replace_kept o (Fails reason) e a = rejected_kept a
-  replace_kept o Stands e a =
+  replace_kept o (Err reason) e a = rejected_kept a
+  replace_kept o (Ok stands) e a =
       let k : ℕ = holder t (text_of message o.original) in
       a_replacement_keeps q t m a.idle k (text_of message o.id) (replace_in t message o a k refl e) (replace_named t message o a k refl e) o.level
       o.quantity (next_of t) (text_of message o.time) (replace_renews t message o a k refl e)
       (rw same at (replace_quoted t message o a)) (replace_time t message o a k refl e)
 
-  pub cancel_kept : (o : Cancellation) (s : Standing) → cancel_stands t message o ≡ s → Asking t message (Cancels o) → is_market_of q (canceling t message o s).table ≡ true
+  pub cancel_kept : (o : Cancellation) (s : Result (Unit {0}) ChangeReason) → cancel_stands t message o ≡ s → Asking t message (Cancels o) → is_market_of q (canceling t message o s).table ≡ true
   unfolding cancel_taken change_rejected rejecting
-  cancel_kept o (Fails reason) e a = rejected_kept a
-  cancel_kept o Stands e a =
+  cancel_kept o (Err reason) e a = rejected_kept a
+  cancel_kept o (Ok stands) e a =
       let k : ℕ = holder t (text_of message o.original) in
       let z : open_of (order_at t k) ≡ _ = ap (λ (x : Order). open_of x) (sym (cancel_at t message o a k refl e)) in
       rw z (a_cancel_keeps q t m a.idle k (text_of message o.id) (cancel_in t message o a k refl e) (cancel_named t message o a k refl e) a.numbers)
@@ -80,10 +81,10 @@ module _ (q : Instrument) (t message : List ℕ) (m : is_market_of q t ≡ true)
 -- ---- the call, by its first refusals
 
 pub data Comes (q : Instrument) (t message : List ℕ) (room : ℕ) : Type 0 where
-  no_room : room < 1024 → submitted q t message room ≡ unchanged t answer.NoRoom → Comes q t message room
-  no_market : 1024 ≤ room → is_market_of q t ≡ false → submitted q t message room ≡ unchanged t answer.NoMarket → Comes q t message room
-  in_work : 1024 ≤ room → is_market_of q t ≡ true → 0 < work_of t → submitted q t message room ≡ unchanged t answer.InWork → Comes q t message room
-  spent : 1024 ≤ room → is_market_of q t ≡ true → work_of t ≡ 0 → 999998976 < next_of t → submitted q t message room ≡ unchanged t answer.NumbersSpent
+  no_room : room < 1024 → submitted q t message room ≡ unchanged t NoRoom → Comes q t message room
+  no_market : 1024 ≤ room → is_market_of q t ≡ false → submitted q t message room ≡ unchanged t NoMarket → Comes q t message room
+  in_work : 1024 ≤ room → is_market_of q t ≡ true → 0 < work_of t → submitted q t message room ≡ unchanged t InWork → Comes q t message room
+  spent : 1024 ≤ room → is_market_of q t ≡ true → work_of t ≡ 0 → 999998976 < next_of t → submitted q t message room ≡ unchanged t NumbersSpent
       → Comes q t message room
   heard : 1024 ≤ room → is_market_of q t ≡ true → Asking t message (asked_of (instrument_of t) (venue_of t) (port_of t) message)
       → submitted q t message room ≡ handled t message (asked_of (instrument_of t) (venue_of t) (port_of t) message) → Comes q t message room

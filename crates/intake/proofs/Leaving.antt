@@ -7,7 +7,7 @@ use lib.ListN.{length}
 use Rattle.octets.specs.Octets.{le_at, put}
 use Rattle.octets.specs.Written.{Wrote}
 use Rattle.fix.specs.declared.frame.Part.{Part}
-use Rattle.request.specs.declared.Refusal.{Refusal}
+use Rattle.request.specs.declared.Refusal.{Refusal as Fault}
 use Rattle.request.specs.declared.NewOrder.{NewOrder}
 use Rattle.request.specs.declared.Replacement.{Replacement}
 use Rattle.request.specs.declared.Cancellation.{Cancellation}
@@ -26,11 +26,17 @@ use Rattle.report.specs.Frame.{report_bytes}
 use Rattle.rows.specs.declared.Unchanged.{Unchanged}
 use Rattle.ticket.specs.declared.Cause.{Cause}
 use Rattle.ticket.specs.Tickets.{ticket_of, refused_row, unchanged_on, unchanged_row, faulty_row}
-use Rattle.calls.specs.declared.SubmitAnswer.{SubmitAnswer}
-use Rattle.calls.specs.declared.SubmitAnswer.TheVariants as answer
+use Rattle.std.specs.Prelude.{Result, Ok, Err}
+use Rattle.calls.specs.declared.OrderReason.{OrderReason}
+use Rattle.calls.specs.declared.ChangeReason.{ChangeReason}
+use Rattle.calls.specs.declared.ReplyKind.{ReplyKind}
+use Rattle.calls.specs.declared.ReplyKind.TheVariants.{SessionReject, OrderReject, ChangeReject, Taken}
+use Rattle.calls.specs.declared.Reply.{Reply}
+use Rattle.refusals.specs.declared.Refusal.{Refusal}
 use Rattle.calls.specs.Told.{joined, area_after}
-use Rattle.calls.specs.Checks.{text_of}
+use Rattle.calls.specs.Checks.{text_of, order_number, change_number}
 use Rattle.calls.specs.Submit.{reported, sent_at, no_text, cause_of, marks_of, rejecting, faulted, new_rejected, change_rejected, new_order_of, new_taken, replacement_taken, cancel_taken}
+use Rattle.intake.specs.declared.rejects.Change.{Change}
 use Rattle.intake.specs.Intake.{order_with, Left}
 
 -- ---- one report
@@ -39,11 +45,15 @@ area_one : (area report after : List ℕ) → after ≡ put area 0 report → af
 unfolding joined
 area_one area report after e = rw append-nil e
 
-pub reported_left : (t report area after : List ℕ) (len : ℕ) (f : ℕ → SubmitAnswer) (u : List ℕ) → Wrote area 0 report len after → u ≡ t
-    → Left (reported t report f) area (f len) u after
-reported_left t report area after len f u w e =
+-- what is answered of a report of so many bytes
+abbrev replied : ReplyKind → ℕ → Result Reply Refusal
+replied kind n = Ok (record { kind = kind; len = n })
+
+pub reported_left : (t report area after : List ℕ) (len : ℕ) (kind : ReplyKind) (u : List ℕ) → Wrote area 0 report len after → u ≡ t
+    → Left (reported t report kind) area (Ok (record { kind = kind; len = len })) u after
+reported_left t report area after len kind u w e =
     let z : len ≡ length report = omega (arith, w.place) in
-    record { answers = ap f z; table_is = e; area_is = area_one area report after w.bytes_in }
+    record { answers = ap (replied kind) z; table_is = e; area_is = area_one area report after w.bytes_in }
 
 -- ---- the heading
 
@@ -80,36 +90,36 @@ with_is time original p q e d = λ j. record { time = e j; orig = d j }
 -- ---- what is rejected
 
 module _ (t message area after : List ℕ) (len : ℕ) (u : List ℕ) (e : u ≡ numbered t 1) where
-  pub rejecting_left : (row : List Field) (f : ℕ → SubmitAnswer) → Wrote area 0 (report_bytes (row_bytes message t row)) len after
-      → Left (rejecting t message row f) area (f len) u after
+  pub rejecting_left : (row : List Field) (kind : ReplyKind) → Wrote area 0 (report_bytes (row_bytes message t row)) len after
+      → Left (rejecting t message row kind) area (Ok (record { kind = kind; len = len })) u after
   unfolding rejecting
-  rejecting_left row f w = reported_left (numbered t 1) (report_bytes (row_bytes message t row)) area after len f u w e
+  rejecting_left row kind w = reported_left (numbered t 1) (report_bytes (row_bytes message t row)) area after len kind u w e
 
 module _ (t message area after : List ℕ) (len n : ℕ) (u : List ℕ) (q : n ≡ next_of t) (e : u ≡ numbered t 1) where
   -- a message with a fault
-  pub fault_left : (r : Refusal) (kind time : Place) → kind ≡ sent_at r.kind → time ≡ sent_at r.time
+  pub fault_left : (r : Fault) (kind time : Place) → kind ≡ sent_at r.kind → time ≡ sent_at r.time
       → Wrote area 0 (report_bytes (row_bytes message t (faulty_row t n time (record { sequence = r.number; tag = r.tag; kind = kind; reason = r.reason })))) len after
-      → Left (faulted t message r) area (answer.SessionReject len) u after
+      → Left (faulted t message r) area (Ok (record { kind = SessionReject; len = len })) u after
   unfolding faulted
-  fault_left r kind time a b w = rejecting_left t message area after len u e _ (λ x. answer.SessionReject x) (rw (q, a, b) at w)
+  fault_left r kind time a b w = rejecting_left t message area after len u e _ SessionReject (rw (q, a, b) at w)
 
   -- a new order
-  pub refuse_left : (o : NewOrder) (reason : ℕ) (id code time : Place) → id ≡ sent_at o.id → code ≡ sent_at o.code → time ≡ sent_at o.time
+  pub refuse_left : (o : NewOrder) (reason : OrderReason) (number : ℕ) (id code time : Place) → id ≡ sent_at o.id → code ≡ sent_at o.code → time ≡ sent_at o.time → number ≡ order_number reason
       → Wrote area 0
-      (report_bytes (row_bytes message t (refused_row t n time (record { id = id; quantity = o.terms.quantity; side = o.terms.side; code = code; reason = reason }))))
+      (report_bytes (row_bytes message t (refused_row t n time (record { id = id; quantity = o.terms.quantity; side = o.terms.side; code = code; reason = number }))))
       len after
-      → Left (new_rejected t message o reason) area (answer.OrderReject len) u after
+      → Left (new_rejected t message o reason) area (Ok (record { kind = OrderReject; len = len })) u after
   unfolding new_rejected
-  refuse_left o reason id code time a b c w = rejecting_left t message area after len u e _ (λ x. answer.OrderReject x) (rw (q, a, b, c) at w)
+  refuse_left o reason number id code time a b c d w = rejecting_left t message area after len u e _ OrderReject (rw (q, a, b, c, d) at w)
 
   -- a cancel or a replacement
-  pub change_left : (time id original : Part) (k reason response : ℕ) (when new orig : Place) (said : Unchanged) → when ≡ sent_at time → new ≡ sent_at id
-      → orig ≡ sent_at original → said ≡ unchanged_on t k new orig reason response
+  pub change_left : (x : Change) (reason : ChangeReason) (number : ℕ) (when new orig : Place) (said : Unchanged) → when ≡ sent_at x.time → new ≡ sent_at x.id
+      → orig ≡ sent_at x.original → number ≡ change_number reason → said ≡ unchanged_on t x.holder new orig number x.response
       → Wrote area 0 (report_bytes (row_bytes message t (unchanged_row t n when said))) len after
-      → Left (change_rejected t message time id original k reason response) area (answer.ChangeReject len) u after
+      → Left (change_rejected t message x.time x.id x.original x.holder reason x.response) area (Ok (record { kind = ChangeReject; len = len })) u after
   unfolding change_rejected
-  change_left time id original k reason response when new orig said a b c d w =
-      rejecting_left t message area after len u e _ (λ x. answer.ChangeReject x) (rw (q, a, d, b, c) at w)
+  change_left x reason number when new orig said a b c z d w =
+      rejecting_left t message area after len u e _ ChangeReject (rw (q, a, d, b, c, z) at w)
 
 -- ---- what is taken
 
@@ -125,24 +135,24 @@ module _ (t message area after : List ℕ) (len n : ℕ) (q : n ≡ next_of t) (
     after_is = z ∙ rw (g, q, order_is)
 
     pub enter_left : Wrote area 0 (ticket_of u message n c (Accepted k x)) len after → (v : List ℕ)
-        → v ≡ clear_best (put_work (numbered u 1) k (text_of message o.time)) → Left (new_taken t message o) area (answer.Taken len) v after
+        → v ≡ clear_best (put_work (numbered u 1) k (text_of message o.time)) → Left (new_taken t message o) area (Ok (record { kind = Taken; len = len })) v after
     unfolding new_taken entered
-    enter_left w v h = reported_left _ _ area after len (λ r. answer.Taken r) v (rw (after_is, q, b, g, order_is) at w) (rw (after_is, g) at h)
+    enter_left w v h = reported_left _ _ area after len Taken v (rw (after_is, q, b, g, order_is) at w) (rw (after_is, g) at h)
 
   -- a replacement
   module _ (o : Replacement) (k : ℕ) (b : c ≡ cause_of o.time (sent_at o.original)) (id : List ℕ) (i : id ≡ text_of message o.id) (u : List ℕ)
       (z : u ≡ replaced t id (Replaced k o.level o.quantity n)) where
     pub renew_left : Wrote area 0 (ticket_of u message n c (Replaced k o.level o.quantity n)) len after → (v : List ℕ)
-        → v ≡ clear_best (put_work (numbered u 1) k (text_of message o.time)) → Left (replacement_taken t message o k) area (answer.Taken len) v after
+        → v ≡ clear_best (put_work (numbered u 1) k (text_of message o.time)) → Left (replacement_taken t message o k) area (Ok (record { kind = Taken; len = len })) v after
     unfolding replacement_taken renewed
     renew_left w v h =
-        reported_left _ _ area after len (λ r. answer.Taken r) v (rw (z, i, b, q) at w) (rw (z, i, q) at h)
+        reported_left _ _ area after len Taken v (rw (z, i, b, q) at w) (rw (z, i, q) at h)
 
   -- a cancel
   module _ (o : Cancellation) (k : ℕ) (b : c ≡ cause_of o.time (sent_at o.original)) (x : ℕ) (y : x ≡ open_of (order_at t k))
       (id : List ℕ) (i : id ≡ text_of message o.id) (u : List ℕ) (z : u ≡ withdrawn t id (Withdrawn k x)) where
     pub withdraw_left : Wrote area 0 (ticket_of u message n c (Withdrawn k x)) len after → (v : List ℕ)
-        → v ≡ put_best (numbered u 1) → Left (cancel_taken t message o k) area (answer.Taken len) v after
+        → v ≡ put_best (numbered u 1) → Left (cancel_taken t message o k) area (Ok (record { kind = Taken; len = len })) v after
     unfolding cancel_taken taken
     withdraw_left w v h =
-        reported_left _ _ area after len (λ r. answer.Taken r) v (rw (z, y, i, b, q) at w) (rw (z, y, i) at h)
+        reported_left _ _ area after len Taken v (rw (z, y, i, b, q) at w) (rw (z, y, i) at h)

@@ -36,10 +36,14 @@ use Rattle.ticket.specs.Legible.{Placed, is_among, Headed, Legible, LegibleRefus
 use Rattle.ticket.specs.Tickets.{unchanged_on}
 use Rattle.ticket.proofs.Formed.{formed_headed}
 use Rattle.ticket.proofs.Taking.{sent_text, sent_placed, new_legible, replaced_legible, withdrawn_legible, market_holder, unchanged_legible}
-use Rattle.calls.specs.declared.Standing.{Standing}
-use Rattle.calls.specs.declared.Standing.TheVariants.{Stands, Fails}
-use Rattle.calls.specs.Checks.{text_of, holder, in_table, is_code, new_stands, change_stands, cancel_stands, and_above, replace_stands}
+use Rattle.std.specs.Prelude.{Result, Ok, Err}
+use Rattle.calls.specs.declared.OrderReason.{OrderReason}
+use Rattle.calls.specs.declared.OrderReason.TheVariants.{NoRecord, OtherCode, IdInUse, Stranger}
+use Rattle.calls.specs.declared.ChangeReason.{ChangeReason}
+use Rattle.calls.specs.declared.ChangeReason.TheVariants.{NothingOpen, NoSuchOrder, Unfit}
+use Rattle.calls.specs.Checks.{text_of, holder, order_number, change_number, new_stands, cancel_stands, replace_stands}
 use Rattle.calls.specs.Submit.{sent_at, no_text, cause_of, marks_of, new_order_of}
+use Rattle.intake.specs.declared.rejects.Change.{Change}
 use Rattle.intake.specs.Intake.{Asking, Unmet}
 use Rattle.intake.proofs.Standing.{between_printable, between_symbols, holder_few, side_is, new_named, new_account, new_account_short, new_quoted, new_marked, new_enters, new_time, cancel_in, cancel_at, cancel_named, replace_in, replace_named, replace_quoted, replace_renews}
 
@@ -58,9 +62,16 @@ asking_headed t message x time a h =
 
 -- ---- a new order
 
+-- every reason has a number that 103 can have
+pub new_reason : (r : OrderReason) → is_among (0 ∷ 1 ∷ 6 ∷ 99 ∷ []) (order_number r) ≡ true
+new_reason NoRecord = refl
+new_reason OtherCode = refl
+new_reason IdInUse = refl
+new_reason Stranger = refl
+
 module _ (t message : List ℕ) (o : NewOrder) (a : Asking t message (Enters o)) where
   -- taken: on the table with its record
-  pub enter_legible : new_stands t message o ≡ Stands
+  pub enter_legible : new_stands t message o ≡ Ok tt
       → Legible
       (accepted t (record_for t) (next_of t) (text_of message o.id) (text_of message o.account) (marks_of o) (new_order_of t message o))
       message (next_of t) (cause_of o.time no_text) (Accepted (record_for t) (new_order_of t message o))
@@ -70,23 +81,10 @@ module _ (t message : List ℕ) (o : NewOrder) (a : Asking t message (Enters o))
       (new_marked t message o a) (new_quoted t message o a) (new_enters t message o a s)
       (rw (sent_text message _ o.time.start o.time.len) (new_time t message o a))
 
-  -- the reasons for which it is rejected
-  new_reason : (reason : ℕ) → new_stands t message o ≡ Fails reason → is_among (0 ∷ 1 ∷ 6 ∷ 99 ∷ []) reason ≡ true
-  unfolding new_stands
-  new_reason reason e =
-      split (not (is_code t (text_of message o.code))) (λ x. let q : Fails 1 ≡ Fails reason = rw x at e in given 1 q refl) (λ x.
-      split (ltb 0 o.terms.mpid && not (is_listed t o.terms.mpid)) (λ y. let q : Fails 99 ≡ Fails reason = rw (x, y) at e in given 99 q refl) (λ y.
-      split (in_table t (text_of message o.id)) (λ z. let q : Fails 6 ≡ Fails reason = rw (x, y, z) at e in given 6 q refl) (λ z.
-      split (eqb (record_for t) 0) (λ w. let q : Fails 0 ≡ Fails reason = rw (x, y, z, w) at e in given 0 q refl)
-      (λ w. let q : Stands ≡ Fails reason = rw (x, y, z, w) at e in let n : ◌≡◌ {A = ℕ} 0 1 = cc in absurd (omega arith)))))
-    where
-      given : (r : ℕ) → Fails r ≡ Fails reason → is_among (0 ∷ 1 ∷ 6 ∷ 99 ∷ []) r ≡ true → is_among (0 ∷ 1 ∷ 6 ∷ 99 ∷ []) reason ≡ true
-      given r q h = let n : r ≡ reason = cc in rw (← n) h
-
   -- rejected
-  pub refused_legible : (reason : ℕ) → new_stands t message o ≡ Fails reason
+  pub refused_legible : (reason : OrderReason) → new_stands t message o ≡ Err reason
       → LegibleRefused t message (next_of t) (sent_at o.time)
-      (record { id = sent_at o.id; quantity = o.terms.quantity; side = o.terms.side; code = sent_at o.code; reason = reason })
+      (record { id = sent_at o.id; quantity = o.terms.quantity; side = o.terms.side; code = sent_at o.code; reason = order_number reason })
   unfolding one_of
   refused_legible reason e =
       let w = enters_spelt _ _ _ message o a.asks in
@@ -97,42 +95,26 @@ module _ (t message : List ℕ) (o : NewOrder) (a : Asking t message (Enters o))
         code = sent_placed message t o.code.start o.code.len _ 1 9 w.code.some (omega (arith, w.code.long, w.code.short)) (between_symbols (instrument_of t) _ w.code.bytes);
         quantity = r.sized.quantity_high;
         side = side_is (instrument_of t) o.terms.side r.sized.side_is;
-        reason = new_reason reason e;
+        reason = new_reason reason;
       }
 
-  pub refused_told : (reason : ℕ) → new_stands t message o ≡ Fails reason → (n : ℕ) → n ≡ next_of t → (id code time : Place) → id ≡ sent_at o.id
+  pub refused_told : (reason : OrderReason) → new_stands t message o ≡ Err reason → (number : ℕ) → number ≡ order_number reason → (n : ℕ) → n ≡ next_of t → (id code time : Place) → id ≡ sent_at o.id
       → code ≡ sent_at o.code → time ≡ sent_at o.time
-      → LegibleRefused t message n time (record { id = id; quantity = o.terms.quantity; side = o.terms.side; code = code; reason = reason })
-  refused_told reason e n q id code time i c h = rw (q, i, c, h) (refused_legible reason e)
+      → LegibleRefused t message n time (record { id = id; quantity = o.terms.quantity; side = o.terms.side; code = code; reason = number })
+  refused_told reason e number z n q id code time i c h = rw (q, i, c, h, z) (refused_legible reason e)
 
 -- ---- a change
 
-change_reason : (t : List ℕ) (k : ℕ) (code cl_ord_id : List ℕ) (side reason : ℕ) → change_stands t k code cl_ord_id side ≡ Fails reason
-    → is_among (0 ∷ 1 ∷ 2 ∷ []) reason ≡ true
-unfolding change_stands
-change_reason t k code cl_ord_id side reason e =
-    split (not (is_code t code) || eqb k 0) (λ x. let q : Fails 1 ≡ Fails reason = rw x at e in given 1 q refl) (λ x.
-    split (not (eqb side (order_at t k).side)) (λ y. let q : Fails 2 ≡ Fails reason = rw (x, y) at e in given 2 q refl) (λ y.
-    split (eqb (open_of (order_at t k)) 0) (λ z. let q : Fails 0 ≡ Fails reason = rw (x, y, z) at e in given 0 q refl) (λ z.
-    split (in_table t cl_ord_id) (λ w. let q : Fails 2 ≡ Fails reason = rw (x, y, z, w) at e in given 2 q refl)
-    (λ w. let q : Stands ≡ Fails reason = rw (x, y, z, w) at e in let n : ◌≡◌ {A = ℕ} 0 1 = cc in absurd (omega arith)))))
-  where
-    given : (r : ℕ) → Fails r ≡ Fails reason → is_among (0 ∷ 1 ∷ 2 ∷ []) r ≡ true → is_among (0 ∷ 1 ∷ 2 ∷ []) reason ≡ true
-    given r q h = let n : r ≡ reason = cc in rw (← n) h
-
-above_reason : (t : List ℕ) (k quantity reason : ℕ) (code cl_ord_id : List ℕ) (side : ℕ) (s : Standing) → change_stands t k code cl_ord_id side ≡ s
-    → and_above t k quantity s ≡ Fails reason → is_among (0 ∷ 1 ∷ 2 ∷ []) reason ≡ true
-above_reason t k quantity reason code cl_ord_id side (Fails r) q e = change_reason t k code cl_ord_id side reason (q ∙ e)
-above_reason t k quantity reason code cl_ord_id side Stands q e =
-    split (ltb ((order_at t k).executed + (order_at t k).decremented) quantity)
-    (λ x. let z : Stands ≡ Fails reason = rw x at e in let n : ◌≡◌ {A = ℕ} 0 1 = cc in absurd (omega arith))
-    (λ x. let z : Fails 2 ≡ Fails reason = rw x at e in let n : 2 ≡ reason = cc in rw (← n))
+-- every reason has a number that 102 can have
+pub change_reason : (r : ChangeReason) → is_among (0 ∷ 1 ∷ 2 ∷ []) (change_number r) ≡ true
+change_reason NothingOpen = refl
+change_reason NoSuchOrder = refl
+change_reason Unfit = refl
 
 -- a cancel
 module _ (t message : List ℕ) (o : Cancellation) (a : Asking t message (Cancels o)) (k : ℕ) (q : k ≡ holder t (text_of message o.original)) where
-  pub cancel_unmet : (reason : ℕ) → cancel_stands t message o ≡ Fails reason → Unmet t message o.time o.id o.original k reason 1
-  unfolding cancel_stands
-  cancel_unmet reason e =
+  pub cancel_unmet : Unmet t message (record { time = o.time; id = o.id; original = o.original; holder = k; response = 1 })
+  cancel_unmet =
       let w = cancels_spelt _ _ _ message o a.asks in
       record {
         market = a.market;
@@ -141,11 +123,10 @@ module _ (t message : List ℕ) (o : Cancellation) (a : Asking t message (Cancel
         stamped = w.time.right;
         cl_ord_id = spelt_placed message t o.id 1 32 w.id;
         orig = spelt_placed message t o.original 1 32 w.original;
-        reason_in = change_reason t _ _ _ _ reason e;
         response_in = refl;
       }
 
-  module _ (s : cancel_stands t message o ≡ Stands) where
+  module _ (s : cancel_stands t message o ≡ Ok tt) where
     pub cancel_ready : Ready (book_of t) (Withdrawn k (open_of (order_at t k)))
     cancel_ready =
         let i = cancel_in t message o a k q s in
@@ -168,9 +149,8 @@ module _ (t message : List ℕ) (o : Cancellation) (a : Asking t message (Cancel
 
 -- a replacement
 module _ (t message : List ℕ) (o : Replacement) (a : Asking t message (Replaces o)) (k : ℕ) (q : k ≡ holder t (text_of message o.original)) where
-  pub replace_unmet : (reason : ℕ) → replace_stands t message o ≡ Fails reason → Unmet t message o.time o.id o.original k reason 2
-  unfolding replace_stands
-  replace_unmet reason e =
+  pub replace_unmet : Unmet t message (record { time = o.time; id = o.id; original = o.original; holder = k; response = 2 })
+  replace_unmet =
       let w = replaces_spelt _ _ _ message o a.asks in
       record {
         market = a.market;
@@ -179,11 +159,10 @@ module _ (t message : List ℕ) (o : Replacement) (a : Asking t message (Replace
         stamped = w.time.right;
         cl_ord_id = spelt_placed message t o.id 1 32 w.id;
         orig = spelt_placed message t o.original 1 32 w.original;
-        reason_in = above_reason t _ o.quantity reason _ _ _ _ refl e;
         response_in = refl;
       }
 
-  module _ (s : replace_stands t message o ≡ Stands) where
+  module _ (s : replace_stands t message o ≡ Ok tt) where
     pub replace_ready : Ready (book_of t) (Replaced k o.level o.quantity (next_of t))
     replace_ready =
         let i = replace_in t message o a k q s in
@@ -201,23 +180,24 @@ module _ (t message : List ℕ) (o : Replacement) (a : Asking t message (Replace
         (rw (sent_text message _ o.time.start o.time.len) w.time.right) (spelt_placed message _ o.original 1 32 w.original)
 
 -- either, rejected
-module _ (t message : List ℕ) (time id original : Part) (k reason response : ℕ) (u : Unmet t message time id original k reason response) where
-  pub unmet_holder : Holder t k
-  unmet_holder = market_holder t k u.market u.few
+module _ (t message : List ℕ) (x : Change) (u : Unmet t message x) where
+  pub unmet_holder : Holder t x.holder
+  unmet_holder = market_holder t x.holder u.market u.few
 
   pub unmet_long : length t ≡ table_bytes
   unmet_long = u.market.long
 
-  pub unmet_legible : LegibleUnchanged t message (next_of t) (sent_at time) (unchanged_on t k (sent_at id) (sent_at original) reason response)
-  unmet_legible =
-      unchanged_legible t message (next_of t) (sent_at time) k (sent_at id) (sent_at original) reason response
-      (formed_headed t (market_formed t u.market) message (next_of t) (sent_at time) u.market.next_low (omega (arith, u.numbers))
-      (rw (sent_text message t time.start time.len) u.stamped))
-      unmet_holder u.cl_ord_id u.orig u.reason_in u.response_in
+  pub unmet_legible : (reason : ChangeReason)
+      → LegibleUnchanged t message (next_of t) (sent_at x.time) (unchanged_on t x.holder (sent_at x.id) (sent_at x.original) (change_number reason) x.response)
+  unmet_legible reason =
+      unchanged_legible t message (next_of t) (sent_at x.time) x.holder (sent_at x.id) (sent_at x.original) (change_number reason) x.response
+      (formed_headed t (market_formed t u.market) message (next_of t) (sent_at x.time) u.market.next_low (omega (arith, u.numbers))
+      (rw (sent_text message t x.time.start x.time.len) u.stamped))
+      unmet_holder u.cl_ord_id u.orig (change_reason reason) u.response_in
 
-  pub unmet_told : (n : ℕ) → n ≡ next_of t → (when new orig : Place) → when ≡ sent_at time → new ≡ sent_at id → orig ≡ sent_at original → (said : Unchanged)
-      → said ≡ unchanged_on t k new orig reason response → LegibleUnchanged t message n when said
-  unmet_told n q when new orig a b c said d = rw (d, q, a, b, c) unmet_legible
+  pub unmet_told : (reason : ChangeReason) (n : ℕ) → n ≡ next_of t → (when new orig : Place) → when ≡ sent_at x.time → new ≡ sent_at x.id → orig ≡ sent_at x.original → (number : ℕ) → number ≡ change_number reason → (said : Unchanged)
+      → said ≡ unchanged_on t x.holder new orig number x.response → LegibleUnchanged t message n when said
+  unmet_told reason n q when new orig a b c number z said d = rw (d, q, a, b, c, z) (unmet_legible reason)
 
 -- ---- a message with a fault
 

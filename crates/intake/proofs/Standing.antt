@@ -1,6 +1,6 @@
 -- What a request that stands promises: a ClOrdID that no order has, an order in its ranges, a record that has something open; so the
 -- table after it is a market.
-use mathlib.Core.Path.{◌≡◌, refl, sym}
+use mathlib.Core.Path.{◌≡◌, refl, sym, ap}
 use mathlib.Core.Bool.{Bool, true, false, not, ◌&&◌, ◌||◌}
 use mathlib.Core.List.{List, [], ◌∷◌}
 use Prim.Native.Nat.{ℕ, suc, ◌+◌, ◌≤◌, ◌<◌}
@@ -35,9 +35,11 @@ use Rattle.table.proofs.Books.{length_book, at_book}
 use Rattle.table.proofs.Same.{filled_few}
 use Rattle.table.proofs.Lookups.{record_none, record_found, record_for_takes, record_for_small}
 use Rattle.ticket.specs.Legible.{is_symbol_character}
-use Rattle.calls.specs.declared.Standing.{Standing}
-use Rattle.calls.specs.declared.Standing.TheVariants.{Stands, Fails}
-use Rattle.calls.specs.Checks.{text_of, holder, in_table, is_code, new_stands, change_stands, cancel_stands, and_above, replace_stands}
+use Rattle.std.specs.Prelude.{Result, Ok, Err}
+use Rattle.calls.specs.declared.OrderReason.{OrderReason}
+use Rattle.calls.specs.declared.OrderReason.TheVariants.{NoRecord, OtherCode, IdInUse, Stranger}
+use Rattle.calls.specs.declared.ChangeReason.{ChangeReason}
+use Rattle.calls.specs.Checks.{order_number, text_of, holder, in_table, is_code, new_stands, change_stands, cancel_stands, and_above, replace_stands}
 use Rattle.calls.specs.Submit.{marks_of, new_order_of}
 use Rattle.intake.specs.Intake.{Asking}
 
@@ -105,7 +107,7 @@ pub record NewHolds (t message : List ℕ) (o : NewOrder) : Type 0 where
   pub fresh : in_table t (text_of message o.id) ≡ false
   pub free : 0 < record_for t
 
-stands_not : (r : ℕ) → Fails r ≡ Stands → ⊥
+stands_not : {R : Type 0} (r : R) → ◌≡◌ {A = Result (Unit {0}) R} (Err r) (Ok tt) → ⊥
 stands_not r e = let z : ◌≡◌ {A = ℕ} 0 1 = cc in omega arith
 
 listed_by : (m : ℕ) (l : Bool) → (ltb 0 m && not l) ≡ false → (eqb m 0 || l) ≡ true
@@ -113,17 +115,17 @@ listed_by m l h =
     split (eqb m 0) (λ e. or_l (eqb m 0) l e)
     (λ e. split l (λ d. rw (e, d)) (λ d. let z : true ≡ false = rw (lt-ltb 0 m (omega (arith, eqb-false m 0 e)), d) at h in rw (e, d) (sym z)))
 
-pub new_holds : (t message : List ℕ) (o : NewOrder) → new_stands t message o ≡ Stands → NewHolds t message o
+pub new_holds : (t message : List ℕ) (o : NewOrder) → new_stands t message o ≡ Ok tt → NewHolds t message o
 unfolding new_stands
 new_holds t message o e =
     let a : Bool = not (is_code t (text_of message o.code)) in
     let b : Bool = ltb 0 o.terms.mpid && not (is_listed t o.terms.mpid) in
     let c : Bool = in_table t (text_of message o.id) in
     let d : Bool = eqb (record_for t) 0 in
-    split a (λ x. absurd (stands_not 1 (rw x at e))) (λ x.
-    split b (λ y. absurd (stands_not 99 (rw (x, y) at e))) (λ y.
-    split c (λ z. absurd (stands_not 6 (rw (x, y, z) at e))) (λ z.
-    split d (λ w. absurd (stands_not 0 (rw (x, y, z, w) at e))) (λ w.
+    split a (λ x. absurd (stands_not _ (rw x at e))) (λ x.
+    split b (λ y. absurd (stands_not _ (rw (x, y) at e))) (λ y.
+    split c (λ z. absurd (stands_not _ (rw (x, y, z) at e))) (λ z.
+    split d (λ w. absurd (stands_not _ (rw (x, y, z, w) at e))) (λ w.
     record {
       code = not-false _ x;
       owned = listed_by o.terms.mpid (is_listed t o.terms.mpid) y;
@@ -131,17 +133,22 @@ new_holds t message o e =
       free = omega (arith, eqb-false (record_for t) 0 w);
     }))))
 
-fails_other : (r : ℕ) → 0 < r → Fails r ≡ Fails 0 → ⊥
-fails_other r l e = let z : r ≡ 0 = cc in omega arith
+-- reasons with different numbers are different
+abbrev number_in : Result (Unit {0}) OrderReason → ℕ
+number_in (Ok stands) = 0
+number_in (Err reason) = order_number reason
+
+other_reason : (a : OrderReason) → 0 < order_number a → ◌≡◌ {A = Result (Unit {0}) OrderReason} (Err a) (Err NoRecord) → ⊥
+other_reason a l e = let z : order_number a ≡ 0 = ap number_in e in omega arith
 
 -- one that is rejected with 103=0: there is no record for it
-pub new_refused : (t message : List ℕ) (o : NewOrder) → new_stands t message o ≡ Fails 0 → record_for t ≡ 0
+pub new_refused : (t message : List ℕ) (o : NewOrder) → new_stands t message o ≡ Err NoRecord → record_for t ≡ 0
 unfolding new_stands
 new_refused t message o e =
-    split (not (is_code t (text_of message o.code))) (λ x. absurd (fails_other 1 (omega arith) (rw x at e))) (λ x.
-    split (ltb 0 o.terms.mpid && not (is_listed t o.terms.mpid)) (λ y. absurd (fails_other 99 (omega arith) (rw (x, y) at e))) (λ y.
-    split (in_table t (text_of message o.id)) (λ z. absurd (fails_other 6 (omega arith) (rw (x, y, z) at e))) (λ z.
-    split (eqb (record_for t) 0) (λ w. eqb-true (record_for t) 0 w) (λ w. absurd (stands_not 0 (sym (rw (x, y, z, w) at e)))))))
+    split (not (is_code t (text_of message o.code))) (λ x. absurd (other_reason OtherCode (omega arith) (rw x at e))) (λ x.
+    split (ltb 0 o.terms.mpid && not (is_listed t o.terms.mpid)) (λ y. absurd (other_reason Stranger (omega arith) (rw (x, y) at e))) (λ y.
+    split (in_table t (text_of message o.id)) (λ z. absurd (other_reason IdInUse (omega arith) (rw (x, y, z) at e))) (λ z.
+    split (eqb (record_for t) 0) (λ w. eqb-true (record_for t) 0 w) (λ w. absurd (stands_not NoRecord (sym (rw (x, y, z, w) at e)))))))
 
 -- one of two numbers, one of three, and one of the classifications
 one_of_two : (x a b : ℕ) → one_of x (a ∷ b ∷ []) ≡ true → (eqb x a || eqb x b) ≡ true
@@ -237,7 +244,7 @@ module _ (t message : List ℕ) (o : NewOrder) (a : Asking t message (Enters o))
   pub new_time : is_time (text_of message o.time) ≡ true
   new_time = new_said.time.right
 
-  module _ (s : new_stands t message o ≡ Stands) where
+  module _ (s : new_stands t message o ≡ Ok tt) where
     new_holding : NewHolds t message o
     new_holding = new_holds t message o s
 
@@ -273,13 +280,13 @@ pub record ChangeHolds (t : List ℕ) (k : ℕ) (code cl_ord_id : List ℕ) (sid
   pub live : 0 < open_of (order_at t k)
   pub fresh : in_table t cl_ord_id ≡ false
 
-pub change_holds : (t : List ℕ) (k : ℕ) (code cl_ord_id : List ℕ) (side : ℕ) → change_stands t k code cl_ord_id side ≡ Stands → ChangeHolds t k code cl_ord_id side
+pub change_holds : (t : List ℕ) (k : ℕ) (code cl_ord_id : List ℕ) (side : ℕ) → change_stands t k code cl_ord_id side ≡ Ok tt → ChangeHolds t k code cl_ord_id side
 unfolding change_stands
 change_holds t k code cl_ord_id side e =
-    split (not (is_code t code) || eqb k 0) (λ x. absurd (stands_not 1 (rw x at e))) (λ x.
-    split (not (eqb side (order_at t k).side)) (λ y. absurd (stands_not 2 (rw (x, y) at e))) (λ y.
-    split (eqb (open_of (order_at t k)) 0) (λ z. absurd (stands_not 0 (rw (x, y, z) at e))) (λ z.
-    split (in_table t cl_ord_id) (λ w. absurd (stands_not 2 (rw (x, y, z, w) at e))) (λ w.
+    split (not (is_code t code) || eqb k 0) (λ x. absurd (stands_not _ (rw x at e))) (λ x.
+    split (not (eqb side (order_at t k).side)) (λ y. absurd (stands_not _ (rw (x, y) at e))) (λ y.
+    split (eqb (open_of (order_at t k)) 0) (λ z. absurd (stands_not _ (rw (x, y, z) at e))) (λ z.
+    split (in_table t cl_ord_id) (λ w. absurd (stands_not _ (rw (x, y, z, w) at e))) (λ w.
     record {
       known = omega (arith, eqb-false k 0 (neither_r (not (is_code t code)) (eqb k 0) x));
       coded = not-false _ (neither_l (not (is_code t code)) (eqb k 0) x);
@@ -288,27 +295,27 @@ change_holds t k code cl_ord_id side e =
       fresh = w;
     }))))
 
-pub cancel_holds : (t message : List ℕ) (o : Cancellation) (k : ℕ) → k ≡ holder t (text_of message o.original) → cancel_stands t message o ≡ Stands
+pub cancel_holds : (t message : List ℕ) (o : Cancellation) (k : ℕ) → k ≡ holder t (text_of message o.original) → cancel_stands t message o ≡ Ok tt
     → ChangeHolds t k (text_of message o.code) (text_of message o.id) o.side
 unfolding cancel_stands
 cancel_holds t message o k q e = change_holds t k _ _ _ (rw q e)
 
 -- a replacement goes above what is executed and decremented
-above_both : (t : List ℕ) (k q : ℕ) (s : Standing) → and_above t k q s ≡ Stands → (s ≡ Stands) × ((order_at t k).executed + (order_at t k).decremented < q)
-above_both t k q Stands e =
+above_both : (t : List ℕ) (k q : ℕ) (s : Result (Unit {0}) ChangeReason) → and_above t k q s ≡ Ok tt → (s ≡ Ok tt) × ((order_at t k).executed + (order_at t k).decremented < q)
+above_both t k q (Ok stands) e =
     split (ltb ((order_at t k).executed + (order_at t k).decremented) q)
     (λ x. (refl, ltb-true _ _ x))
-    (λ x. absurd (stands_not 2 (rw x at e)))
-above_both t k q (Fails r) e = absurd (stands_not r e)
+    (λ x. absurd (stands_not _ (rw x at e)))
+above_both t k q (Err r) e = absurd (stands_not r e)
 
-pub replace_both : (t message : List ℕ) (o : Replacement) (k : ℕ) → k ≡ holder t (text_of message o.original) → replace_stands t message o ≡ Stands
-    → (change_stands t k (text_of message o.code) (text_of message o.id) o.side ≡ Stands)
+pub replace_both : (t message : List ℕ) (o : Replacement) (k : ℕ) → k ≡ holder t (text_of message o.original) → replace_stands t message o ≡ Ok tt
+    → (change_stands t k (text_of message o.code) (text_of message o.id) o.side ≡ Ok tt)
     × ((order_at t k).executed + (order_at t k).decremented < o.quantity)
 unfolding replace_stands
 replace_both t message o k q e = above_both t k o.quantity _ (rw q e)
 
 module _ (t message : List ℕ) (o : Cancellation) (a : Asking t message (Cancels o)) (k : ℕ) (q : k ≡ holder t (text_of message o.original))
-    (s : cancel_stands t message o ≡ Stands) where
+    (s : cancel_stands t message o ≡ Ok tt) where
   cancel_said : CancelSpelt (instrument_of t) message o
   cancel_said = cancels_spelt _ _ _ message o a.asks
 
@@ -327,7 +334,7 @@ pub replace_quoted : (t message : List ℕ) (o : Replacement) → Asking t messa
 replace_quoted t message o a = (replaces_right _ _ _ message o a.asks).level_high
 
 module _ (t message : List ℕ) (o : Replacement) (a : Asking t message (Replaces o)) (k : ℕ) (q : k ≡ holder t (text_of message o.original))
-    (s : replace_stands t message o ≡ Stands) where
+    (s : replace_stands t message o ≡ Ok tt) where
   replace_said : ReplacementSpelt (instrument_of t) message o
   replace_said = replaces_spelt _ _ _ message o a.asks
 

@@ -12,7 +12,8 @@ use Rattle.table.specs.Heading.{next_of}
 use Rattle.table.specs.Orders.{book_of}
 use Rattle.table.specs.Market.{is_market_of}
 use Rattle.table.proofs.Theorems.{refused_means_open, open_means_refused}
-use Rattle.calls.specs.declared.Standing.TheVariants.{Stands, Fails}
+use Rattle.std.specs.Prelude.{Ok, Err}
+use Rattle.calls.specs.declared.OrderReason.TheVariants.{NoRecord}
 use Rattle.calls.specs.Checks.{new_stands}
 use Rattle.calls.specs.Submit.{submitted, submit_number, submit_length}
 use Rattle.intake.proofs.Standing.{new_holds, new_refused}
@@ -42,8 +43,8 @@ module _ (q : Instrument) (t message : List ℕ) (room : ℕ) where
 
 -- 103=0 is said of a new order only while 255 orders are open, and while they are none is taken
 module _ (t message : List ℕ) (o : NewOrder) where
-  pub no_record_when_open : new_stands t message o ≡ Fails 0 → count_of is_open (book_of t) (length (book_of t)) ≡ 255
+  pub no_record_when_open : new_stands t message o ≡ Err NoRecord → count_of is_open (book_of t) (length (book_of t)) ≡ 255
   no_record_when_open e = refused_means_open t (new_refused t message o e)
 
-  pub none_taken_when_open : count_of is_open (book_of t) (length (book_of t)) ≡ 255 → new_stands t message o ≡ Stands → ⊥
+  pub none_taken_when_open : count_of is_open (book_of t) (length (book_of t)) ≡ 255 → new_stands t message o ≡ Ok tt → ⊥
   none_taken_when_open n e = omega (arith, (new_holds t message o e).free, open_means_refused t n)

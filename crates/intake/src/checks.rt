@@ -1,13 +1,12 @@
 // Whether a request can be done on a market: the first check that fails gives the reason.
-ghost use Rattle.std.specs.Prelude.{◌≡◌, not, ◌&&◌, ◌+◌, ◌≤◌, ◌<◌, ltb, length};
+ghost use Rattle.std.specs.Prelude.{◌≡◌, not, ◌&&◌, ◌+◌, ◌≤◌, ◌<◌, ltb, length, Ok};
 ghost use Rattle.table.specs.Places.{table_bytes};
 ghost use Rattle.table.specs.Heading.{is_listed};
 ghost use Rattle.table.specs.Orders.{filled};
 ghost use Rattle.table.specs.Facts.{Market};
-ghost use Rattle.calls.specs.declared.Standing.TheVariants.{Stands};
 ghost use Rattle.calls.specs.Checks.{text_of, holder, is_code, new_stands, change_stands, cancel_stands, and_above, replace_stands};
 
-use calls::Standing;
+use calls::{ChangeReason, OrderReason};
 use fix::frame::Part;
 use request::{Cancellation, NewOrder, Replacement};
 use table::book::record_for;
@@ -64,48 +63,59 @@ fn is_stranger(t: &[u8], mpid: u64) -> bool
 }
 
 // A new order: another code, a strange MPID, a ClOrdID in the table, no record that it can take.
-pub fn new_stands(t: &[u8], n: usize, message: &[u8], o: NewOrder) -> Standing
+pub fn new_stands(t: &[u8], n: usize, message: &[u8], o: NewOrder) -> Result<(), OrderReason>
     requires { Market t.now × (n ≡ filled t.now) }
     ensures { result ≡ new_stands t.now message.now o }
 {
     if !is_code(t, text_of(message, o.code)) {
-        return Standing::Fails(1);
+        return Err(OrderReason::OtherCode);
     }
     if is_stranger(t, o.terms.mpid) {
-        return Standing::Fails(99);
+        return Err(OrderReason::Stranger);
     }
     if holder_among(t, n, message, o.id) != 0 {
-        return Standing::Fails(6);
+        return Err(OrderReason::IdInUse);
     }
     if record_for(t, n) == 0 {
-        return Standing::Fails(0);
+        return Err(OrderReason::NoRecord);
     }
-    Standing::Stands
+    Ok(())
 }
 
 // A change of record k, which has its 41: another code or no such order, another side, nothing open, a ClOrdID in the table.
-fn change_stands(t: &[u8], k: usize, code: &[u8], clordid: &[u8], side: u64) -> Standing
+fn change_stands(
+    t: &[u8],
+    k: usize,
+    code: &[u8],
+    clordid: &[u8],
+    side: u64,
+) -> Result<(), ChangeReason>
     requires { Market t.now × (k ≤ filled t.now) }
     ensures { result ≡ change_stands t.now k code.now clordid.now side }
 {
     if !is_code(t, code) | (k == 0) {
-        return Standing::Fails(1);
+        return Err(ChangeReason::NoSuchOrder);
     }
     let o = load(t, k);
     if side != o.side {
-        return Standing::Fails(2);
+        return Err(ChangeReason::Unfit);
     }
     if o.open_of() == 0 {
-        return Standing::Fails(0);
+        return Err(ChangeReason::NothingOpen);
     }
     if holder(t, clordid) != 0 {
-        return Standing::Fails(2);
+        return Err(ChangeReason::Unfit);
     }
-    Standing::Stands
+    Ok(())
 }
 
 // A cancel of record k.
-pub fn cancel_stands(t: &[u8], message: &[u8], k: usize, o: Cancellation) -> Standing
+pub fn cancel_stands(
+    t: &[u8],
+    message: &[u8],
+    k: usize,
+    o: Cancellation,
+) -> Result<(), ChangeReason>
     requires { Market t.now × (k ≡ holder t.now (text_of message.now o.original)) }
     ensures { result ≡ cancel_stands t.now message.now o }
 {
@@ -119,30 +129,33 @@ pub fn cancel_stands(t: &[u8], message: &[u8], k: usize, o: Cancellation) -> Sta
 }
 
 // A quantity above what is executed and decremented of record k.
-fn quantity_stands(t: &[u8], k: usize, quantity: u64) -> Standing
+fn quantity_stands(t: &[u8], k: usize, quantity: u64) -> Result<(), ChangeReason>
     requires { Market t.now × (1 ≤ k) × (k ≤ filled t.now) }
-    ensures { result ≡ and_above t.now k quantity Stands }
+    ensures { result ≡ and_above t.now k quantity (Ok tt) }
 {
     let o = load(t, k);
     if o.executed + o.decremented < quantity {
-        return Standing::Stands;
+        return Ok(());
     }
-    Standing::Fails(2)
+    Err(ChangeReason::Unfit)
 }
 
 // A replacement of record k: its quantity must be above executed + decremented, too.
-pub fn replace_stands(t: &[u8], message: &[u8], k: usize, o: Replacement) -> Standing
+pub fn replace_stands(
+    t: &[u8],
+    message: &[u8],
+    k: usize,
+    o: Replacement,
+) -> Result<(), ChangeReason>
     requires { Market t.now × (k ≡ holder t.now (text_of message.now o.original)) }
     ensures { result ≡ replace_stands t.now message.now o }
 {
-    match change_stands(
+    change_stands(
         t,
         k,
         text_of(message, o.code),
         text_of(message, o.id),
         o.side,
-    ) {
-        Standing::Fails(r) => Standing::Fails(r),
-        Standing::Stands => quantity_stands(t, k, o.quantity),
-    }
+    )?;
+    quantity_stands(t, k, o.quantity)
 }

@@ -12,14 +12,20 @@ ghost use Rattle.calls.specs.Submit.{submitted};
 ghost use Rattle.intake.specs.Intake.{Ready, Left};
 
 use audit::is_market_of;
-use calls::SubmitAnswer;
+use calls::Reply;
 use decimal::Instrument;
 use handle::handle;
+use refusals::Refusal;
 use request::asks::asked;
 use table::heading::{next, port, venue, work};
 
 // One message is submitted to a market that can take it. For callers that know this of their table: it is not looked at again.
-pub fn hear(q: Instrument, table: &mut [u8], message: &[u8], area: &mut [u8]) -> SubmitAnswer
+pub fn hear(
+    q: Instrument,
+    table: &mut [u8],
+    message: &[u8],
+    area: &mut [u8],
+) -> Result<Reply, Refusal>
     requires { Ready q table.old × (1024 ≤ length area.old) }
     ensures { Left (submitted q table.old message.now (length area.old)) area.old result table.new area.new }
 {
@@ -28,22 +34,27 @@ pub fn hear(q: Instrument, table: &mut [u8], message: &[u8], area: &mut [u8]) ->
 }
 
 // One message is submitted, and its report, if it has one, is written at the start of the report area.
-pub fn submit(q: Instrument, table: &mut [u8], message: &[u8], area: &mut [u8]) -> SubmitAnswer
+pub fn submit(
+    q: Instrument,
+    table: &mut [u8],
+    message: &[u8],
+    area: &mut [u8],
+) -> Result<Reply, Refusal>
     ensures value { result ≡ (submitted q table.old message.now (length area.old)).answer }
     ensures table_after { table.new ≡ (submitted q table.old message.now (length area.old)).table }
     ensures area_after { area.new ≡ area_after area.old (submitted q table.old message.now (length area.old)).reports }
 {
     if area.len() < 1024 {
-        return SubmitAnswer::NoRoom;
+        return Err(Refusal::NoRoom);
     }
     if !is_market_of(q, table) {
-        return SubmitAnswer::NoMarket;
+        return Err(Refusal::NoMarket);
     }
     if work(table) != 0 {
-        return SubmitAnswer::InWork;
+        return Err(Refusal::InWork);
     }
     if 999998976 < next(table) {
-        return SubmitAnswer::NumbersSpent;
+        return Err(Refusal::NumbersSpent);
     }
     hear(q, table, message, area)
 }

@@ -1,23 +1,33 @@
 // Messages that are rejected: a report, and the next number goes up; nothing else changes.
-ghost use Rattle.std.specs.Prelude.{◌≡◌, ◌≤◌, length};
+ghost use Rattle.std.specs.Prelude.{◌≡◌, ◌≤◌, length, Ok, Err};
 ghost use Rattle.request.specs.declared.Asked.TheVariants.{Refused as Asked-as-Refused, Enters};
-ghost use Rattle.calls.specs.declared.Standing.TheVariants.{Fails};
 ghost use Rattle.calls.specs.Checks.{new_stands};
 ghost use Rattle.calls.specs.Submit.{faulted, new_rejected, change_rejected};
 ghost use Rattle.intake.specs.Intake.{Asking, Unmet, Left};
 
 use crate::takes::{raise, sent_at};
-use calls::SubmitAnswer;
+use calls::{ChangeReason, OrderReason, Reply, ReplyKind};
 use fix::frame::Part;
 use request::{NewOrder, Refusal};
 use rows::{Faulty, Refused};
 use table::heading::next;
 use ticket::refusals::{tell_faulty, tell_refused, tell_unchanged, unchanged_on};
 
+// A cancel or a replacement as its reject tells of it: its 52, its ClOrdID, its 41, the record that has the 41 or 0, and the value of 434: 1 of a
+// cancel, 2 of a replacement.
+#[derive(Clone, Copy)]
+pub struct Change {
+    pub time: Part,
+    pub id: Part,
+    pub original: Part,
+    pub holder: usize,
+    pub response: u64,
+}
+
 // A message with a fault: a session Reject.
-pub fn fault(table: &mut [u8], message: &[u8], area: &mut [u8], f: Refusal) -> SubmitAnswer
+pub fn fault(table: &mut [u8], message: &[u8], area: &mut [u8], f: Refusal) -> Reply
     requires { Asking table.old message.now (Asked-as-Refused f) × (1024 ≤ length area.old) }
-    ensures { Left (faulted table.old message.now f) area.old result table.new area.new }
+    ensures { Left (faulted table.old message.now f) area.old (Ok result) table.new area.new }
 {
     let n = next(table);
     let kind = sent_at(f.kind);
@@ -30,7 +40,10 @@ pub fn fault(table: &mut [u8], message: &[u8], area: &mut [u8], f: Refusal) -> S
     };
     let len = tell_faulty(area, table, message, n, time, said);
     raise(table);
-    SubmitAnswer::SessionReject(len)
+    Reply {
+        kind: ReplyKind::SessionReject,
+        len,
+    }
 }
 
 // A new order, for a reason (103).
@@ -39,10 +52,10 @@ pub fn reject_new(
     message: &[u8],
     area: &mut [u8],
     o: NewOrder,
-    reason: u64,
-) -> SubmitAnswer
-    requires { Asking table.old message.now (Enters o) × (new_stands table.old message.now o ≡ Fails reason) × (1024 ≤ length area.old) }
-    ensures { Left (new_rejected table.old message.now o reason) area.old result table.new area.new }
+    reason: OrderReason,
+) -> Reply
+    requires { Asking table.old message.now (Enters o) × (new_stands table.old message.now o ≡ Err reason) × (1024 ≤ length area.old) }
+    ensures { Left (new_rejected table.old message.now o reason) area.old (Ok result) table.new area.new }
 {
     let n = next(table);
     let time = sent_at(o.time);
@@ -53,35 +66,38 @@ pub fn reject_new(
         quantity: o.terms.quantity,
         side: o.terms.side,
         code,
-        reason,
+        reason: u64::from(reason),
     };
     let len = tell_refused(area, table, message, n, time, said);
     raise(table);
-    SubmitAnswer::OrderReject(len)
+    Reply {
+        kind: ReplyKind::OrderReject,
+        len,
+    }
 }
 
-// A cancel or a replacement of record k, or of none, for a reason (102); response 1 to a cancel, 2 to a replacement.
+// A cancel or a replacement, for a reason (102).
 pub fn reject_change(
     table: &mut [u8],
     message: &[u8],
     area: &mut [u8],
-    time: Part,
-    id: Part,
-    original: Part,
-    k: usize,
-    reason: u64,
-    response: u64,
-) -> SubmitAnswer
-    requires { Unmet table.old message.now time id original k reason response × (1024 ≤ length area.old) }
-    ensures { Left (change_rejected table.old message.now time id original k reason response)
-        area.old result table.new area.new }
+    change: Change,
+    reason: ChangeReason,
+) -> Reply
+    requires { Unmet table.old message.now change × (1024 ≤ length area.old) }
+    ensures { Left (change_rejected table.old message.now change.time change.id change.original change.holder reason change.response)
+        area.old (Ok result) table.new area.new }
 {
     let n = next(table);
-    let when = sent_at(time);
-    let new_id = sent_at(id);
-    let orig = sent_at(original);
-    let said = unchanged_on(table, k, new_id, orig, reason, response);
+    let when = sent_at(change.time);
+    let new_id = sent_at(change.id);
+    let orig = sent_at(change.original);
+    let number = u64::from(reason);
+    let said = unchanged_on(table, change.holder, new_id, orig, number, change.response);
     let len = tell_unchanged(area, table, message, n, when, said);
     raise(table);
-    SubmitAnswer::ChangeReject(len)
+    Reply {
+        kind: ReplyKind::ChangeReject,
+        len,
+    }
 }

@@ -1,6 +1,6 @@
 // Requests that are taken: the record changes, the report is written from the table after that, the next number goes up, and the
 // best levels in the heading follow: none while an order is in work.
-ghost use Rattle.std.specs.Prelude.{◌≡◌, ◌≤◌, ◌<◌, length};
+ghost use Rattle.std.specs.Prelude.{◌≡◌, ◌≤◌, ◌<◌, length, Ok};
 ghost use Rattle.request.specs.declared.Asked.TheVariants.{Enters, Replaces, Cancels};
 ghost use Rattle.matching.specs.Matching.{open_of};
 ghost use Rattle.table.specs.Places.{table_bytes};
@@ -10,13 +10,12 @@ ghost use Rattle.table.specs.Orders.{filled as Orders·filled};
 ghost use Rattle.table.specs.Best.{put_best, clear_best};
 ghost use Rattle.table.specs.Facts.{Market};
 ghost use Rattle.table.specs.Changes.{numbered};
-ghost use Rattle.calls.specs.declared.Standing.TheVariants.{Stands};
 ghost use Rattle.calls.specs.Checks.{text_of, holder, new_stands, cancel_stands, replace_stands};
 ghost use Rattle.calls.specs.Submit.{sent_at, no_text, cause_of, marks_of, new_order_of, new_taken, replacement_taken, cancel_taken};
 ghost use Rattle.intake.specs.Intake.{order_with, Asking, Left};
 
 use crate::checks::text_of;
-use calls::SubmitAnswer;
+use calls::{Reply, ReplyKind};
 use fix::frame::Part;
 use matching::{Event, Order};
 use report::Place;
@@ -132,15 +131,9 @@ fn write_new(t: &mut [u8], message: &[u8], k: usize, orderid: u64, o: NewOrder, 
 }
 
 // A new order takes a record, with the number of its report as its OrderID, and is in work.
-pub fn enter(
-    table: &mut [u8],
-    n: usize,
-    message: &[u8],
-    area: &mut [u8],
-    o: NewOrder,
-) -> SubmitAnswer
-    requires { Asking table.old message.now (Enters o) × (n ≡ Orders·filled table.old) × (new_stands table.old message.now o ≡ Stands) × (1024 ≤ length area.old) }
-    ensures { Left (new_taken table.old message.now o) area.old result table.new area.new }
+pub fn enter(table: &mut [u8], n: usize, message: &[u8], area: &mut [u8], o: NewOrder) -> Reply
+    requires { Asking table.old message.now (Enters o) × (n ≡ Orders·filled table.old) × (new_stands table.old message.now o ≡ Ok tt) × (1024 ≤ length area.old) }
+    ensures { Left (new_taken table.old message.now o) area.old (Ok result) table.new area.new }
 {
     let number = next(table);
     let k = record_for(table, n);
@@ -152,20 +145,17 @@ pub fn enter(
     };
     let len = tell(area, table, message, number, cause_alone(o.time), e);
     raise_and_work(table, k, message, o.time);
-    SubmitAnswer::Taken(len)
+    Reply {
+        kind: ReplyKind::Taken,
+        len,
+    }
 }
 
 // Record k takes new terms and a new ClOrdID, keeps its place or takes the number of its report for it, and is in work.
-pub fn renew(
-    table: &mut [u8],
-    message: &[u8],
-    area: &mut [u8],
-    o: Replacement,
-    k: usize,
-) -> SubmitAnswer
-    requires { Asking table.old message.now (Replaces o) × (replace_stands table.old message.now o ≡ Stands)
+pub fn renew(table: &mut [u8], message: &[u8], area: &mut [u8], o: Replacement, k: usize) -> Reply
+    requires { Asking table.old message.now (Replaces o) × (replace_stands table.old message.now o ≡ Ok tt)
         × (k ≡ holder table.old (text_of message.now o.original)) × (1024 ≤ length area.old) }
-    ensures { Left (replacement_taken table.old message.now o k) area.old result table.new area.new }
+    ensures { Left (replacement_taken table.old message.now o k) area.old (Ok result) table.new area.new }
 {
     let n = next(table);
     let e = Event::Replaced {
@@ -177,7 +167,10 @@ pub fn renew(
     table::event::replace(table, k, text_of(message, o.id), e);
     let len = tell(area, table, message, n, cause_with(o.time, o.original), e);
     raise_and_work(table, k, message, o.time);
-    SubmitAnswer::Taken(len)
+    Reply {
+        kind: ReplyKind::Taken,
+        len,
+    }
 }
 
 // What is open of record k.
@@ -195,10 +188,10 @@ pub fn withdraw(
     area: &mut [u8],
     o: Cancellation,
     k: usize,
-) -> SubmitAnswer
-    requires { Asking table.old message.now (Cancels o) × (cancel_stands table.old message.now o ≡ Stands)
+) -> Reply
+    requires { Asking table.old message.now (Cancels o) × (cancel_stands table.old message.now o ≡ Ok tt)
         × (k ≡ holder table.old (text_of message.now o.original)) × (1024 ≤ length area.old) }
-    ensures { Left (cancel_taken table.old message.now o k) area.old result table.new area.new }
+    ensures { Left (cancel_taken table.old message.now o k) area.old (Ok result) table.new area.new }
 {
     let n = next(table);
     let e = Event::Withdrawn {
@@ -208,5 +201,8 @@ pub fn withdraw(
     table::event::withdraw(table, k, text_of(message, o.id), e);
     let len = tell(area, table, message, n, cause_with(o.time, o.original), e);
     raise_and_best(table);
-    SubmitAnswer::Taken(len)
+    Reply {
+        kind: ReplyKind::Taken,
+        len,
+    }
 }

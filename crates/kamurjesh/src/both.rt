@@ -3,10 +3,11 @@
 ghost use Rattle.std.specs.Prelude.{◌≡◌, ◌≤◌, length};
 ghost use Rattle.matching.specs.Depth.{total_of, orders_of};
 ghost use Rattle.table.specs.Opened.{opened};
-ghost use Rattle.calls.specs.Open.{open_answer, open_number_of};
+ghost use Rattle.refusals.specs.Refusals.{answer_number};
+ghost use Rattle.calls.specs.Open.{open_answer};
 ghost use Rattle.calls.specs.Told.{area_after};
 ghost use Rattle.calls.specs.Submit.{submitted, submit_number, submit_length};
-ghost use Rattle.calls.specs.Run.{ran, run_number, run_bytes, run_reports, run_steps};
+ghost use Rattle.calls.specs.Run.{ran, run_bytes, run_reports, run_steps};
 ghost use Rattle.market.specs.Depth.{depth_answer, depth_number, has_level, level_is};
 ghost use Rattle.market.specs.Top.{top_answer};
 ghost use Rattle.report.specs.Reports.{read_of};
@@ -16,10 +17,10 @@ ghost use Rattle.feed.specs.Copies.{fed, copy_number, copy_length, copy_next, re
 ghost use Rattle.kamurjesh.specs.Numbers.{level_in, quote_of};
 
 use crate::numbers::{
-    copy_length, copy_next, copy_number, has_level, kind_number, level_in, open_number, orders_of,
-    quote_of, read_number, run_bytes, run_number, run_reports, run_steps, submit_length,
-    submit_number, total_of,
+    copy_length, copy_next, copy_number, has_level, kind_number, level_in, orders_of, quote_of,
+    read_number, run_done, submit_number, total_of,
 };
+use calls::submit_length;
 use decimal::Instrument;
 use feed::{copy, read_copy};
 use kinds::kind_read;
@@ -38,10 +39,10 @@ pub fn open_of(
     mpids: &[u64],
     modes: &[u64],
 ) -> u64
-    ensures { (result ≡ open_number_of (open_answer q table.old venue.now port.now code.now first mpids.now modes.now))
+    ensures { (result ≡ answer_number (open_answer q table.old venue.now port.now code.now first mpids.now modes.now))
         × (table.new ≡ opened q table.old venue.now port.now code.now first mpids.now modes.now) }
 {
-    open_number(open(q, table, venue, port, code, first, mpids, modes))
+    answer_number(&open(q, table, venue, port, code, first, mpids, modes))
 }
 
 // Takes one message: 0, or a refusal; with the length of the report that it writes, 0 where it writes none.
@@ -58,7 +59,7 @@ pub fn submit_of(
         × (area.new ≡ area_after area.old (submitted q table.old message.now (length area.old)).reports) }
 {
     let answer = submit(q, table, message, area);
-    *len = submit_length(answer);
+    *len = submit_length(answer) as u64;
     submit_number(answer)
 }
 
@@ -72,7 +73,7 @@ pub fn run_of(
     reports: &mut u64,
     steps: &mut u64,
 ) -> u64
-    ensures { (result ≡ run_number (ran q table.old (length area.old) budget).answer)
+    ensures { (result ≡ answer_number (ran q table.old (length area.old) budget).answer)
         × (bytes.new ≡ run_bytes (ran q table.old (length area.old) budget).answer)
         × (reports.new ≡ run_reports (ran q table.old (length area.old) budget).answer)
         × (steps.new ≡ run_steps (ran q table.old (length area.old) budget).answer)
@@ -80,10 +81,11 @@ pub fn run_of(
         × (area.new ≡ area_after area.old (ran q table.old (length area.old) budget).reports) }
 {
     let answer = run(q, table, area, budget);
-    *bytes = run_bytes(answer);
-    *reports = run_reports(answer);
-    *steps = run_steps(answer);
-    run_number(answer)
+    let done = run_done(answer);
+    *bytes = done.bytes as u64;
+    *reports = done.reports;
+    *steps = done.steps;
+    answer_number(&answer)
 }
 
 // What Depth or Top answers: 0 with whether there is a level, its yield or price, total and number of orders; or a refusal.

@@ -1,16 +1,17 @@
-// The calls of the market as programs in C make them (include/kamurjesh.h), which kamurjesh_c exports. Each call of bonds, and the call of
-// equities beside it, is the one that both has for either; both writes each value of an answer through a pointer, 0 where it has none. Load
-// is in loads, and the calls that keep a market overnight are in images.
+// The calls of the market as programs in C make them (include/kamurjesh.h), which kamurjesh_c exports. Each call stands twice, of bonds and of
+// equities, because C has a name for either: both are the one call of module both, told which. It writes each value of an answer through a
+// pointer, 0 where it has none. Load is in loads, and the calls that keep a market overnight are in images.
 #![tactic(auto)]
 
 ghost use Rattle.std.specs.Prelude.{◌≡◌, length};
 ghost use Rattle.decimal.specs.declared.Instrument.TheVariants.{Bonds, Equities};
 ghost use Rattle.matching.specs.Depth.{total_of, orders_of};
 ghost use Rattle.table.specs.Opened.{opened};
-ghost use Rattle.calls.specs.Open.{open_answer, open_number_of};
+ghost use Rattle.refusals.specs.Refusals.{answer_number};
+ghost use Rattle.calls.specs.Open.{open_answer};
 ghost use Rattle.calls.specs.Told.{area_after};
 ghost use Rattle.calls.specs.Submit.{submitted, submit_number, submit_length};
-ghost use Rattle.calls.specs.Run.{ran, run_number, run_bytes, run_reports, run_steps};
+ghost use Rattle.calls.specs.Run.{ran, run_bytes, run_reports, run_steps};
 ghost use Rattle.load.specs.Load.{loaded, load_number, load_place, load_finished, load_bytes, load_reports};
 ghost use Rattle.market.specs.Depth.{depth_answer, depth_number, has_level};
 ghost use Rattle.market.specs.Top.{top_answer};
@@ -41,7 +42,7 @@ pub fn kamurjesh_open(
     mpids: &[u64],
     modes: &[u64],
 ) -> u64
-    ensures { (result ≡ open_number_of (open_answer Bonds table.old venue.now port.now code.now first mpids.now modes.now))
+    ensures { (result ≡ answer_number (open_answer Bonds table.old venue.now port.now code.now first mpids.now modes.now))
         × (table.new ≡ opened Bonds table.old venue.now port.now code.now first mpids.now modes.now) }
 {
     open_of(
@@ -66,7 +67,7 @@ pub fn kamurjesh_equities_open(
     mpids: &[u64],
     modes: &[u64],
 ) -> u64
-    ensures { (result ≡ open_number_of (open_answer Equities table.old venue.now port.now symbol.now first mpids.now modes.now))
+    ensures { (result ≡ answer_number (open_answer Equities table.old venue.now port.now symbol.now first mpids.now modes.now))
         × (table.new ≡ opened Equities table.old venue.now port.now symbol.now first mpids.now modes.now) }
 {
     open_of(
@@ -115,7 +116,7 @@ pub fn kamurjesh_run(
     reports: &mut u64,
     steps: &mut u64,
 ) -> u64
-    ensures { (result ≡ run_number (ran Bonds table.old (length area.old) budget).answer)
+    ensures { (result ≡ answer_number (ran Bonds table.old (length area.old) budget).answer)
         × (bytes.new ≡ run_bytes (ran Bonds table.old (length area.old) budget).answer)
         × (reports.new ≡ run_reports (ran Bonds table.old (length area.old) budget).answer)
         × (steps.new ≡ run_steps (ran Bonds table.old (length area.old) budget).answer)
@@ -142,7 +143,7 @@ pub fn kamurjesh_equities_run(
     reports: &mut u64,
     steps: &mut u64,
 ) -> u64
-    ensures { (result ≡ run_number (ran Equities table.old (length area.old) budget).answer)
+    ensures { (result ≡ answer_number (ran Equities table.old (length area.old) budget).answer)
         × (bytes.new ≡ run_bytes (ran Equities table.old (length area.old) budget).answer)
         × (reports.new ≡ run_reports (ran Equities table.old (length area.old) budget).answer)
         × (steps.new ≡ run_steps (ran Equities table.old (length area.old) budget).answer)

@@ -5,7 +5,9 @@ ghost use Rattle.calls.specs.Told.{area_after};
 ghost use Rattle.load.specs.Load.{loaded, stop_number, load_number, load_place, load_finished, load_bytes, load_reports};
 
 use decimal::Instrument;
-use load::{LoadAnswer, Stop, load};
+use load::go::Halt;
+use load::{LoadProgress, Stop, load};
+use refusals::Refusal;
 
 // The paper's number of why a load took no more messages.
 pub fn stop_number(stop: Stop) -> u64
@@ -19,52 +21,33 @@ pub fn stop_number(stop: Stop) -> u64
     }
 }
 
-// Load's answer in numbers, each 0 where it has none.
-#[derive(Clone, Copy)]
-pub struct Figures {
-    pub number: u64,
-    pub place: u64,
-    pub finished: u64,
-    pub bytes: u64,
-    pub reports: u64,
+// The paper's number of Load's answer: of why it stopped, or of its refusal.
+fn load_number(answer: Result<LoadProgress, Refusal>) -> u64
+    ensures { result ≡ load_number answer }
+{
+    match answer {
+        Ok(loading) => stop_number(loading.halt.stop),
+        Err(refusal) => u64::from(refusal),
+    }
 }
 
-// A refusal of the whole call: its number alone.
-pub fn refused(number: u64) -> Figures
-    ensures { (result.number ≡ number) × (result.place ≡ 0) × (result.finished ≡ 0) × (result.bytes ≡ 0) × (result.reports ≡ 0) }
-{
-    Figures {
-        number,
+// What a load that is refused comes to.
+const NOTHING_LOADED: LoadProgress = LoadProgress {
+    halt: Halt {
+        stop: Stop::Done,
         place: 0,
         finished: 0,
         bytes: 0,
-        reports: 0,
-    }
-}
+    },
+    reports: 0,
+};
 
-// The figures of Load's answer.
-pub fn figures_of(answer: LoadAnswer) -> Figures
-    ensures { (result.number ≡ load_number answer) × (result.place ≡ load_place answer) × (result.finished ≡ load_finished answer)
-        × (result.bytes ≡ load_bytes answer) × (result.reports ≡ load_reports answer) }
+// How far Load went: nowhere where it is refused.
+fn load_done(answer: Result<LoadProgress, Refusal>) -> LoadProgress
+    ensures { (result.halt.place ≡ load_place answer) × (result.halt.finished ≡ load_finished answer)
+        × (result.halt.bytes ≡ load_bytes answer) × (result.reports ≡ load_reports answer) }
 {
-    match answer {
-        LoadAnswer::NoRoom => refused(1),
-        LoadAnswer::NoMarket => refused(2),
-        LoadAnswer::InWork => refused(3),
-        LoadAnswer::Loaded {
-            stop,
-            place,
-            finished,
-            bytes,
-            reports,
-        } => Figures {
-            number: stop_number(stop),
-            place: place as u64,
-            finished,
-            bytes: bytes as u64,
-            reports,
-        },
-    }
+    answer.unwrap_or(NOTHING_LOADED)
 }
 
 // Takes the messages of a buffer: 0, or why it stopped, with the place of the first message not submitted, the messages finished, and
@@ -87,10 +70,11 @@ pub fn load_of(
         × (table.new ≡ (loaded q table.old buffer.now (length area.old)).table)
         × (area.new ≡ area_after area.old (loaded q table.old buffer.now (length area.old)).reports) }
 {
-    let says = figures_of(load(q, table, buffer, area));
-    *place = says.place;
-    *finished = says.finished;
-    *bytes = says.bytes;
-    *reports = says.reports;
-    says.number
+    let answer = load(q, table, buffer, area);
+    let went = load_done(answer);
+    *place = went.halt.place as u64;
+    *finished = went.halt.finished;
+    *bytes = went.halt.bytes as u64;
+    *reports = went.reports;
+    load_number(answer)
 }

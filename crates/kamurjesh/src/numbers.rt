@@ -2,14 +2,13 @@
 ghost use Rattle.std.specs.Prelude.{◌≡◌, ◌≤◌};
 ghost use Rattle.matching.specs.Depth.{total_of, orders_of};
 ghost use Rattle.market.specs.Depth.{has_level, level_is};
-ghost use Rattle.calls.specs.Open.{open_number_of};
-ghost use Rattle.calls.specs.Submit.{submit_number, submit_length};
-ghost use Rattle.calls.specs.Run.{run_number, run_bytes, run_reports, run_steps};
+ghost use Rattle.calls.specs.Submit.{submit_number};
+ghost use Rattle.calls.specs.Run.{run_bytes, run_reports, run_steps};
 ghost use Rattle.calls.specs.Read.{read_number, kind_number};
 ghost use Rattle.feed.specs.Copies.{copy_number, copy_length, copy_next};
 ghost use Rattle.kamurjesh.specs.Numbers.{level_in, signed_of, quote_of, is_there, start_of, len_of};
 
-use calls::{OpenAnswer, RunAnswer, SubmitAnswer};
+use calls::{Progress, Reply};
 use decimal::Instrument;
 use feed::Answer;
 use fix::frame::Part;
@@ -17,108 +16,25 @@ use matching::Level;
 use refusals::{Refusal, answer_number};
 use report::Kind;
 
-// The paper's number of Open's answer.
-pub fn open_number(answer: OpenAnswer) -> u64
-    ensures { result ≡ open_number_of answer }
-{
-    match answer {
-        OpenAnswer::Opened => 0,
-        OpenAnswer::BadSetting => 9,
-    }
-}
-
-// The paper's number of Submit's answer.
-pub fn submit_number(answer: SubmitAnswer) -> u64
+// The paper's number of Submit's answer: of its report, or of its refusal.
+pub fn submit_number(answer: Result<Reply, Refusal>) -> u64
     ensures { result ≡ submit_number answer }
 {
     match answer {
-        SubmitAnswer::NoRoom => 1,
-        SubmitAnswer::NoMarket => 2,
-        SubmitAnswer::InWork => 3,
-        SubmitAnswer::NumbersSpent => 4,
-        SubmitAnswer::Garbled => 5,
-        SubmitAnswer::SessionReject(_) => 6,
-        SubmitAnswer::OrderReject(_) => 7,
-        SubmitAnswer::ChangeReject(_) => 8,
-        SubmitAnswer::Taken(_) => 0,
+        Ok(reply) => u64::from(reply.kind),
+        Err(refusal) => u64::from(refusal),
     }
 }
 
-// The length of the report that Submit wrote.
-pub fn submit_length(answer: SubmitAnswer) -> u64
-    ensures { result ≡ submit_length answer }
+// How far Run went: nowhere where it is refused.
+pub fn run_done(answer: Result<Progress, Refusal>) -> Progress
+    ensures { (result.bytes ≡ run_bytes answer) × (result.reports ≡ run_reports answer) × (result.steps ≡ run_steps answer) }
 {
-    match answer {
-        SubmitAnswer::NoRoom => 0,
-        SubmitAnswer::NoMarket => 0,
-        SubmitAnswer::InWork => 0,
-        SubmitAnswer::NumbersSpent => 0,
-        SubmitAnswer::Garbled => 0,
-        SubmitAnswer::SessionReject(n) => n as u64,
-        SubmitAnswer::OrderReject(n) => n as u64,
-        SubmitAnswer::ChangeReject(n) => n as u64,
-        SubmitAnswer::Taken(n) => n as u64,
-    }
-}
-
-// The paper's number of Run's answer.
-pub fn run_number(answer: RunAnswer) -> u64
-    ensures { result ≡ run_number answer }
-{
-    match answer {
-        RunAnswer::NoRoom => 1,
-        RunAnswer::NoMarket => 2,
-        RunAnswer::Ran {
-            bytes: _,
-            reports: _,
-            steps: _,
-        } => 0,
-    }
-}
-
-// How many bytes Run wrote.
-pub fn run_bytes(answer: RunAnswer) -> u64
-    ensures { result ≡ run_bytes answer }
-{
-    match answer {
-        RunAnswer::NoRoom => 0,
-        RunAnswer::NoMarket => 0,
-        RunAnswer::Ran {
-            bytes,
-            reports: _,
-            steps: _,
-        } => bytes as u64,
-    }
-}
-
-// How many reports that is.
-pub fn run_reports(answer: RunAnswer) -> u64
-    ensures { result ≡ run_reports answer }
-{
-    match answer {
-        RunAnswer::NoRoom => 0,
-        RunAnswer::NoMarket => 0,
-        RunAnswer::Ran {
-            bytes: _,
-            reports,
-            steps: _,
-        } => reports,
-    }
-}
-
-// How many steps Run took.
-pub fn run_steps(answer: RunAnswer) -> u64
-    ensures { result ≡ run_steps answer }
-{
-    match answer {
-        RunAnswer::NoRoom => 0,
-        RunAnswer::NoMarket => 0,
-        RunAnswer::Ran {
-            bytes: _,
-            reports: _,
-            steps,
-        } => steps,
-    }
+    answer.unwrap_or(Progress {
+        bytes: 0,
+        reports: 0,
+        steps: 0,
+    })
 }
 
 // The level that Depth's answer has, or none.

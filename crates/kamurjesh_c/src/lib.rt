@@ -6,10 +6,11 @@ ghost use Rattle.std.specs.Prelude.{◌≡◌, length};
 ghost use Rattle.decimal.specs.declared.Instrument.TheVariants.{Bonds, Equities};
 ghost use Rattle.matching.specs.Depth.{total_of, orders_of};
 ghost use Rattle.table.specs.Opened.{opened};
-ghost use Rattle.calls.specs.Open.{open_answer, open_number_of};
+ghost use Rattle.refusals.specs.Refusals.{answer_number};
+ghost use Rattle.calls.specs.Open.{open_answer};
 ghost use Rattle.calls.specs.Told.{area_after};
 ghost use Rattle.calls.specs.Submit.{submitted, submit_number, submit_length};
-ghost use Rattle.calls.specs.Run.{ran, run_number, run_bytes, run_reports, run_steps};
+ghost use Rattle.calls.specs.Run.{ran, run_bytes, run_reports, run_steps};
 ghost use Rattle.load.specs.Load.{loaded, load_number, load_place, load_finished, load_bytes, load_reports};
 ghost use Rattle.market.specs.Depth.{depth_answer, depth_number, has_level};
 ghost use Rattle.market.specs.Top.{top_answer};
@@ -32,7 +33,7 @@ pub extern "C" fn kamurjesh_open(
     mpids: &[u64],
     modes: &[u64],
 ) -> u64
-    ensures { (result ≡ open_number_of (open_answer Bonds table.old venue.now port.now code.now first mpids.now modes.now))
+    ensures { (result ≡ answer_number (open_answer Bonds table.old venue.now port.now code.now first mpids.now modes.now))
         × (table.new ≡ opened Bonds table.old venue.now port.now code.now first mpids.now modes.now) }
 {
     kamurjesh::kamurjesh_open(table, venue, port, code, first, mpids, modes)
@@ -49,7 +50,7 @@ pub extern "C" fn kamurjesh_equities_open(
     mpids: &[u64],
     modes: &[u64],
 ) -> u64
-    ensures { (result ≡ open_number_of (open_answer Equities table.old venue.now port.now symbol.now first mpids.now modes.now))
+    ensures { (result ≡ answer_number (open_answer Equities table.old venue.now port.now symbol.now first mpids.now modes.now))
         × (table.new ≡ opened Equities table.old venue.now port.now symbol.now first mpids.now modes.now) }
 {
     kamurjesh::kamurjesh_equities_open(table, venue, port, symbol, first, mpids, modes)
@@ -97,7 +98,7 @@ pub extern "C" fn kamurjesh_run(
     reports: &mut u64,
     steps: &mut u64,
 ) -> u64
-    ensures { (result ≡ run_number (ran Bonds table.old (length area.old) budget).answer)
+    ensures { (result ≡ answer_number (ran Bonds table.old (length area.old) budget).answer)
         × (bytes.new ≡ run_bytes (ran Bonds table.old (length area.old) budget).answer)
         × (reports.new ≡ run_reports (ran Bonds table.old (length area.old) budget).answer)
         × (steps.new ≡ run_steps (ran Bonds table.old (length area.old) budget).answer)
@@ -117,7 +118,7 @@ pub extern "C" fn kamurjesh_equities_run(
     reports: &mut u64,
     steps: &mut u64,
 ) -> u64
-    ensures { (result ≡ run_number (ran Equities table.old (length area.old) budget).answer)
+    ensures { (result ≡ answer_number (ran Equities table.old (length area.old) budget).answer)
         × (bytes.new ≡ run_bytes (ran Equities table.old (length area.old) budget).answer)
         × (reports.new ≡ run_reports (ran Equities table.old (length area.old) budget).answer)
         × (steps.new ≡ run_steps (ran Equities table.old (length area.old) budget).answer)

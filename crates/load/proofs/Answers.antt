@@ -17,8 +17,10 @@ use Rattle.table.specs.Facts.{Market}
 use Rattle.table.proofs.Instruments.{of_market}
 use Rattle.table.proofs.Facts.{market_facts}
 use Rattle.calls.specs.Told.{joined, area_after}
-use Rattle.load.specs.declared.LoadAnswer.{LoadAnswer}
-use Rattle.load.specs.declared.LoadAnswer.TheVariants as answer
+use Rattle.std.specs.Prelude.{Result, Ok, Err}
+use Rattle.refusals.specs.declared.Refusal.{Refusal}
+use Rattle.refusals.specs.declared.Refusal.TheVariants.{NoRoom, NoMarket, InWork}
+use Rattle.load.specs.declared.LoadProgress.{LoadProgress}
 use Rattle.load.specs.declared.go.Halt.{Halt}
 use Rattle.load.specs.Buffer.{lying_in}
 use Rattle.load.specs.Load.{Loaded, unmoved, done, loads, loaded}
@@ -27,9 +29,9 @@ use Rattle.load.proofs.Loading.{loads_kept, loads_next}
 
 -- the four cases of the call
 pub data Opens (kind : Instrument) (t buffer : List ℕ) (room : ℕ) : Type 0 where
-  narrow : room < 1024 → loaded kind t buffer room ≡ unmoved t answer.NoRoom → Opens kind t buffer room
-  strange : 1024 ≤ room → is_market_of kind t ≡ false → loaded kind t buffer room ≡ unmoved t answer.NoMarket → Opens kind t buffer room
-  busy : 1024 ≤ room → is_market_of kind t ≡ true → (work_of t ≡ 0 → ⊥) → loaded kind t buffer room ≡ unmoved t answer.InWork → Opens kind t buffer room
+  narrow : room < 1024 → loaded kind t buffer room ≡ unmoved t (Err NoRoom) → Opens kind t buffer room
+  strange : 1024 ≤ room → is_market_of kind t ≡ false → loaded kind t buffer room ≡ unmoved t (Err NoMarket) → Opens kind t buffer room
+  busy : 1024 ≤ room → is_market_of kind t ≡ true → (work_of t ≡ 0 → ⊥) → loaded kind t buffer room ≡ unmoved t (Err InWork) → Opens kind t buffer room
   went : 1024 ≤ room → is_market_of kind t ≡ true → work_of t ≡ 0 → loaded kind t buffer room ≡ done (loads kind t (lying_in buffer) room) → Opens kind t buffer room
 
 module _ (kind : Instrument) where
@@ -44,24 +46,24 @@ module _ (kind : Instrument) where
       went a m (eqb-true (work_of t) 0 (not-false _ z)) (rw (x, y, z)))))
 
   -- the answer, the table and the report area afterwards are those of s
-  pub record Leaves (s : Loaded) (area : List ℕ) (r : LoadAnswer) (after written : List ℕ) : Type 0 where
+  pub record Leaves (s : Loaded) (area : List ℕ) (r : Result LoadProgress Refusal) (after written : List ℕ) : Type 0 where
     pub answers : r ≡ s.answer
     pub table_is : after ≡ s.table
     pub area_is : written ≡ area_after area s.reports
 
-  unmoved_leaves : (t area : List ℕ) (a : LoadAnswer) → Leaves (unmoved t a) area a t area
+  unmoved_leaves : (t area : List ℕ) (a : Result LoadProgress Refusal) → Leaves (unmoved t a) area a t area
   unfolding joined put
   unmoved_leaves t area a = record { answers = refl; table_is = refl; area_is = refl }
 
   module _ (t buffer area : List ℕ) where
-    pub no_room : length area < 1024 → Leaves (loaded kind t buffer (length area)) area answer.NoRoom t area
+    pub no_room : length area < 1024 → Leaves (loaded kind t buffer (length area)) area (Err NoRoom) t area
     unfolding loaded
-    no_room h = rw (lt-ltb (length area) 1024 h) (unmoved_leaves t area answer.NoRoom)
+    no_room h = rw (lt-ltb (length area) 1024 h) (unmoved_leaves t area (Err NoRoom))
 
     module _ (room : 1024 ≤ length area) (f : Bool) (p : f ≡ is_market_of kind t) where
-      pub no_market : not f ≡ true → Leaves (loaded kind t buffer (length area)) area answer.NoMarket t area
+      pub no_market : not f ≡ true → Leaves (loaded kind t buffer (length area)) area (Err NoMarket) t area
       unfolding loaded
-      no_market h = rw (le-ltb (length area) 1024 room, ← p, h) (unmoved_leaves t area answer.NoMarket)
+      no_market h = rw (le-ltb (length area) 1024 room, ← p, h) (unmoved_leaves t area (Err NoMarket))
 
       module _ (m : not f ≡ false) where
         is_market_lem : is_market_of kind t ≡ true
@@ -74,9 +76,9 @@ module _ (kind : Instrument) where
         market_long = market_is.long
 
         module _ (w : ℕ) (q : w ≡ work_of t) where
-          pub in_work : (w ≡ 0 → ⊥) → Leaves (loaded kind t buffer (length area)) area answer.InWork t area
+          pub in_work : (w ≡ 0 → ⊥) → Leaves (loaded kind t buffer (length area)) area (Err InWork) t area
           unfolding loaded
-          in_work h = rw (le-ltb (length area) 1024 room, ← p, m, ← q, ne_eqb w 0 h) (unmoved_leaves t area answer.InWork)
+          in_work h = rw (le-ltb (length area) 1024 room, ← p, m, ← q, ne_eqb w 0 h) (unmoved_leaves t area (Err InWork))
 
           module _ (z : w ≡ 0) where
             pub idle_is : Idle kind t
@@ -96,7 +98,7 @@ module _ (kind : Instrument) where
                 pub numbers_up : n ≤ k
                 numbers_up = omega (arith, numbers)
 
-                pub loaded_leaves : Leaves (loaded kind t buffer (length area)) area (answer.Loaded h.stop h.place h.finished h.bytes (k - n)) u written
+                pub loaded_leaves : Leaves (loaded kind t buffer (length area)) area (Ok (record { halt = h; reports = k - n })) u written
                 unfolding loaded
                 loaded_leaves =
                     let l = loads kind t (lying_in buffer) (length area) in

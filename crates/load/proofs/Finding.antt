@@ -11,6 +11,7 @@ use borrow.Author.Tests.{eq-eqb, ne_eqb, eqb-true, eqb-false, lt-leb, le-leb, le
 use Rattle.octets.specs.Octets.{part_at, same_bytes}
 use Rattle.octets.proofs.Bools.{split, not_both, both_l, both_r}
 use Rattle.octets.proofs.Parts.{part_rest}
+use Rattle.std.specs.Prelude.{Option, Some, None}
 use Rattle.decimal.specs.declared.Said.{Said}
 use Rattle.decimal.specs.declared.Said.TheVariants.{Value, Wrong}
 use Rattle.decimal.specs.Reading.{is_digit, digit_run, number, is_number, num_of}
@@ -22,18 +23,18 @@ use Rattle.load.specs.Turn.{length_found}
 -- ---- no message: a test that fails
 
 module _ (s : List ℕ) where
-  none_found : starts_message s ≡ false → 0 ≡ length_found s
+  none_found : starts_message s ≡ false → None ≡ length_found s
   unfolding length_found
   none_found h = rw h
 
-  says_not : says_length s ≡ false → 0 ≡ length_found s
+  says_not : says_length s ≡ false → None ≡ length_found s
   unfolding starts_message
   says_not h = none_found (rw h)
 
 -- ---- the reading, test by test
 
 module _ (s a : List ℕ) (ea : a ≡ part_at s 0 12) (f : Bool) (ef : f ≡ same_bytes a beginning) where
-  pub no_beginning : not f ≡ true → 0 ≡ length_found s
+  pub no_beginning : not f ≡ true → None ≡ length_found s
   unfolding says_length
   no_beginning h =
       let z : same_bytes (part_at s 0 12) beginning ≡ false = rw (← ea) (sym ef ∙ not-true f h) in
@@ -50,7 +51,7 @@ module _ (s a : List ℕ) (ea : a ≡ part_at s 0 12) (f : Bool) (ef : f ≡ sam
     unfolding nine_of
     nine_is = rw (← run_is) (sym ed)
 
-    pub no_number : x ≡ Wrong → 0 ≡ length_found s
+    pub no_number : x ≡ Wrong → None ≡ length_found s
     unfolding says_length num_of
     no_number w =
         let z : is_number 4 (nine_of s) ≡ false =
@@ -94,7 +95,7 @@ module _ (s a : List ℕ) (ea : a ≡ part_at s 0 12) (f : Bool) (ef : f ≡ sam
       number_few = few
 
       module _ (c : ℕ) (ec : c ≡ get_or s (12 + k) 0) where
-        pub no_soh : (c ≡ 1 → ⊥) → 0 ≡ length_found s
+        pub no_soh : (c ≡ 1 → ⊥) → None ≡ length_found s
         unfolding says_length
         no_soh g =
             let z : eqb (get_or s (12 + length (nine_of s)) 0) 1 ≡ false = rw (nine_is, count, ← ec) (ne_eqb c 1 g) in
@@ -112,11 +113,11 @@ module _ (s a : List ℕ) (ea : a ≡ part_at s 0 12) (f : Bool) (ef : f ≡ sam
           unfolding length_said
           said_is = rw (nine_is, count, says)
 
-          pub too_long : length s < 12 + k + 1 + n + 7 → 0 ≡ length_found s
+          pub too_long : length s < 12 + k + 1 + n + 7 → None ≡ length_found s
           unfolding starts_message
           too_long l = none_found s (rw (says_so, said_is, lt-leb (12 + k + 1 + n + 7) (length s) l))
 
-          pub found : 12 + k + 1 + n + 7 ≤ length s → 12 + k + 1 + n + 7 ≡ length_found s
+          pub found : 12 + k + 1 + n + 7 ≤ length s → Some (12 + k + 1 + n + 7) ≡ length_found s
           unfolding length_found starts_message
           found l = rw (says_so, said_is, le-leb (12 + k + 1 + n + 7) (length s) l)
 
@@ -124,24 +125,28 @@ module _ (s a : List ℕ) (ea : a ≡ part_at s 0 12) (f : Bool) (ef : f ≡ sam
 pub lent_from : (t : List ℕ) (p : ℕ) → take (length t - p) (drop p t) ≡ drop p t
 lent_from t p = take_all (length t - p) (drop p t) (rw (length-drop p t) (omega arith))
 
-pub found_at : (t : List ℕ) (p r : ℕ) → r ≡ length_found (take (length t - p) (drop p t)) → r ≡ length_found (drop p t)
+pub found_at : (t : List ℕ) (p : ℕ) (r : Option ℕ) → r ≡ length_found (take (length t - p) (drop p t)) → r ≡ length_found (drop p t)
 found_at t p r e = e ∙ ap length_found (lent_from t p)
 
 -- ---- what was found
 
-module _ (s : List ℕ) (n : ℕ) (e : n ≡ length_found s) where
-  pub found_none : n ≡ 0 → starts_message s ≡ false
-  unfolding length_found length_said
-  found_none z = split (starts_message s) (λ y. let q = rw y at e in absurd (omega arith)) (λ y. y)
+module _ (s : List ℕ) (x : Option ℕ) (e : x ≡ length_found s) where
+  pub found_none : x ≡ None → starts_message s ≡ false
+  unfolding length_found
+  found_none z =
+      split (starts_message s)
+      (λ y. let q : Some (length_said s) ≡ None = sym (rw y at e) ∙ z in let w : ◌≡◌ {A = ℕ} 0 1 = cc in absurd (omega arith)) (λ y. y)
 
-  module _ (g : n ≡ 0 → ⊥) where
+  module _ (n : ℕ) (g : x ≡ Some n) where
     pub found_starts : starts_message s ≡ true
     unfolding length_found
-    found_starts = split (starts_message s) (λ y. y) (λ y. absurd (g (rw y at e)))
+    found_starts =
+        split (starts_message s) (λ y. y)
+        (λ y. let q : None ≡ Some n = sym (rw y at e) ∙ g in let w : ◌≡◌ {A = ℕ} 0 1 = cc in absurd (omega arith))
 
     pub found_said : n ≡ length_said s
     unfolding length_found
-    found_said = rw found_starts at e
+    found_said = let q : Some (length_said s) ≡ Some n = sym (rw found_starts at e) ∙ g in cc
 
 -- ---- what lies in a buffer
 

@@ -15,12 +15,12 @@ use Rattle.calls.specs.Told.{joined, room_asked}
 use Rattle.intake.specs.Intake.{Ready}
 use Rattle.calls.specs.Submit.{Submitted, submit_number}
 use Rattle.turns.proofs.Joins.{joined_append}
+use Rattle.load.specs.declared.Stop.{Stop}
 use Rattle.load.specs.declared.Stop.TheVariants as stop
 use Rattle.load.specs.Buffer.{starts_message, length_said, Lying, End, Unreadable, Then, lying_in}
 use Rattle.load.specs.Load.{taken, halted, broken, one_more, loads}
 use Rattle.load.specs.Resumes.{left_in}
-use Rattle.load.specs.declared.Stop.{Stop}
-use Rattle.load.specs.declared.go.Next.{Next}
+use Rattle.std.specs.Prelude.{Option, Some, None, Result, Ok, Err, is_ok}
 use Rattle.load.specs.Turn.{length_found, Idle, next_for}
 use Rattle.load.proofs.Finding.{found_none, found_starts, found_said, lying_then, lying_not, lying_end}
 use Rattle.load.proofs.Taking.{taken_number, submit_spent, taken_kept, taken_next, taken_fits}
@@ -143,11 +143,11 @@ module _ (kind : Instrument) where
 
 -- the five cases at once
 pub data Nexts (t s : List ℕ) (free : ℕ) : Type 0 where
-  at_end : length s ≡ 0 → next_for t s free ≡ Next.Stops stop.Done → Nexts t s free
-  at_narrow : 0 < length s → free < 1024 → next_for t s free ≡ Next.Stops stop.Full → Nexts t s free
-  at_unread : 0 < length s → 1024 ≤ free → starts_message s ≡ false → next_for t s free ≡ Next.Stops stop.Unread → Nexts t s free
-  at_spent : 1024 ≤ free → starts_message s ≡ true → 999998976 < next_of t → next_for t s free ≡ Next.Stops stop.Spent → Nexts t s free
-  at_message : 1024 ≤ free → starts_message s ≡ true → next_of t ≤ 999998976 → next_for t s free ≡ Next.Takes (length_said s) → Nexts t s free
+  at_end : length s ≡ 0 → next_for t s free ≡ Err stop.Done → Nexts t s free
+  at_narrow : 0 < length s → free < 1024 → next_for t s free ≡ Err stop.Full → Nexts t s free
+  at_unread : 0 < length s → 1024 ≤ free → starts_message s ≡ false → next_for t s free ≡ Err stop.Unread → Nexts t s free
+  at_spent : 1024 ≤ free → starts_message s ≡ true → 999998976 < next_of t → next_for t s free ≡ Err stop.Spent → Nexts t s free
+  at_message : 1024 ≤ free → starts_message s ≡ true → next_of t ≤ 999998976 → next_for t s free ≡ Ok (length_said s) → Nexts t s free
 
 nexts : (t s : List ℕ) (free : ℕ) → Nexts t s free
 unfolding next_for
@@ -168,7 +168,7 @@ module _ (t buffer : List ℕ) (place free : ℕ) (h : place ≤ length buffer) 
   abbrev rest : List ℕ
   rest = drop place buffer
 
-  pub next_done : place ≡ length buffer → Next.Stops stop.Done ≡ next_for t (drop place buffer) free
+  pub next_done : place ≡ length buffer → Err stop.Done ≡ next_for t (drop place buffer) free
   unfolding next_for
   next_done e = let z : length rest ≡ 0 = length-drop place buffer ∙ omega arith in rw (eq-eqb (length rest) 0 z)
 
@@ -176,23 +176,23 @@ module _ (t buffer : List ℕ) (place free : ℕ) (h : place ≤ length buffer) 
     some : eqb (length rest) 0 ≡ false
     some = ne_eqb (length rest) 0 (λ e. let z = sym (length-drop place buffer) ∙ e in g (omega arith))
 
-    pub next_full : free < 1024 → Next.Stops stop.Full ≡ next_for t (drop place buffer) free
+    pub next_full : free < 1024 → Err stop.Full ≡ next_for t (drop place buffer) free
     unfolding next_for
     next_full l = rw (some, lt-ltb free 1024 l)
 
-    module _ (l : 1024 ≤ free) (n : ℕ) (e : n ≡ length_found (drop place buffer)) where
-      pub next_unread : n ≡ 0 → Next.Stops stop.Unread ≡ next_for t (drop place buffer) free
+    module _ (l : 1024 ≤ free) (x : Option ℕ) (e : x ≡ length_found (drop place buffer)) where
+      pub next_unread : x ≡ None → Err stop.Unread ≡ next_for t (drop place buffer) free
       unfolding next_for
-      next_unread z = rw (some, le-ltb free 1024 l, found_none rest n e z)
+      next_unread z = rw (some, le-ltb free 1024 l, found_none rest x e z)
 
-      module _ (z : n ≡ 0 → ⊥) (k : ℕ) (p : k ≡ next_of t) where
-        pub next_spent : 999998976 < k → Next.Stops stop.Spent ≡ next_for t (drop place buffer) free
+      module _ (n : ℕ) (z : x ≡ Some n) (k : ℕ) (p : k ≡ next_of t) where
+        pub next_spent : 999998976 < k → Err stop.Spent ≡ next_for t (drop place buffer) free
         unfolding next_for
-        next_spent s = rw (some, le-ltb free 1024 l, found_starts rest n e z, ← p, lt-ltb 999998976 k s)
+        next_spent s = rw (some, le-ltb free 1024 l, found_starts rest x e n z, ← p, lt-ltb 999998976 k s)
 
-        pub next_takes : k ≤ 999998976 → Next.Takes n ≡ next_for t (drop place buffer) free
+        pub next_takes : k ≤ 999998976 → Ok n ≡ next_for t (drop place buffer) free
         unfolding next_for
-        next_takes s = rw (some, le-ltb free 1024 l, found_starts rest n e z, ← p, le-ltb 999998976 k s, found_said rest n e z)
+        next_takes s = rw (some, le-ltb free 1024 l, found_starts rest x e n z, ← p, le-ltb 999998976 k s, found_said rest x e n z)
 
 -- ---- and what that comes to, on a market with nothing in work
 
@@ -203,50 +203,46 @@ pub record Takes (kind : Instrument) (t s : List ℕ) (free n : ℕ) : Type 0 wh
   pub starts : starts_message s ≡ true
   pub long : n ≡ length_said s
 
-abbrev stop_of : Next → Stop
-stop_of (Next.Stops why) = why
-stop_of (Next.Takes n) = stop.Done
+abbrev stop_of : Result ℕ Stop → Stop
+stop_of (Err why) = why
+stop_of (Ok n) = stop.Done
 
-abbrev count_of : Next → ℕ
-count_of (Next.Stops why) = 0
-count_of (Next.Takes n) = n
+abbrev count_of : Result ℕ Stop → ℕ
+count_of (Err why) = 0
+count_of (Ok n) = n
 
-abbrev is_message : Next → Bool
-is_message (Next.Stops why) = false
-is_message (Next.Takes n) = true
-
-module _ (kind : Instrument) (t s : List ℕ) (free : ℕ) (x : Next) (y : Idle kind t) (e : x ≡ next_for t s free) where
+module _ (kind : Instrument) (t s : List ℕ) (free : ℕ) (x : Result ℕ Stop) (y : Idle kind t) (e : x ≡ next_for t s free) where
   abbrev front : List ℕ
   front = take (length_said s) s
 
   abbrev behind : Lying
   behind = lying_in (drop (length_said s) s)
 
-  pub says_stops : (why : Stop) → x ≡ Next.Stops why → loads kind t (lying_in s) free ≡ halted why t
+  pub says_stops : (why : Stop) → x ≡ Err why → loads kind t (lying_in s) free ≡ halted why t
   unfolding loads
   says_stops why d = by (nexts t s free)
     where
-      is : (z : Next) → next_for t s free ≡ z → why ≡ stop_of z
+      is : (z : Result ℕ Stop) → next_for t s free ≡ z → why ≡ stop_of z
       is z f = ap stop_of (sym d ∙ e ∙ f)
 
       by : Nexts t s free → loads kind t (lying_in s) free ≡ halted why t
-      by (at_end l f) = rw (lying_end s l, is (Next.Stops stop.Done) f)
+      by (at_end l f) = rw (lying_end s l, is (Err stop.Done) f)
       by (at_narrow l r f) =
-          rw (is (Next.Stops stop.Full) f)
+          rw (is (Err stop.Full) f)
           (split (starts_message s)
           (λ m. rw (lying_then s m) (then_full kind t front behind free r))
           (λ m. rw (lying_not s m l, lt-ltb free 1024 r)))
-      by (at_unread l r m f) = rw (is (Next.Stops stop.Unread) f, lying_not s m l, le-ltb free 1024 r)
+      by (at_unread l r m f) = rw (is (Err stop.Unread) f, lying_not s m l, le-ltb free 1024 r)
       by (at_spent r m n f) =
           let p = ap (λ (a : Submitted). submit_number a.answer) (submit_spent kind t front free y.market y.idle r n) in
-          rw (is (Next.Stops stop.Spent) f, lying_then s m) (then_spent kind t front behind free r (taken_number kind t front free ∙ p))
-      by (at_message r m n f) = absurd (not_both refl (ap is_message (sym f ∙ sym e ∙ d)))
+          rw (is (Err stop.Spent) f, lying_then s m) (then_spent kind t front behind free r (taken_number kind t front free ∙ p))
+      by (at_message r m n f) = absurd (not_both refl (ap is_ok (sym f ∙ sym e ∙ d)))
 
-  pub says_takes : (n : ℕ) → x ≡ Next.Takes n → Takes kind t s free n
+  pub says_takes : (n : ℕ) → x ≡ Ok n → Takes kind t s free n
   says_takes n d = by (nexts t s free)
     where
-      never : (why : Stop) → next_for t s free ≡ Next.Stops why → Takes kind t s free n
-      never why f = absurd (not_both refl (ap is_message (sym d ∙ e ∙ f)))
+      never : (why : Stop) → next_for t s free ≡ Err why → Takes kind t s free n
+      never why f = absurd (not_both refl (ap is_ok (sym d ∙ e ∙ f)))
 
       by : Nexts t s free → Takes kind t s free n
       by (at_end l f) = never stop.Done f

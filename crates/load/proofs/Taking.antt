@@ -21,15 +21,19 @@ use Rattle.table.specs.Market.{is_market_of}
 use Rattle.table.specs.Facts.{Market}
 use Rattle.table.proofs.Instruments.{of_market}
 use Rattle.table.proofs.Facts.{market_facts}
-use Rattle.calls.specs.declared.Standing.{Standing}
-use Rattle.calls.specs.declared.Standing.TheVariants.{Stands, Fails}
-use Rattle.calls.specs.declared.SubmitAnswer.{SubmitAnswer}
-use Rattle.calls.specs.declared.SubmitAnswer.TheVariants as answer
-use Rattle.calls.specs.declared.RunAnswer.{RunAnswer}
+use Rattle.std.specs.Prelude.{Result, Ok, Err}
+use Rattle.refusals.specs.declared.Refusal.{Refusal}
+use Rattle.refusals.specs.declared.Refusal.TheVariants.{NumbersSpent}
+use Rattle.calls.specs.declared.OrderReason.{OrderReason}
+use Rattle.calls.specs.declared.ChangeReason.{ChangeReason}
+use Rattle.calls.specs.declared.ReplyKind.{ReplyKind}
+use Rattle.calls.specs.declared.ReplyKind.TheVariants.{SessionReject, OrderReject, ChangeReject, Taken}
+use Rattle.calls.specs.declared.Reply.{Reply}
+use Rattle.calls.specs.declared.Progress.{Progress}
 use Rattle.calls.specs.Told.{joined, room_asked}
 use Rattle.calls.specs.Checks.{new_stands, cancel_stands, replace_stands}
-use Rattle.calls.specs.Submit.{Submitted, unchanged, reported, rejecting, faulted, new_rejected, change_rejected, new_taken, replacement_taken, cancel_taken, entering, replacing, canceling, handled, submitted, submit_number, submit_length}
-use Rattle.calls.specs.Run.{still, worked, ran, run_bytes}
+use Rattle.calls.specs.Submit.{Submitted, unchanged, reported, rejecting, faulted, new_rejected, change_rejected, new_taken, replacement_taken, cancel_taken, entering, replacing, canceling, handled, submitted, reply_number, submit_number, submit_length}
+use Rattle.calls.specs.Run.{still, worked, ran}
 use Rattle.intake.specs.Intake.{Ready, Asking, Left}
 use Rattle.intake.proofs.Keeping.{Comes, no_room, no_market, in_work, spent, heard, comes}
 use Rattle.intake.proofs.Theorems.{submit_keeps, submit_numbers, submit_short}
@@ -48,31 +52,36 @@ module _ (kind : Instrument) where
     pub bytes : submit_length s.answer ≡ length (joined s.reports)
     pub other : eqb (submit_number s.answer) 4 ≡ false
 
-  one_told : (t report : List ℕ) (a : ℕ → SubmitAnswer) → ((n : ℕ) → submit_length (a n) ≡ n) → ((n : ℕ) → eqb (submit_number (a n)) 4 ≡ false) → Told (reported t report a)
+  no_four : (kind : ReplyKind) → eqb (reply_number kind) 4 ≡ false
+  no_four SessionReject = refl
+  no_four OrderReject = refl
+  no_four ChangeReject = refl
+  no_four Taken = refl
+
+  one_told : (t report : List ℕ) (kind : ReplyKind) → Told (reported t report kind)
   unfolding joined
-  one_told t report a h g =
-      record { bytes = h (length report) ∙ omega (arith, length-append report []); other = g (length report) }
+  one_told t report kind = record { bytes = omega (arith, length-append report []); other = no_four kind }
 
   module _ (t message : List ℕ) where
-    new_told : (s : Standing) → (o : _) → Told (entering t message o s)
+    new_told : (s : Result (Unit {0}) OrderReason) → (o : _) → Told (entering t message o s)
     unfolding new_taken new_rejected rejecting
-    new_told Stands o = one_told _ _ (λ n. answer.Taken n) (λ n. refl) (λ n. refl)
-    new_told (Fails r) o = one_told _ _ (λ n. answer.OrderReject n) (λ n. refl) (λ n. refl)
+    new_told (Ok stands) o = one_told _ _ Taken
+    new_told (Err r) o = one_told _ _ OrderReject
 
-    replace_told : (s : Standing) → (o : _) → Told (replacing t message o s)
+    replace_told : (s : Result (Unit {0}) ChangeReason) → (o : _) → Told (replacing t message o s)
     unfolding replacement_taken change_rejected rejecting
-    replace_told Stands o = one_told _ _ (λ n. answer.Taken n) (λ n. refl) (λ n. refl)
-    replace_told (Fails r) o = one_told _ _ (λ n. answer.ChangeReject n) (λ n. refl) (λ n. refl)
+    replace_told (Ok stands) o = one_told _ _ Taken
+    replace_told (Err r) o = one_told _ _ ChangeReject
 
-    cancel_told : (s : Standing) → (o : _) → Told (canceling t message o s)
+    cancel_told : (s : Result (Unit {0}) ChangeReason) → (o : _) → Told (canceling t message o s)
     unfolding cancel_taken change_rejected rejecting
-    cancel_told Stands o = one_told _ _ (λ n. answer.Taken n) (λ n. refl) (λ n. refl)
-    cancel_told (Fails r) o = one_told _ _ (λ n. answer.ChangeReject n) (λ n. refl) (λ n. refl)
+    cancel_told (Ok stands) o = one_told _ _ Taken
+    cancel_told (Err r) o = one_told _ _ ChangeReject
 
     handled_told : (x : Asked) → Asking t message x → Told (handled t message x)
     unfolding faulted rejecting joined
     handled_told Garbled a = record { bytes = refl; other = refl }
-    handled_told (Refused r) a = one_told _ _ (λ n. answer.SessionReject n) (λ n. refl) (λ n. refl)
+    handled_told (Refused r) a = one_told _ _ SessionReject
     handled_told (Enters o) a = new_told (new_stands t message o) o
     handled_told (Replaces o) a = replace_told (replace_stands t message o) o
     handled_told (Cancels o) a = cancel_told (cancel_stands t message o) o
@@ -101,10 +110,10 @@ module _ (kind : Instrument) where
           by (heard a n q e) = rw e (handled_told _ q).other
 
       -- and one whose numbers are, is told so
-      pub submit_spent : is_market_of kind t ≡ true → work_of t ≡ 0 → 1024 ≤ room → 999998976 < next_of t → submitted kind t message room ≡ unchanged t answer.NumbersSpent
+      pub submit_spent : is_market_of kind t ≡ true → work_of t ≡ 0 → 1024 ≤ room → 999998976 < next_of t → submitted kind t message room ≡ unchanged t NumbersSpent
       submit_spent m w r h = by (comes kind t message room)
         where
-          by : Comes kind t message room → submitted kind t message room ≡ unchanged t answer.NumbersSpent
+          by : Comes kind t message room → submitted kind t message room ≡ unchanged t NumbersSpent
           by (no_room a e) = absurd (omega arith)
           by (no_market a n e) = absurd (not_both m n)
           by (in_work a n l e) = absurd (omega arith)
@@ -189,7 +198,7 @@ module _ (kind : Instrument) where
         (λ e. rw (e, joined_append rs qs) (omega (arith, submit_fits r, reports_fit kind after left enough, length-append (joined rs) (joined qs))))
 
   -- ---- the code: Submit's report is written, and nothing is in work
-  module _ (t message area : List ℕ) (y : Ready kind t) (room : 1024 ≤ length area) (a : SubmitAnswer) (u area₁ : List ℕ)
+  module _ (t message area : List ℕ) (y : Ready kind t) (room : 1024 ≤ length area) (a : Result Reply Refusal) (u area₁ : List ℕ)
       (l : Left (submitted kind t message (length area)) area a u area₁) (len : ℕ) (b : len ≡ submit_length a) where
     first_wrote : Wrote area 0 (joined (submitted kind t message (length area)).reports) len area₁
     first_wrote =
@@ -219,7 +228,10 @@ module _ (kind : Instrument) where
             bytes_in = rw (idle_reports t message (length area) e) first_wrote;
           }
 
-      module _ (z : w ≡ 0 → ⊥) (r : RunAnswer) (v part : List ℕ) (k : Walked u (take (length area₁ - len) (drop len area₁)) 256 r v part) (more : ℕ) (c : more ≡ run_bytes r) where
+      module _ (z : w ≡ 0 → ⊥) (r : Progress) (v part : List ℕ) (k : Walked u (take (length area₁ - len) (drop len area₁)) 256 r v part) where
+        abbrev more : ℕ
+        more = r.bytes
+
         rest_long : length (take (length area₁ - len) (drop len area₁)) ≡ left t message (length area)
         rest_long =
             length-take-le (length area₁ - len) (drop len area₁) (rw (length-drop len area₁) (omega arith))
@@ -236,7 +248,7 @@ module _ (kind : Instrument) where
         reports_are = rw (rest_long, ← l.table_is) (ran_reports u (left t message (length area)) 256 market)
 
         rest_wrote : Wrote (take (length area₁ - len) (drop len area₁)) 0 (joined (ran kind (after t message (length area)) (left t message (length area)) enough).reports) more part
-        rest_wrote = rw reports_are (record { place = c ∙ ap run_bytes k.answer ∙ omega arith; bytes_in = k.bytes_in })
+        rest_wrote = rw reports_are (record { place = ap (λ (p : Progress). p.bytes) k.answer ∙ omega arith; bytes_in = k.bytes_in })
 
         both_wrote : Wrote area 0 (joined (taken kind t message (length area)).reports) (len + more) (take len area₁ ++ (part ++ drop (length area₁ - len) (drop len area₁)))
         both_wrote =

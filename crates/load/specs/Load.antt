@@ -1,7 +1,10 @@
 -- What Load answers and leaves (document 02, T-07): each message of a buffer is submitted and run to its end, one after another, until
 -- the buffer ends, there is no room, a length cannot be read, or the numbers are spent. For any bytes of a table and of a buffer, and any
 -- length of the report area. Submit and Run are what their own definitions say. Assumes nothing.
-use Rattle.std.specs.Prelude.{Bool, true, false, cond, not, List, [], ◌++◌, ℕ, suc, ◌+◌, ◌-◌, eqb, ltb, length}
+use Rattle.std.specs.Prelude.{Bool, cond, not, List, [], ◌++◌, ℕ, suc, ◌+◌, ◌-◌, eqb, ltb, length, Result, Ok, Err, is_err}
+use Rattle.refusals.specs.declared.Refusal.{Refusal}
+use Rattle.refusals.specs.declared.Refusal.TheVariants.{NoRoom, NoMarket, InWork}
+use Rattle.refusals.specs.Refusals.{number_of}
 use Rattle.decimal.specs.declared.Instrument.{Instrument}
 use Rattle.table.specs.Heading.{work_of}
 use Rattle.table.specs.Market.{is_market_of}
@@ -10,8 +13,8 @@ use Rattle.calls.specs.Submit.{submitted, submit_number}
 use Rattle.calls.specs.Run.{ran}
 use Rattle.load.specs.declared.Stop.{Stop}
 use Rattle.load.specs.declared.Stop.TheVariants as stop
-use Rattle.load.specs.declared.LoadAnswer.{LoadAnswer}
-use Rattle.load.specs.declared.LoadAnswer.TheVariants as answer
+use Rattle.load.specs.declared.go.Halt.{Halt}
+use Rattle.load.specs.declared.LoadProgress.{LoadProgress}
 use Rattle.load.specs.Buffer.{Lying, End, Unreadable, Then, lying_in}
 
 -- ---- one message
@@ -75,27 +78,26 @@ loads q t (Then message rest) room =
 
 -- what Load leaves
 pub record Loaded : Type 0 where
-  pub answer : LoadAnswer
+  pub answer : Result LoadProgress Refusal
   pub table : List ℕ
   pub reports : List (List ℕ)
 
-abbrev pub unmoved : List ℕ → LoadAnswer → Loaded
+abbrev pub unmoved : List ℕ → Result LoadProgress Refusal → Loaded
 unmoved t a = record { answer = a; table = t; reports = [] }
 
+-- how far that is
+abbrev pub halt : Loads → Halt
+halt l = record { stop = l.stop; place = l.place; finished = l.finished; bytes = length (joined l.reports) }
+
 abbrev pub done : Loads → Loaded
-done l =
-    record {
-      answer = answer.Loaded l.stop l.place l.finished (length (joined l.reports)) (length l.reports);
-      table = l.table;
-      reports = l.reports;
-    }
+done l = record { answer = Ok (record { halt = halt l; reports = length l.reports }); table = l.table; reports = l.reports }
 
 -- the call for bonds takes a market of bonds, and that for equities one of equities
 unfoldable pub loaded : Instrument → List ℕ → List ℕ → ℕ → Loaded
 loaded q t buffer room =
-    cond (ltb room room_asked) (unmoved t answer.NoRoom)
-    (cond (not (is_market_of q t)) (unmoved t answer.NoMarket)
-    (cond (not (eqb (work_of t) 0)) (unmoved t answer.InWork)
+    cond (ltb room room_asked) (unmoved t (Err NoRoom))
+    (cond (not (is_market_of q t)) (unmoved t (Err NoMarket))
+    (cond (not (eqb (work_of t) 0)) (unmoved t (Err InWork))
     (done (loads q t (lying_in buffer) room))))
 
 -- ---- the paper's numbers
@@ -106,40 +108,27 @@ stop_number stop.Full = 1
 stop_number stop.Spent = 4
 stop_number stop.Unread = 5
 
-abbrev pub load_number : LoadAnswer → ℕ
-load_number answer.NoRoom = 1
-load_number answer.NoMarket = 2
-load_number answer.InWork = 3
-load_number (answer.Loaded why place finished bytes reports) = stop_number why
+abbrev pub load_number : Result LoadProgress Refusal → ℕ
+load_number (Ok l) = stop_number l.halt.stop
+load_number (Err r) = number_of r
 
 -- the place of the first message not submitted, how many were finished, bytes and reports, each 0 where the whole call is refused
-abbrev pub load_place : LoadAnswer → ℕ
-load_place answer.NoRoom = 0
-load_place answer.NoMarket = 0
-load_place answer.InWork = 0
-load_place (answer.Loaded why place finished bytes reports) = place
+abbrev pub load_place : Result LoadProgress Refusal → ℕ
+load_place (Ok l) = l.halt.place
+load_place (Err r) = 0
 
-abbrev pub load_finished : LoadAnswer → ℕ
-load_finished answer.NoRoom = 0
-load_finished answer.NoMarket = 0
-load_finished answer.InWork = 0
-load_finished (answer.Loaded why place finished bytes reports) = finished
+abbrev pub load_finished : Result LoadProgress Refusal → ℕ
+load_finished (Ok l) = l.halt.finished
+load_finished (Err r) = 0
 
-abbrev pub load_bytes : LoadAnswer → ℕ
-load_bytes answer.NoRoom = 0
-load_bytes answer.NoMarket = 0
-load_bytes answer.InWork = 0
-load_bytes (answer.Loaded why place finished bytes reports) = bytes
+abbrev pub load_bytes : Result LoadProgress Refusal → ℕ
+load_bytes (Ok l) = l.halt.bytes
+load_bytes (Err r) = 0
 
-abbrev pub load_reports : LoadAnswer → ℕ
-load_reports answer.NoRoom = 0
-load_reports answer.NoMarket = 0
-load_reports answer.InWork = 0
-load_reports (answer.Loaded why place finished bytes reports) = reports
+abbrev pub load_reports : Result LoadProgress Refusal → ℕ
+load_reports (Ok l) = l.reports
+load_reports (Err r) = 0
 
 -- the whole call is refused
-abbrev pub refuses : LoadAnswer → Bool
-refuses answer.NoRoom = true
-refuses answer.NoMarket = true
-refuses answer.InWork = true
-refuses (answer.Loaded why place finished bytes reports) = false
+abbrev pub refuses : Result LoadProgress Refusal → Bool
+refuses answer = is_err answer

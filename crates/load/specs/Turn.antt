@@ -1,20 +1,20 @@
 -- What the inner functions of Load ask for and leave. Nothing here need be believed: `load` cites `loaded` alone.
-use Rattle.std.specs.Prelude.{◌≡◌, true, cond, not, List, ℕ, eqb, ltb, length}
+use Rattle.std.specs.Prelude.{◌≡◌, true, cond, not, List, ℕ, eqb, ltb, length, Option, Some, None, Result, Ok, Err}
 use Rattle.octets.specs.Written.{Wrote}
 use Rattle.decimal.specs.declared.Instrument.{Instrument}
 use Rattle.table.specs.Places.{table_bytes}
 use Rattle.table.specs.Heading.{next_of, work_of}
 use Rattle.table.specs.Market.{is_market_of}
 use Rattle.calls.specs.Told.{joined, area_after}
+use Rattle.load.specs.declared.Stop.{Stop}
 use Rattle.load.specs.declared.Stop.TheVariants as stop
-use Rattle.load.specs.declared.go.Next.{Next}
 use Rattle.load.specs.declared.go.Halt.{Halt}
 use Rattle.load.specs.Buffer.{lying_in, starts_message, length_said}
-use Rattle.load.specs.Load.{taken, Loads, loads}
+use Rattle.load.specs.Load.{taken, halt, loads}
 
--- the length of the message that s starts with, 0 where it cannot be read
-unfoldable pub length_found : List ℕ → ℕ
-length_found s = cond (starts_message s) (length_said s) 0
+-- the length of the message that s starts with, if it can be read
+unfoldable pub length_found : List ℕ → Option ℕ
+length_found s = cond (starts_message s) (Some (length_said s)) None
 
 -- a message was taken: its reports stand at the start of the area
 pub record Took (q : Instrument) (t message area : List ℕ) (n : ℕ) (after written : List ℕ) : Type 0 where
@@ -27,18 +27,14 @@ pub record Idle (q : Instrument) (t : List ℕ) : Type 0 where
   pub idle : work_of t ≡ 0
   pub long : length t ≡ table_bytes
 
--- what is to be done with what lies in s, with so many bytes free
-unfoldable pub next_for : List ℕ → List ℕ → ℕ → Next
+-- the length of the message that s starts with and that can be taken with so many bytes free, or why none can
+unfoldable pub next_for : List ℕ → List ℕ → ℕ → Result ℕ Stop
 next_for t s free =
-    cond (eqb (length s) 0) (Next.Stops stop.Done)
-    (cond (ltb free 1024) (Next.Stops stop.Full)
-    (cond (not (starts_message s)) (Next.Stops stop.Unread)
-    (cond (ltb 999998976 (next_of t)) (Next.Stops stop.Spent)
-    (Next.Takes (length_said s)))))
-
--- how far it went
-abbrev pub halt : Loads → Halt
-halt l = record { stop = l.stop; place = l.place; finished = l.finished; bytes = length (joined l.reports) }
+    cond (eqb (length s) 0) (Err stop.Done)
+    (cond (ltb free 1024) (Err stop.Full)
+    (cond (not (starts_message s)) (Err stop.Unread)
+    (cond (ltb 999998976 (next_of t)) (Err stop.Spent)
+    (Ok (length_said s)))))
 
 -- all messages of the buffer were taken that can be
 pub record Went (q : Instrument) (t buffer area : List ℕ) (r : Halt) (after written : List ℕ) : Type 0 where

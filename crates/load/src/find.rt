@@ -6,29 +6,29 @@ use decimal::Said;
 use decimal::read::{byte_at, digit_run, read_number};
 use octets::part::{part_at, same};
 
-// The length of the message that s starts with, 0 where it cannot be read.
-fn length_found(s: &[u8]) -> usize
+// The length of the message that s starts with, if it can be read.
+fn length_found(s: &[u8]) -> Option<usize>
     ensures { result ≡ length_found s.now }
 {
     if !same(part_at(s, 0, 12), b"8=FIX.4.2\x019=") {
-        return 0;
+        return None;
     }
     let k = digit_run(part_at(s, 12, s.len()));
     let Said::Value(n) = read_number(part_at(s, 12, k), 4) else {
-        return 0;
+        return None;
     };
     if byte_at(s, 12 + k) != 1 {
-        return 0;
+        return None;
     }
     let end = 12 + k + 1 + n as usize + 7;
     if s.len() < end {
-        return 0;
+        return None;
     }
-    end
+    Some(end)
 }
 
-// The length of the message that begins at a place of the buffer, 0 where it cannot be read.
-pub fn length_at(buffer: &[u8], place: usize) -> usize
+// The length of the message that begins at a place of the buffer, if it can be read.
+pub fn length_at(buffer: &[u8], place: usize) -> Option<usize>
     requires { place ≤ length buffer.now }
     ensures { result ≡ length_found (drop place buffer.now) }
 {

@@ -10,13 +10,6 @@ use decimal::Instrument;
 use octets::part::part_at;
 use table::heading::{next, work};
 
-// What is to be done at a place of the buffer: no more is taken, or the message there, of this length.
-#[derive(Clone, Copy)]
-pub enum Next {
-    Stops(Stop),
-    Takes(usize),
-}
-
 // How far the messages were taken: why no more are, the place of the first one not submitted, how many were finished, and the bytes of
 // their reports.
 #[derive(Clone, Copy)]
@@ -27,25 +20,24 @@ pub struct Halt {
     pub bytes: usize,
 }
 
-// What is to be done at a place, with so many bytes of the report area free.
-fn next_at(t: &[u8], buffer: &[u8], place: usize, free: usize) -> Next
+// The length of the message at a place that can be taken with so many bytes of the report area free, or why none can.
+fn next_at(t: &[u8], buffer: &[u8], place: usize, free: usize) -> Result<usize, Stop>
     requires { (length t.now ≡ table_bytes) × (place ≤ length buffer.now) }
     ensures { result ≡ next_for t.now (drop place buffer.now) free }
 {
     if place == buffer.len() {
-        return Next::Stops(Stop::Done);
+        return Err(Stop::Done);
     }
     if free < 1024 {
-        return Next::Stops(Stop::Full);
+        return Err(Stop::Full);
     }
-    let n = length_at(buffer, place);
-    if n == 0 {
-        return Next::Stops(Stop::Unread);
-    }
+    let Some(n) = length_at(buffer, place) else {
+        return Err(Stop::Unread);
+    };
     if 999998976 < next(t) {
-        return Next::Stops(Stop::Spent);
+        return Err(Stop::Spent);
     }
-    Next::Takes(n)
+    Ok(n)
 }
 
 // Takes the messages of the buffer until no more can be taken; the reports of each start where those of the one before ended.
@@ -59,8 +51,8 @@ pub fn go(q: Instrument, table: &mut [u8], buffer: &[u8], area: &mut [u8]) -> Ha
     let mut at: usize = 0;
     loop {
         let n = match next_at(table, buffer, place, room - at) {
-            Next::Takes(n) => n,
-            Next::Stops(stop) => {
+            Ok(n) => n,
+            Err(stop) => {
                 return Halt {
                     stop,
                     place,

@@ -9,13 +9,14 @@ ghost use Rattle.std.specs.Prelude.{◌≡◌, length};
 ghost use Rattle.calls.specs.Told.{area_after};
 ghost use Rattle.load.specs.Load.{loaded};
 
-use crate::go::go;
+use crate::go::{Halt, go};
 use audit::is_market_of;
 use decimal::Instrument;
+use refusals::Refusal;
 use table::heading::{next, work};
 
 // Why no more messages are taken: the buffer ends, there is no room, the numbers are spent, a length cannot be read.
-#[derive(Clone, Copy)]
+#[derive(Clone, Copy, PartialEq, Eq)]
 pub enum Stop {
     Done,
     Full,
@@ -23,47 +24,36 @@ pub enum Stop {
     Unread,
 }
 
-// What Load answers: refused with nothing changed; or why it stopped, the place of the first message not submitted, how many were
-// finished, and the bytes and reports written.
+// What Load answers where it is not refused: where and why it stopped, and how many reports it wrote.
 #[derive(Clone, Copy)]
-pub enum LoadAnswer {
-    NoRoom,
-    NoMarket,
-    InWork,
-    Loaded {
-        stop: Stop,
-        place: usize,
-        finished: u64,
-        bytes: usize,
-        reports: u64,
-    },
+pub struct LoadProgress {
+    pub halt: Halt,
+    pub reports: u64,
 }
 
 // Each message of the buffer is submitted and run to its end. Refused if the area is below 1,024 bytes, the table is no market of
 // bonds or of equities, as asked, or an order is in work.
-pub fn load(q: Instrument, table: &mut [u8], buffer: &[u8], area: &mut [u8]) -> LoadAnswer
+pub fn load(
+    q: Instrument,
+    table: &mut [u8],
+    buffer: &[u8],
+    area: &mut [u8],
+) -> Result<LoadProgress, Refusal>
     ensures value { result ≡ (loaded q table.old buffer.now (length area.old)).answer }
     ensures table_after { table.new ≡ (loaded q table.old buffer.now (length area.old)).table }
     ensures area_after { area.new ≡ area_after area.old (loaded q table.old buffer.now (length area.old)).reports }
 {
     if area.len() < 1024 {
-        return LoadAnswer::NoRoom;
+        return Err(Refusal::NoRoom);
     }
     if !is_market_of(q, table) {
-        return LoadAnswer::NoMarket;
+        return Err(Refusal::NoMarket);
     }
     if work(table) != 0 {
-        return LoadAnswer::InWork;
+        return Err(Refusal::InWork);
     }
     let first = next(table);
-    let h = go(q, table, buffer, area);
+    let halt = go(q, table, buffer, area);
     let reports = next(table) - first;
-    let stop = h.stop;
-    LoadAnswer::Loaded {
-        stop,
-        place: h.place,
-        finished: h.finished,
-        bytes: h.bytes,
-        reports,
-    }
+    Ok(LoadProgress { halt, reports })
 }

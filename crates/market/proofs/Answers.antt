@@ -22,7 +22,8 @@ use Rattle.table.proofs.Facts.{market_facts}
 use Rattle.std.specs.Prelude.{Option, Result, Ok, Err}
 use Rattle.octets.proofs.Bools.{split}
 use Rattle.table.specs.Opened.{is_opening, open_number}
-use Rattle.calls.specs.declared.OpenAnswer.TheVariants.{Opened, BadSetting}
+use Rattle.std.specs.Prelude.{Ok, Err}
+use Rattle.refusals.specs.declared.Refusal.TheVariants.{BadSetting}
 use Rattle.calls.specs.Open.{open_answer}
 use Rattle.market.specs.Depth.{depth_answer}
 use Rattle.market.proofs.Tops.{asked, asked_err, asked_idle, asked_side, asked_ok, market_words}
@@ -75,12 +76,12 @@ module _ (i : Instrument) (t : List ℕ) (side k : ℕ) (f : Bool) (p : f ≡ is
 -- ---- Open
 
 module _ (i : Instrument) (t venue port code : List ℕ) (first : ℕ) (mpids modes : List ℕ) (n : ℕ) (e : n ≡ open_number i t venue port code first mpids modes) where
-  pub open_taken : n ≡ 0 → Opened ≡ open_answer i t venue port code first mpids modes
+  pub open_taken : n ≡ 0 → Ok tt ≡ open_answer i t venue port code first mpids modes
   unfolding open_answer open_number
   open_taken z =
       split (is_opening i t venue port code first mpids modes) (λ h. rw h)
       (λ h. let q : n ≡ 9 = e ∙ rw h in let f : ⊥ = omega arith in absurd f)
 
-  pub open_refused : (n ≡ 0 → ⊥) → BadSetting ≡ open_answer i t venue port code first mpids modes
+  pub open_refused : (n ≡ 0 → ⊥) → Err BadSetting ≡ open_answer i t venue port code first mpids modes
   unfolding open_answer open_number
   open_refused d = split (is_opening i t venue port code first mpids modes) (λ h. absurd (d (e ∙ rw h))) (λ h. rw h)

@@ -11,9 +11,10 @@ use Rattle.table.specs.Opened.{is_opening, opened}
 use Rattle.table.proofs.Theorems.{opening_makes_a_market}
 use Rattle.report.specs.declared.Reading.{Reading}
 use Rattle.report.specs.Reports.{read_of}
-use Rattle.calls.specs.declared.OpenAnswer.{OpenAnswer}
-use Rattle.calls.specs.declared.SubmitAnswer.{SubmitAnswer}
-use Rattle.calls.specs.declared.RunAnswer.{RunAnswer}
+use Rattle.std.specs.Prelude.{Result}
+use Rattle.refusals.specs.declared.Refusal.{Refusal}
+use Rattle.calls.specs.declared.Reply.{Reply}
+use Rattle.calls.specs.declared.Progress.{Progress}
 use Rattle.calls.specs.Told.{area_after}
 use Rattle.calls.specs.Open.{open_answer}
 use Rattle.calls.specs.Submit.{submitted}
@@ -43,16 +44,16 @@ top_tells_depth = top_is_depth
 
 -- ---- what a call may answer and leave, by its contract: the answer r, the table u and the report area b
 
-pub record OpenGives (q : Instrument) (t venue port code : List ℕ) (first : ℕ) (mpids modes : List ℕ) (r : OpenAnswer) (u : List ℕ) : Type 0 where
+pub record OpenGives (q : Instrument) (t venue port code : List ℕ) (first : ℕ) (mpids modes : List ℕ) (r : Result (Unit {0}) Refusal) (u : List ℕ) : Type 0 where
   pub answer : r ≡ open_answer q t venue port code first mpids modes
   pub table : u ≡ opened q t venue port code first mpids modes
 
-pub record SubmitGives (q : Instrument) (t message area : List ℕ) (r : SubmitAnswer) (u b : List ℕ) : Type 0 where
+pub record SubmitGives (q : Instrument) (t message area : List ℕ) (r : Result Reply Refusal) (u b : List ℕ) : Type 0 where
   pub answer : r ≡ (submitted q t message (length area)).answer
   pub table : u ≡ (submitted q t message (length area)).table
   pub reports : b ≡ area_after area (submitted q t message (length area)).reports
 
-pub record RunGives (q : Instrument) (t area : List ℕ) (budget : ℕ) (r : RunAnswer) (u b : List ℕ) : Type 0 where
+pub record RunGives (q : Instrument) (t area : List ℕ) (budget : ℕ) (r : Result Progress Refusal) (u b : List ℕ) : Type 0 where
   pub answer : r ≡ (ran q t (length area) budget).answer
   pub table : u ≡ (ran q t (length area) budget).table
   pub reports : b ≡ area_after area (ran q t (length area) budget).reports
@@ -62,15 +63,15 @@ pub record RunGives (q : Instrument) (t area : List ℕ) (budget : ℕ) (r : Run
 same : {A : Type 0} {x r s : A} → r ≡ x → s ≡ x → r ≡ s
 same p q = p ∙ sym q
 
-pub open_is_one : (q : Instrument) (t venue port code : List ℕ) (first : ℕ) (mpids modes : List ℕ) (r s : OpenAnswer) (u v : List ℕ)
+pub open_is_one : (q : Instrument) (t venue port code : List ℕ) (first : ℕ) (mpids modes : List ℕ) (r s : Result (Unit {0}) Refusal) (u v : List ℕ)
     → OpenGives q t venue port code first mpids modes r u → OpenGives q t venue port code first mpids modes s v → (r ≡ s) × (u ≡ v)
 open_is_one q t venue port code first mpids modes r s u v a b = (same a.answer b.answer, same a.table b.table)
 
-pub submit_is_one : (q : Instrument) (t message area : List ℕ) (r s : SubmitAnswer) (u v b c : List ℕ)
+pub submit_is_one : (q : Instrument) (t message area : List ℕ) (r s : Result Reply Refusal) (u v b c : List ℕ)
     → SubmitGives q t message area r u b → SubmitGives q t message area s v c → (r ≡ s) × (u ≡ v) × (b ≡ c)
 submit_is_one q t message area r s u v b c x y = (same x.answer y.answer, same x.table y.table, same x.reports y.reports)
 
-pub run_is_one : (q : Instrument) (t area : List ℕ) (budget : ℕ) (r s : RunAnswer) (u v b c : List ℕ)
+pub run_is_one : (q : Instrument) (t area : List ℕ) (budget : ℕ) (r s : Result Progress Refusal) (u v b c : List ℕ)
     → RunGives q t area budget r u b → RunGives q t area budget s v c → (r ≡ s) × (u ≡ v) × (b ≡ c)
 run_is_one q t area budget r s u v b c x y = (same x.answer y.answer, same x.table y.table, same x.reports y.reports)
 

@@ -23,7 +23,7 @@ ghost use Rattle.market.specs.Top.{top_answer};
 use crate::front::{Kept, has_heading, in_words};
 use crate::levels::level;
 use audit::is_market_of;
-use calls::{OpenAnswer, RunAnswer, SubmitAnswer};
+use calls::{Progress, Reply};
 use decimal::Instrument;
 use matching::Level;
 use refusals::Refusal;
@@ -42,18 +42,23 @@ pub fn open(
     first: u64,
     mpids: &[u64],
     modes: &[u64],
-) -> OpenAnswer
+) -> Result<(), Refusal>
     ensures { (result ≡ open_answer q table.old venue.now port.now code.now first mpids.now modes.now)
         × (table.new ≡ opened q table.old venue.now port.now code.now first mpids.now modes.now) }
 {
     if table::opening::open_table(q, table, venue, port, code, first, mpids, modes) == 0 {
-        return OpenAnswer::Opened;
+        return Ok(());
     }
-    OpenAnswer::BadSetting
+    Err(Refusal::BadSetting)
 }
 
 // Takes one message: refuses it, or rejects it with a report, or does what it asks and writes its first report.
-pub fn submit(q: Instrument, table: &mut [u8], message: &[u8], area: &mut [u8]) -> SubmitAnswer
+pub fn submit(
+    q: Instrument,
+    table: &mut [u8],
+    message: &[u8],
+    area: &mut [u8],
+) -> Result<Reply, Refusal>
     ensures { (result ≡ (submitted q table.old message.now (length area.old)).answer)
         × (table.new ≡ (submitted q table.old message.now (length area.old)).table)
         × (area.new ≡ area_after area.old (submitted q table.old message.now (length area.old)).reports) }
@@ -62,7 +67,12 @@ pub fn submit(q: Instrument, table: &mut [u8], message: &[u8], area: &mut [u8]) 
 }
 
 // Takes steps of the order in work, at most as many as the budget, while there is room for their reports in the area.
-pub fn run(q: Instrument, table: &mut [u8], area: &mut [u8], budget: u64) -> RunAnswer
+pub fn run(
+    q: Instrument,
+    table: &mut [u8],
+    area: &mut [u8],
+    budget: u64,
+) -> Result<Progress, Refusal>
     ensures { (result ≡ (ran q table.old (length area.old) budget).answer)
         × (table.new ≡ (ran q table.old (length area.old) budget).table)
         × (area.new ≡ area_after area.old (ran q table.old (length area.old) budget).reports) }

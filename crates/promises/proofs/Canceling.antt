@@ -44,8 +44,9 @@ use Rattle.table.proofs.Instruments.{of_market, market_instrument}
 use Rattle.report.specs.declared.Kind.{Kind}
 use Rattle.report.specs.declared.Kind.TheVariants.{Accepted, Replaced, Canceled}
 use Rattle.report.specs.Reports.{read_of}
-use Rattle.calls.specs.declared.Standing.{Standing}
-use Rattle.calls.specs.declared.Standing.TheVariants.{Stands, Fails}
+use Rattle.std.specs.Prelude.{Result, Ok, Err}
+use Rattle.calls.specs.declared.OrderReason.{OrderReason}
+use Rattle.calls.specs.declared.ChangeReason.{ChangeReason}
 use Rattle.calls.specs.Checks.{text_of, holder, new_stands, replace_stands, cancel_stands}
 use Rattle.calls.specs.Submit.{faulted, new_rejected, change_rejected, new_taken, replacement_taken, cancel_taken, entering, replacing, canceling, handled, submitted}
 use Rattle.intake.specs.Intake.{Asking}
@@ -117,11 +118,11 @@ module _ (q : Instrument) (t message : List ℕ) (mpid : ℕ) where
       sym (at_book u k h.low (omega (arith, h.high, length_book u))) ∙ ap (λ (c : Book). at c k) b ∙ after_same (book_of t) (Withdrawn k x) f in
       ap (λ (o : Order). o.mpid) e
 
-  cancel_canceled : (o : Cancellation) (s : Standing) → cancel_stands t message o ≡ s → Asking t message (asked.Cancels o) → instrument_of t ≡ q
+  cancel_canceled : (o : Cancellation) (s : Result (Unit {0}) ChangeReason) → cancel_stands t message o ≡ s → Asking t message (asked.Cancels o) → instrument_of t ≡ q
       → Cancels q mpid (canceling t message o s).reports → CanceledAs t (canceling t message o s).table mpid
   unfolding cancel_taken taken
-  cancel_canceled o (Fails n) e a i c = absurd (silent_none (change_rejected t message o.time o.id o.original (holder t (text_of message o.original)) n 1).reports ((all_told q).cancel_fails t message o n a i e) c)
-  cancel_canceled o Stands e a i c =
+  cancel_canceled o (Err n) e a i c = absurd (silent_none (change_rejected t message o.time o.id o.original (holder t (text_of message o.original)) n 1).reports ((all_told q).cancel_fails t message o n a i e) c)
+  cancel_canceled o (Ok stands) e a i c =
       let k : ℕ = holder t (text_of message o.original) in
       let id = text_of message o.id in
       let h = cancel_in t message o a k refl e in
@@ -139,16 +140,16 @@ module _ (q : Instrument) (t message : List ℕ) (mpid : ℕ) where
         ids = withdrawn_ids k id (open_of (order_at t k)) g.short;
       }
 
-  new_canceled : (o : NewOrder) (s : Standing) → new_stands t message o ≡ s → Asking t message (asked.Enters o) → instrument_of t ≡ q → Cancels q mpid (entering t message o s).reports → ⊥
+  new_canceled : (o : NewOrder) (s : Result (Unit {0}) OrderReason) → new_stands t message o ≡ s → Asking t message (asked.Enters o) → instrument_of t ≡ q → Cancels q mpid (entering t message o s).reports → ⊥
   unfolding new_taken
-  new_canceled o (Fails n) e a i c = silent_none (new_rejected t message o n).reports ((all_told q).new_fails t message o n a i e) c
-  new_canceled o Stands e a i c = accepted_not _ ((all_told q).new t message o a i e).kind c.0
+  new_canceled o (Err n) e a i c = silent_none (new_rejected t message o n).reports ((all_told q).new_fails t message o n a i e) c
+  new_canceled o (Ok stands) e a i c = accepted_not _ ((all_told q).new t message o a i e).kind c.0
 
-  replace_canceled : (o : Replacement) (s : Standing) → replace_stands t message o ≡ s → Asking t message (asked.Replaces o) → instrument_of t ≡ q
+  replace_canceled : (o : Replacement) (s : Result (Unit {0}) ChangeReason) → replace_stands t message o ≡ s → Asking t message (asked.Replaces o) → instrument_of t ≡ q
       → Cancels q mpid (replacing t message o s).reports → ⊥
   unfolding replacement_taken
-  replace_canceled o (Fails n) e a i c = silent_none (change_rejected t message o.time o.id o.original (holder t (text_of message o.original)) n 2).reports ((all_told q).replace_fails t message o n a i e) c
-  replace_canceled o Stands e a i c = replaced_not _ ((all_told q).replace t message o a i e).kind c.0
+  replace_canceled o (Err n) e a i c = silent_none (change_rejected t message o.time o.id o.original (holder t (text_of message o.original)) n 2).reports ((all_told q).replace_fails t message o n a i e) c
+  replace_canceled o (Ok stands) e a i c = replaced_not _ ((all_told q).replace t message o a i e).kind c.0
 
   handled_canceled : (x : Asked) → Asking t message x → instrument_of t ≡ q → Cancels q mpid (handled t message x).reports → CanceledAs t (handled t message x).table mpid
   handled_canceled asked.Garbled a i c = absurd c

@@ -30,16 +30,16 @@ use Rattle.table.proofs.Books.{at_book}
 use Rattle.table.proofs.Theorems.{opening_makes_a_market}
 use Rattle.report.specs.declared.Reading.{Reading}
 use Rattle.report.specs.Reports.{read_of}
-use Rattle.calls.specs.declared.SubmitAnswer.TheVariants as submit_variants
-use Rattle.calls.specs.declared.RunAnswer.TheVariants as run_variants
-use Rattle.calls.specs.declared.SubmitAnswer.{SubmitAnswer}
-use Rattle.calls.specs.declared.Standing.{Standing}
-use Rattle.calls.specs.declared.Standing.TheVariants.{Stands, Fails}
+use Rattle.std.specs.Prelude.{Result, Ok, Err}
+use Rattle.refusals.specs.declared.Refusal.{Refusal}
+use Rattle.refusals.specs.declared.Refusal.TheVariants.{NoMarket}
+use Rattle.refusals.specs.Refusals.{number_of}
+use Rattle.calls.specs.declared.OrderReason.{OrderReason}
+use Rattle.calls.specs.declared.ChangeReason.{ChangeReason}
 use Rattle.calls.specs.Told.{joined, room_asked}
 use Rattle.calls.specs.Checks.{new_stands, cancel_stands, replace_stands}
 use Rattle.calls.specs.Submit.{rejecting, faulted, new_rejected, change_rejected, new_taken, replacement_taken, cancel_taken, entering, replacing, canceling, handled, submitted}
 use Rattle.calls.specs.Run.{worked, ran}
-use Rattle.load.specs.declared.LoadAnswer.TheVariants as load_variants
 use Rattle.load.specs.Load.{loaded, load_number, refuses}
 use Rattle.load.proofs.Answers.{Opens, narrow, strange, busy, went, opens}
 use Rattle.intake.proofs.Keeping.{Comes, no_room, no_market, in_work, spent, heard, comes}
@@ -144,32 +144,25 @@ module _ (t : List ℕ) where
   open_gone n g = open_none t n (λ i h. g i h.low (in_filled t i h))
 
 -- ---- no call finds no market
-abbrev is_no_market : SubmitAnswer → Bool
-is_no_market submit_variants.NoRoom = false
-is_no_market submit_variants.NoMarket = true
-is_no_market submit_variants.InWork = false
-is_no_market submit_variants.NumbersSpent = false
-is_no_market submit_variants.Garbled = false
-is_no_market (submit_variants.SessionReject n) = false
-is_no_market (submit_variants.OrderReject n) = false
-is_no_market (submit_variants.ChangeReject n) = false
-is_no_market (submit_variants.Taken n) = false
+abbrev is_no_market : {T : Type 0} → Result T Refusal → Bool
+is_no_market (Ok x) = false
+is_no_market (Err r) = eqb (number_of r) 2
 
 module _ (t message : List ℕ) where
-  entering_found : (o : NewOrder) (s : Standing) → is_no_market (entering t message o s).answer ≡ false
+  entering_found : (o : NewOrder) (s : Result (Unit {0}) OrderReason) → is_no_market (entering t message o s).answer ≡ false
   unfolding new_taken new_rejected rejecting
-  entering_found o Stands = refl
-  entering_found o (Fails n) = refl
+  entering_found o (Ok stands) = refl
+  entering_found o (Err n) = refl
 
-  replacing_found : (o : Replacement) (s : Standing) → is_no_market (replacing t message o s).answer ≡ false
+  replacing_found : (o : Replacement) (s : Result (Unit {0}) ChangeReason) → is_no_market (replacing t message o s).answer ≡ false
   unfolding replacement_taken change_rejected rejecting
-  replacing_found o Stands = refl
-  replacing_found o (Fails n) = refl
+  replacing_found o (Ok stands) = refl
+  replacing_found o (Err n) = refl
 
-  canceling_found : (o : Cancellation) (s : Standing) → is_no_market (canceling t message o s).answer ≡ false
+  canceling_found : (o : Cancellation) (s : Result (Unit {0}) ChangeReason) → is_no_market (canceling t message o s).answer ≡ false
   unfolding cancel_taken change_rejected rejecting
-  canceling_found o Stands = refl
-  canceling_found o (Fails n) = refl
+  canceling_found o (Ok stands) = refl
+  canceling_found o (Err n) = refl
 
   handled_found : (x : Asked) → is_no_market (handled t message x).answer ≡ false
   unfolding faulted rejecting
@@ -190,21 +183,17 @@ module _ (t message : List ℕ) where
       by (heard a n x e) = rw e (handled_found (asked_of (instrument_of t) (venue_of t) (port_of t) message))
 
 module _ (q : Instrument) (t : List ℕ) (m : is_market_of q t ≡ true) where
-  pub submit_found : (message : List ℕ) (room : ℕ) → (submitted q t message room).answer ≢ submit_variants.NoMarket
+  pub submit_found : (message : List ℕ) (room : ℕ) → (submitted q t message room).answer ≢ Err NoMarket
   submit_found message room e = not_both (ap is_no_market e) (submitted_found t message q room m)
 
-  pub run_found : (room budget : ℕ) → (ran q t room budget).answer ≢ run_variants.NoMarket
+  pub run_found : (room budget : ℕ) → (ran q t room budget).answer ≢ Err NoMarket
   unfolding ran
   run_found room budget e =
       split (ltb room room_asked)
-      (λ z. let x : run_variants.NoRoom ≡ run_variants.NoMarket = rw z at e in let y : ◌≡◌ {A = ℕ} 0 1 = cc in omega arith)
-      (λ z.
-      let w = worked budget t room in
-      let x : run_variants.Ran (length (joined w.reports)) (length w.reports) w.steps ≡ run_variants.NoMarket = rw (z, m) at e in
-      let y : ◌≡◌ {A = ℕ} 0 1 = cc in
-      omega arith)
+      (λ z. not_both (ap is_no_market e) (rw z))
+      (λ z. not_both (ap is_no_market e) (rw (z, m)))
 
-  pub load_found : (buffer : List ℕ) (room : ℕ) → (loaded q t buffer room).answer ≢ load_variants.NoMarket
+  pub load_found : (buffer : List ℕ) (room : ℕ) → (loaded q t buffer room).answer ≢ Err NoMarket
   load_found buffer room e = by (opens q t buffer room)
     where
       by : Opens q t buffer room → ⊥

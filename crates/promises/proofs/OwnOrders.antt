@@ -40,8 +40,8 @@ use Rattle.table.proofs.Facts.{market_facts}
 use Rattle.table.proofs.Instruments.{of_market, market_instrument}
 use Rattle.report.specs.declared.Kind.TheVariants as kind
 use Rattle.report.specs.Reports.{read_of}
-use Rattle.calls.specs.declared.Standing.{Standing}
-use Rattle.calls.specs.declared.Standing.TheVariants.{Stands, Fails}
+use Rattle.std.specs.Prelude.{Result, Ok, Err}
+use Rattle.calls.specs.declared.OrderReason.{OrderReason}
 use Rattle.calls.specs.Checks.{text_of, new_stands}
 use Rattle.calls.specs.Submit.{marks_of, new_order_of, new_rejected, rejecting, new_taken, entering, handled, submitted, submit_number}
 use Rattle.intake.specs.Intake.{Asking}
@@ -97,7 +97,7 @@ unfolding fills_in is_resting
 accepted_silent q r e = rw e
 
 module _ (t message : List ℕ) (o : NewOrder) (q : Instrument) where
-  new_entered : Asking t message (Enters o) → new_stands t message o ≡ Stands → instrument_of t ≡ q → EnteredAs q t message o (new_taken t message o).table (new_taken t message o).reports
+  new_entered : Asking t message (Enters o) → new_stands t message o ≡ Ok tt → instrument_of t ≡ q → EnteredAs q t message o (new_taken t message o).table (new_taken t message o).reports
   unfolding new_taken entered open_of
   new_entered a s z =
       let few = new_account_short t message o a in
@@ -132,11 +132,11 @@ module _ (t message : List ℕ) (o : NewOrder) (q : Instrument) where
         silent = accepted_silent q _ tells.kind;
       }
 
-  entering_entered : (s : Standing) → new_stands t message o ≡ s → Asking t message (Enters o) → instrument_of t ≡ q → submit_number (entering t message o s).answer ≡ 0
+  entering_entered : (s : Result (Unit {0}) OrderReason) → new_stands t message o ≡ s → Asking t message (Enters o) → instrument_of t ≡ q → submit_number (entering t message o s).answer ≡ 0
       → EnteredAs q t message o (entering t message o s).table (entering t message o s).reports
   unfolding new_rejected rejecting
-  entering_entered Stands e a z n = new_entered a e z
-  entering_entered (Fails r) e a z n = absurd (omega arith)
+  entering_entered (Ok stands) e a z n = new_entered a e z
+  entering_entered (Err r) e a z n = absurd (omega arith)
 
   pub taken_entered : (room : ℕ) → TakenAs q t message room o → EnteredAs q t message o (submitted q t message room).table (submitted q t message room).reports
   taken_entered room x = by (comes q t message room)

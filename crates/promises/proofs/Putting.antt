@@ -29,8 +29,9 @@ use Rattle.table.specs.Changes.{numbered, entered, renewed, taken}
 use Rattle.table.proofs.Same.{Same, same_in, put_below, put_above, work_same, decided_same}
 use Rattle.table.proofs.Stores.{work_got}
 use Rattle.table.proofs.Kept.{idle_decided, new_heading}
-use Rattle.calls.specs.declared.Standing.{Standing}
-use Rattle.calls.specs.declared.Standing.TheVariants.{Stands, Fails}
+use Rattle.std.specs.Prelude.{Result, Ok, Err}
+use Rattle.calls.specs.declared.OrderReason.{OrderReason}
+use Rattle.calls.specs.declared.ChangeReason.{ChangeReason}
 use Rattle.calls.specs.Checks.{text_of, holder, new_stands, cancel_stands, replace_stands}
 use Rattle.calls.specs.Submit.{rejecting, faulted, new_order_of, new_rejected, change_rejected, new_taken, replacement_taken, cancel_taken, entering, replacing, canceling, handled, submitted}
 use Rattle.intake.specs.Intake.{Asking}
@@ -83,10 +84,10 @@ module _ (t message : List ℕ) where
   rejected_put : {x : Asked} → Asking t message x → Put (numbered t 1)
   rejected_put a = nothing (work_numbered t 1 ∙ a.idle)
 
-  new_put : (o : NewOrder) (s : Standing) → new_stands t message o ≡ s → Asking t message (Enters o) → Put (entering t message o s).table
+  new_put : (o : NewOrder) (s : Result (Unit {0}) OrderReason) → new_stands t message o ≡ s → Asking t message (Enters o) → Put (entering t message o s).table
   unfolding new_taken new_rejected rejecting entered open_of change
-  new_put o (Fails n) e a = rejected_put a
-  new_put o Stands e a =
+  new_put o (Err n) e a = rejected_put a
+  new_put o (Ok stands) e a =
       let few = new_account_short t message o a in
       let printable = new_account t message o a in
       let marked = new_marked t message o a in
@@ -102,10 +103,10 @@ module _ (t message : List ℕ) where
       put_working t _ k (text_of message o.time) x (idle_decided t a.market a.idle) (new_heading t k _ _ _ _ a.market g few printable marked n) long
       (time_short (text_of message o.time) (new_time t message o a)) (rw b h) (omega (arith, n.sound.qty_low))
 
-  replace_put : (o : Replacement) (s : Standing) → replace_stands t message o ≡ s → Asking t message (Replaces o) → Put (replacing t message o s).table
+  replace_put : (o : Replacement) (s : Result (Unit {0}) ChangeReason) → replace_stands t message o ≡ s → Asking t message (Replaces o) → Put (replacing t message o s).table
   unfolding replacement_taken change_rejected rejecting renewed replaced open_of change
-  replace_put o (Fails n) e a = rejected_put a
-  replace_put o Stands e a =
+  replace_put o (Err n) e a = rejected_put a
+  replace_put o (Ok stands) e a =
       let k : ℕ = holder t (text_of message o.original) in
       let i = replace_in t message o a k refl e in
       let g = replace_named t message o a k refl e in
@@ -127,10 +128,10 @@ module _ (t message : List ℕ) where
       same_two : (u v t : List ℕ) → Same u v 0 128 → Same v t 0 128 → Same u t 0 128
       same_two u v t p q = record { size = p.size ∙ q.size; byte = λ k l h. p.byte k l h ∙ q.byte k l h }
 
-  cancel_put : (o : Cancellation) (s : Standing) → cancel_stands t message o ≡ s → Asking t message (Cancels o) → Put (canceling t message o s).table
+  cancel_put : (o : Cancellation) (s : Result (Unit {0}) ChangeReason) → cancel_stands t message o ≡ s → Asking t message (Cancels o) → Put (canceling t message o s).table
   unfolding cancel_taken change_rejected rejecting taken withdrawn
-  cancel_put o (Fails n) e a = rejected_put a
-  cancel_put o Stands e a =
+  cancel_put o (Err n) e a = rejected_put a
+  cancel_put o (Ok stands) e a =
       let i = cancel_in t message o a (holder t (text_of message o.original)) refl e in
       nothing
       (work_told _ 1 ∙ work_same (put_below _ _ _ 32 33 (omega (arith, i.low))) ∙ work_same (put_below t _ _ 32 33 (omega (arith, i.low))) ∙ a.idle)

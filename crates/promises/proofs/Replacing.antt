@@ -41,8 +41,8 @@ use Rattle.report.specs.declared.Kind.TheVariants as kind
 use Rattle.report.specs.declared.Reading.{Reading}
 use Rattle.report.specs.Reports.{read_of}
 use Rattle.readback.specs.Says.{says}
-use Rattle.calls.specs.declared.Standing.{Standing}
-use Rattle.calls.specs.declared.Standing.TheVariants.{Stands, Fails}
+use Rattle.std.specs.Prelude.{Result, Ok, Err}
+use Rattle.calls.specs.declared.ChangeReason.{ChangeReason}
 use Rattle.calls.specs.Checks.{text_of, holder, replace_stands}
 use Rattle.calls.specs.Submit.{change_rejected, rejecting, replacement_taken, replacing, handled, submitted, submit_number}
 use Rattle.intake.specs.Intake.{Asking}
@@ -128,7 +128,7 @@ replaced_heading t k id l x p h =
     (put_below t (128 * k) (text_bytes 32 id) 0 128 (omega arith))
 
 module _ (t message : List ℕ) (o : Replacement) (q : Instrument) where
-  replace_changed : Asking t message (Replaces o) → replace_stands t message o ≡ Stands → instrument_of t ≡ q → ChangedAs q t message o (replacement_taken t message o (holder t (text_of message o.original))).table (replacement_taken t message o (holder t (text_of message o.original))).reports
+  replace_changed : Asking t message (Replaces o) → replace_stands t message o ≡ Ok tt → instrument_of t ≡ q → ChangedAs q t message o (replacement_taken t message o (holder t (text_of message o.original))).table (replacement_taken t message o (holder t (text_of message o.original))).reports
   unfolding replacement_taken renewed open_of change
   replace_changed a s z =
       let k : ℕ = holder t (text_of message o.original) in
@@ -161,11 +161,11 @@ module _ (t message : List ℕ) (o : Replacement) (q : Instrument) where
         reason = tells.reason;
       }
 
-  replacing_changed : (s : Standing) → replace_stands t message o ≡ s → Asking t message (Replaces o) → instrument_of t ≡ q → submit_number (replacing t message o s).answer ≡ 0
+  replacing_changed : (s : Result (Unit {0}) ChangeReason) → replace_stands t message o ≡ s → Asking t message (Replaces o) → instrument_of t ≡ q → submit_number (replacing t message o s).answer ≡ 0
       → ChangedAs q t message o (replacing t message o s).table (replacing t message o s).reports
   unfolding change_rejected rejecting
-  replacing_changed Stands e a z n = replace_changed a e z
-  replacing_changed (Fails r) e a z n = absurd (omega arith)
+  replacing_changed (Ok stands) e a z n = replace_changed a e z
+  replacing_changed (Err r) e a z n = absurd (omega arith)
 
   pub renewed_changed : (room : ℕ) → RenewedAs q t message room o → ChangedAs q t message o (submitted q t message room).table (submitted q t message room).reports
   renewed_changed room x = by (comes q t message room)

@@ -25,8 +25,9 @@ use Rattle.table.proofs.OrderIds.{numbered_order_id, withdrawn_order_id, replace
 use Rattle.report.specs.declared.Reading.{Reading}
 use Rattle.report.specs.Reports.{read_of}
 use Rattle.ticket.specs.Tickets.{ticket_of}
-use Rattle.calls.specs.declared.Standing.{Standing}
-use Rattle.calls.specs.declared.Standing.TheVariants.{Stands, Fails}
+use Rattle.std.specs.Prelude.{Result, Ok, Err}
+use Rattle.calls.specs.declared.OrderReason.{OrderReason}
+use Rattle.calls.specs.declared.ChangeReason.{ChangeReason}
 use Rattle.calls.specs.Checks.{text_of, holder, new_stands, cancel_stands, replace_stands}
 use Rattle.calls.specs.Submit.{Submitted, cause_of, sent_at, no_text, rejecting, faulted, new_rejected, change_rejected, marks_of, new_order_of, new_taken, replacement_taken, cancel_taken, entering, replacing, canceling, handled, submitted}
 use Rattle.intake.specs.Intake.{Asking}
@@ -68,17 +69,17 @@ module _ (q : Instrument) (t message : List ℕ) where
 
 -- all of it
 pub record Told (q : Instrument) : Type 0 where
-  pub new : (t message : List ℕ) (o : NewOrder) → Asking t message (Enters o) → instrument_of t ≡ q → new_stands t message o ≡ Stands → NewTells q t message o
-  pub replace : (t message : List ℕ) (o : Replacement) → Asking t message (Replaces o) → instrument_of t ≡ q → replace_stands t message o ≡ Stands
+  pub new : (t message : List ℕ) (o : NewOrder) → Asking t message (Enters o) → instrument_of t ≡ q → new_stands t message o ≡ Ok tt → NewTells q t message o
+  pub replace : (t message : List ℕ) (o : Replacement) → Asking t message (Replaces o) → instrument_of t ≡ q → replace_stands t message o ≡ Ok tt
       → ReplaceTells q t message o (holder t (text_of message o.original))
-  pub cancel : (t message : List ℕ) (o : Cancellation) → Asking t message (Cancels o) → instrument_of t ≡ q → cancel_stands t message o ≡ Stands
+  pub cancel : (t message : List ℕ) (o : Cancellation) → Asking t message (Cancels o) → instrument_of t ≡ q → cancel_stands t message o ≡ Ok tt
       → CancelTells q t message o (holder t (text_of message o.original))
   pub fault : (t message : List ℕ) (r : Refusal) → Asking t message (Refused r) → instrument_of t ≡ q → Silent q (faulted t message r).reports
-  pub new_fails : (t message : List ℕ) (o : NewOrder) (n : ℕ) → Asking t message (Enters o) → instrument_of t ≡ q → new_stands t message o ≡ Fails n
+  pub new_fails : (t message : List ℕ) (o : NewOrder) (n : OrderReason) → Asking t message (Enters o) → instrument_of t ≡ q → new_stands t message o ≡ Err n
       → Silent q (new_rejected t message o n).reports
-  pub replace_fails : (t message : List ℕ) (o : Replacement) (n : ℕ) → Asking t message (Replaces o) → instrument_of t ≡ q → replace_stands t message o ≡ Fails n
+  pub replace_fails : (t message : List ℕ) (o : Replacement) (n : ChangeReason) → Asking t message (Replaces o) → instrument_of t ≡ q → replace_stands t message o ≡ Err n
       → Silent q (change_rejected t message o.time o.id o.original (holder t (text_of message o.original)) n 2).reports
-  pub cancel_fails : (t message : List ℕ) (o : Cancellation) (n : ℕ) → Asking t message (Cancels o) → instrument_of t ≡ q → cancel_stands t message o ≡ Fails n
+  pub cancel_fails : (t message : List ℕ) (o : Cancellation) (n : ChangeReason) → Asking t message (Cancels o) → instrument_of t ≡ q → cancel_stands t message o ≡ Err n
       → Silent q (change_rejected t message o.time o.id o.original (holder t (text_of message o.original)) n 1).reports
 
 -- what a Submitted leads to
@@ -94,11 +95,11 @@ module _ (q : Instrument) (told : Told q) (t message : List ℕ) where
   unfolding faulted rejecting
   fault_leads r a k c = rejected_leads _ a.market (omega (arith, c.next_is)) (told.fault t message r a k)
 
-  new_leads : (o : NewOrder) (s : Standing) → new_stands t message o ≡ s → Asking t message (Enters o) → instrument_of t ≡ q → Counted t (entering t message o s)
+  new_leads : (o : NewOrder) (s : Result (Unit {0}) OrderReason) → new_stands t message o ≡ s → Asking t message (Enters o) → instrument_of t ≡ q → Counted t (entering t message o s)
       → LeadsTo q t (entering t message o s)
   unfolding new_taken new_rejected rejecting entered
-  new_leads o (Fails n) e a i c = rejected_leads _ a.market (omega (arith, c.next_is)) (told.new_fails t message o n a i e)
-  new_leads o Stands e a i c =
+  new_leads o (Err n) e a i c = rejected_leads _ a.market (omega (arith, c.next_is)) (told.new_fails t message o n a i e)
+  new_leads o (Ok stands) e a i c =
       let few = new_account_short t message o a in
       let printable = new_account t message o a in
       let marked = new_marked t message o a in
@@ -114,11 +115,11 @@ module _ (q : Instrument) (told : Told q) (t message : List ℕ) where
       (ids_others t (record_for t) _ _ _ _ a.market g few printable marked n)
       (ids_working _ 1 (record_for t) _ short) c.next_is (told.new t message o a i e)
 
-  replace_leads : (o : Replacement) (s : Standing) → replace_stands t message o ≡ s → Asking t message (Replaces o) → instrument_of t ≡ q → Counted t (replacing t message o s)
+  replace_leads : (o : Replacement) (s : Result (Unit {0}) ChangeReason) → replace_stands t message o ≡ s → Asking t message (Replaces o) → instrument_of t ≡ q → Counted t (replacing t message o s)
       → LeadsTo q t (replacing t message o s)
   unfolding replacement_taken change_rejected rejecting renewed
-  replace_leads o (Fails n) e a z c = rejected_leads _ a.market (omega (arith, c.next_is)) (told.replace_fails t message o n a z e)
-  replace_leads o Stands e a z c =
+  replace_leads o (Err n) e a z c = rejected_leads _ a.market (omega (arith, c.next_is)) (told.replace_fails t message o n a z e)
+  replace_leads o (Ok stands) e a z c =
       let k : ℕ = holder t (text_of message o.original) in
       let i = replace_in t message o a k refl e in
       let g = replace_named t message o a k refl e in
@@ -129,11 +130,11 @@ module _ (q : Instrument) (told : Told q) (t message : List ℕ) where
       (book_working _ 1 k _ (long_replaced t k _ a.market i g _ _ _ n) short)
       (λ i. replaced_order_id t i _ _ g.short) (ids_working _ 1 k _ short) (omega (arith, c.next_is)) (told.replace t message o a z e) refl
 
-  cancel_leads : (o : Cancellation) (s : Standing) → cancel_stands t message o ≡ s → Asking t message (Cancels o) → instrument_of t ≡ q → Counted t (canceling t message o s)
+  cancel_leads : (o : Cancellation) (s : Result (Unit {0}) ChangeReason) → cancel_stands t message o ≡ s → Asking t message (Cancels o) → instrument_of t ≡ q → Counted t (canceling t message o s)
       → LeadsTo q t (canceling t message o s)
   unfolding cancel_taken change_rejected rejecting taken
-  cancel_leads o (Fails n) e a y c = rejected_leads _ a.market (omega (arith, c.next_is)) (told.cancel_fails t message o n a y e)
-  cancel_leads o Stands e a y c =
+  cancel_leads o (Err n) e a y c = rejected_leads _ a.market (omega (arith, c.next_is)) (told.cancel_fails t message o n a y e)
+  cancel_leads o (Ok stands) e a y c =
       let k : ℕ = holder t (text_of message o.original) in
       let i = cancel_in t message o a k refl e in
       let g = cancel_named t message o a k refl e in

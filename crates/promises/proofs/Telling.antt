@@ -40,12 +40,14 @@ use Rattle.ticket.proofs.Running.{Legibles, step_legibles}
 use Rattle.ticket.proofs.Taking.{sent_text, sent_placed, new_legible, replaced_legible, withdrawn_legible, market_holder, unchanged_legible}
 use Rattle.readback.specs.Told.{quantity_told}
 use Rattle.readback.proofs.Events.{event_says, refused_is_read, unchanged_is_read, faulty_is_read}
-use Rattle.calls.specs.declared.Standing.{Standing}
-use Rattle.calls.specs.declared.Standing.TheVariants.{Stands, Fails}
-use Rattle.calls.specs.Checks.{text_of, holder, in_table, is_code, new_stands, change_stands, cancel_stands, and_above, replace_stands}
+use Rattle.std.specs.Prelude.{Ok, Err}
+use Rattle.calls.specs.declared.OrderReason.{OrderReason}
+use Rattle.calls.specs.declared.ChangeReason.{ChangeReason}
+use Rattle.calls.specs.Checks.{text_of, holder, change_number, new_stands, cancel_stands, replace_stands}
 use Rattle.calls.specs.Submit.{cause_of, sent_at, no_text, rejecting, faulted, new_rejected, change_rejected}
 use Rattle.calls.specs.Run.{event_report}
 use Rattle.intake.specs.Intake.{Asking}
+use Rattle.intake.proofs.Legibles.{new_reason, change_reason}
 use Rattle.intake.proofs.Standing.{between_printable, between_symbols, side_is, holder_few, new_named, new_account, new_account_short, new_marked, new_quoted, new_enters, cancel_in, cancel_named, replace_in, replace_named, replace_renews, replace_quoted}
 use Rattle.promises.proofs.Requested.{kind_accepted, kind_withdrawn, kind_replaced}
 use Rattle.promises.proofs.Agreeing.{applied_instrument}
@@ -115,7 +117,7 @@ headed t message p a s =
 
 -- ---- what is taken
 module _ (q : Instrument) (t message : List ℕ) where
-  new_tells : (o : NewOrder) → Asking t message (Enters o) → instrument_of t ≡ q → new_stands t message o ≡ Stands → NewTells q t message o
+  new_tells : (o : NewOrder) → Asking t message (Enters o) → instrument_of t ≡ q → new_stands t message o ≡ Ok tt → NewTells q t message o
   new_tells o a i e =
       let few = new_account_short t message o a in
       let printable = new_account t message o a in
@@ -127,7 +129,7 @@ module _ (q : Instrument) (t message : List ℕ) where
       (new_legible t message (record_for t) _ _ _ _ (cause_of o.time no_text) a.market a.idle g few printable marked (new_quoted t message o a) n
       (sent_time message _ o.time (enters_spelt _ _ _ message o a.asks).time))
 
-  replace_tells : (o : Replacement) → Asking t message (Replaces o) → instrument_of t ≡ q → replace_stands t message o ≡ Stands
+  replace_tells : (o : Replacement) → Asking t message (Replaces o) → instrument_of t ≡ q → replace_stands t message o ≡ Ok tt
       → ReplaceTells q t message o (holder t (text_of message o.original))
   replace_tells o a z e =
       let k : ℕ = holder t (text_of message o.original) in
@@ -139,7 +141,7 @@ module _ (q : Instrument) (t message : List ℕ) where
       o.level o.quantity (next_of t) (replace_renews t message o a k refl e) (replace_quoted t message o a) (sent_time message _ o.time s.time)
       (placed_text message _ o.original 32 s.original))
 
-  cancel_tells : (o : Cancellation) → Asking t message (Cancels o) → instrument_of t ≡ q → cancel_stands t message o ≡ Stands
+  cancel_tells : (o : Cancellation) → Asking t message (Cancels o) → instrument_of t ≡ q → cancel_stands t message o ≡ Ok tt
       → CancelTells q t message o (holder t (text_of message o.original))
   cancel_tells o a z e =
       let k : ℕ = holder t (text_of message o.original) in
@@ -157,51 +159,6 @@ among_of : (ns : List ℕ) (x : ℕ) → one_of x ns ≡ is_among ns x
 unfolding one_of
 among_of [] x = refl
 among_of (n ∷ ns) x = ap (λ (b : Bool). eqb x n || b) (among_of ns x)
-
-fails_is : (a n : ℕ) → Fails a ≡ Fails n → a ≡ n
-fails_is a n e = cc
-
-not_fails : (n : ℕ) → Stands ≡ Fails n → ⊥
-not_fails n e = let z : ◌≡◌ {A = ℕ} 0 1 = cc in omega arith
-
--- why a new order is rejected: 103
-new_reason : (t message : List ℕ) (o : NewOrder) (n : ℕ) → new_stands t message o ≡ Fails n → is_among (0 ∷ 1 ∷ 6 ∷ 99 ∷ []) n ≡ true
-unfolding new_stands
-new_reason t message o n e =
-    split (not (is_code t (text_of message o.code))) (λ x. rw (← fails_is 1 n (rw x at e))) (λ x.
-    split (ltb 0 o.terms.mpid && not (is_listed t o.terms.mpid)) (λ y. rw (← fails_is 99 n (rw (x, y) at e))) (λ y.
-    split (in_table t (text_of message o.id)) (λ z. rw (← fails_is 6 n (rw (x, y, z) at e))) (λ z.
-    split (eqb (record_for t) 0) (λ w. rw (← fails_is 0 n (rw (x, y, z, w) at e)))
-    (λ w. absurd (not_fails n (rw (x, y, z, w) at e))))))
-
--- why a change is: 102
-change_reason : (t : List ℕ) (k : ℕ) (code cl_ord_id : List ℕ) (side n : ℕ) → change_stands t k code cl_ord_id side ≡ Fails n → is_among (0 ∷ 1 ∷ 2 ∷ []) n ≡ true
-unfolding change_stands
-change_reason t k code cl_ord_id side n e =
-    split (not (is_code t code) || eqb k 0) (λ x. rw (← fails_is 1 n (rw x at e))) (λ x.
-    split (not (eqb side (order_at t k).side)) (λ y. rw (← fails_is 2 n (rw (x, y) at e))) (λ y.
-    split (eqb (open_of (order_at t k)) 0) (λ z. rw (← fails_is 0 n (rw (x, y, z) at e))) (λ z.
-    split (in_table t cl_ord_id) (λ w. rw (← fails_is 2 n (rw (x, y, z, w) at e)))
-    (λ w. absurd (not_fails n (rw (x, y, z, w) at e))))))
-
-above_reason : (t : List ℕ) (k q n : ℕ) (s : Standing) → ((m : ℕ) → s ≡ Fails m → is_among (0 ∷ 1 ∷ 2 ∷ []) m ≡ true) → and_above t k q s ≡ Fails n
-    → is_among (0 ∷ 1 ∷ 2 ∷ []) n ≡ true
-above_reason t k q n (Fails r) h e = h n e
-above_reason t k q n Stands h e =
-    split (ltb ((order_at t k).executed + (order_at t k).decremented) q)
-    (λ x. absurd (not_fails n (rw x at e)))
-    (λ x. rw (← fails_is 2 n (rw x at e)))
-
-replace_reason : (t message : List ℕ) (o : Replacement) (n : ℕ) → replace_stands t message o ≡ Fails n → is_among (0 ∷ 1 ∷ 2 ∷ []) n ≡ true
-unfolding replace_stands
-replace_reason t message o n e =
-    let k : ℕ = holder t (text_of message o.original) in
-    above_reason t k o.quantity n (change_stands t k (text_of message o.code) (text_of message o.id) o.side)
-    (λ m x. change_reason t k (text_of message o.code) (text_of message o.id) o.side m x) e
-
-cancel_reason : (t message : List ℕ) (o : Cancellation) (n : ℕ) → cancel_stands t message o ≡ Fails n → is_among (0 ∷ 1 ∷ 2 ∷ []) n ≡ true
-unfolding cancel_stands
-cancel_reason t message o n e = change_reason t _ _ _ _ n e
 
 -- each report is of its own kind, and so of no order's amounts
 abbrev silent : Reading → Bool
@@ -224,7 +181,7 @@ module _ (q : Instrument) (t message : List ℕ) where
         reason = sym (among_of _ r.reason) ∙ s.reason_is;
       })))
 
-  new_silent : (o : NewOrder) (n : ℕ) → Asking t message (Enters o) → instrument_of t ≡ q → new_stands t message o ≡ Fails n → Silent q (new_rejected t message o n).reports
+  new_silent : (o : NewOrder) (n : OrderReason) → Asking t message (Enters o) → instrument_of t ≡ q → new_stands t message o ≡ Err n → Silent q (new_rejected t message o n).reports
   unfolding new_rejected rejecting
   new_silent o n a z e =
       let s = enters_spelt _ _ _ message o a.asks in
@@ -237,31 +194,31 @@ module _ (q : Instrument) (t message : List ℕ) where
         code = placed_code message t o.code (instrument_of t) s.code;
         quantity = g.sized.quantity_high;
         side = side_is (instrument_of t) o.terms.side g.sized.side_is;
-        reason = new_reason t message o n e;
+        reason = new_reason n;
       })))
 
-  change_silent : (time id original : Part) {x : Asked} (n response : ℕ) → Asking t message x → instrument_of t ≡ q → Timed message time → Spelt message id 1 32 32 126
-      → Spelt message original 1 32 32 126 → is_among (0 ∷ 1 ∷ 2 ∷ []) n ≡ true → is_among (1 ∷ 2 ∷ []) response ≡ true
+  change_silent : (time id original : Part) {x : Asked} (n : ChangeReason) (response : ℕ) → Asking t message x → instrument_of t ≡ q → Timed message time → Spelt message id 1 32 32 126
+      → Spelt message original 1 32 32 126 → is_among (1 ∷ 2 ∷ []) response ≡ true
       → Silent q (change_rejected t message time id original (holder t (text_of message original)) n response).reports
   unfolding change_rejected rejecting
-  change_silent time id original n response a z s b c d r =
+  change_silent time id original n response a z s b c r =
       let k : ℕ = holder t (text_of message original) in
       rw (← z)
       (ap silent (unchanged_is_read t message (next_of t) (sent_at time) _
-      (unchanged_legible t message (next_of t) (sent_at time) k (sent_at id) (sent_at original) n response (headed t message time a s)
-      (market_holder t k a.market (holder_few t (text_of message original))) (placed_text message t id 32 b) (placed_text message t original 32 c) d r)))
+      (unchanged_legible t message (next_of t) (sent_at time) k (sent_at id) (sent_at original) (change_number n) response (headed t message time a s)
+      (market_holder t k a.market (holder_few t (text_of message original))) (placed_text message t id 32 b) (placed_text message t original 32 c) (change_reason n) r)))
 
-  replace_silent : (o : Replacement) (n : ℕ) → Asking t message (Replaces o) → instrument_of t ≡ q → replace_stands t message o ≡ Fails n
+  replace_silent : (o : Replacement) (n : ChangeReason) → Asking t message (Replaces o) → instrument_of t ≡ q → replace_stands t message o ≡ Err n
       → Silent q (change_rejected t message o.time o.id o.original (holder t (text_of message o.original)) n 2).reports
   replace_silent o n a z e =
       let s = replaces_spelt _ _ _ message o a.asks in
-      change_silent o.time o.id o.original n 2 a z s.time s.id s.original (replace_reason t message o n e) refl
+      change_silent o.time o.id o.original n 2 a z s.time s.id s.original refl
 
-  cancel_silent : (o : Cancellation) (n : ℕ) → Asking t message (Cancels o) → instrument_of t ≡ q → cancel_stands t message o ≡ Fails n
+  cancel_silent : (o : Cancellation) (n : ChangeReason) → Asking t message (Cancels o) → instrument_of t ≡ q → cancel_stands t message o ≡ Err n
       → Silent q (change_rejected t message o.time o.id o.original (holder t (text_of message o.original)) n 1).reports
   cancel_silent o n a z e =
       let s = cancels_spelt _ _ _ message o a.asks in
-      change_silent o.time o.id o.original n 1 a z s.time s.id s.original (cancel_reason t message o n e) refl
+      change_silent o.time o.id o.original n 1 a z s.time s.id s.original refl
 
 -- all that is asked of the reports of Submit
 pub all_told : (q : Instrument) → Told q

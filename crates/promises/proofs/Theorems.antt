@@ -28,11 +28,10 @@ use Rattle.table.proofs.Facts.{market_facts}
 use Rattle.table.proofs.Same.{filled_few}
 use Rattle.report.specs.declared.Reading.{Reading}
 use Rattle.report.specs.Reports.{read_of}
-use Rattle.calls.specs.declared.SubmitAnswer.TheVariants as submit-answer
-use Rattle.calls.specs.declared.RunAnswer.TheVariants as run-answer
+use Rattle.std.specs.Prelude.{Err}
+use Rattle.refusals.specs.declared.Refusal.TheVariants.{NoMarket}
 use Rattle.calls.specs.Submit.{submitted}
 use Rattle.calls.specs.Run.{ran, run_steps}
-use Rattle.load.specs.declared.LoadAnswer.TheVariants as load-answer
 use Rattle.load.specs.Load.{enough, Loaded, loaded, load_number, load_place, refuses}
 use Rattle.load.specs.Resumes.{GoesOn}
 use Rattle.load.proofs.Theorems.{load_goes_on}
@@ -78,13 +77,13 @@ module _ (q : Instrument) (before venue port code : List ℕ) (first : ℕ) (mpi
   pub a_market : is_market_of q table ≡ true
   a_market = after_market q before venue port code first mpids modes taken calls
 
-  pub submit_finds_a_market : (message : List ℕ) (room : ℕ) → (submitted q table message room).answer ≢ submit-answer.NoMarket
+  pub submit_finds_a_market : (message : List ℕ) (room : ℕ) → (submitted q table message room).answer ≢ Err NoMarket
   submit_finds_a_market = submit_found q table a_market
 
-  pub run_finds_a_market : (room budget : ℕ) → (ran q table room budget).answer ≢ run-answer.NoMarket
+  pub run_finds_a_market : (room budget : ℕ) → (ran q table room budget).answer ≢ Err NoMarket
   run_finds_a_market = run_found q table a_market
 
-  pub load_finds_a_market : (buffer : List ℕ) (room : ℕ) → (loaded q table buffer room).answer ≢ load-answer.NoMarket
+  pub load_finds_a_market : (buffer : List ℕ) (room : ℕ) → (loaded q table buffer room).answer ≢ Err NoMarket
   load_finds_a_market = load_found q table a_market
 
   pub depth_finds_a_market : (side k : ℕ) → depth_answer q table side k ≢ Err refusal.NoMarket

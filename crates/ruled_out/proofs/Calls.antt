@@ -23,15 +23,18 @@ use Rattle.table.specs.Opened.{is_name, is_new, is_given, are_given, are_names, 
 use Rattle.table.specs.Orders.{order_id_at, marks_at, order_at, filled, orders_from, book_of, first_record, record_with, record_for, term_bytes, amount_bytes, end_bytes, tail_bytes, record_of, applied, withdrawn, replaced, accepted, field_bytes}
 use Rattle.calls.specs.Checks.{holder, new_stands, change_stands, cancel_stands, replace_stands}
 use Rattle.calls.specs.Submit.{rejecting, faulted, new_rejected, change_rejected, new_taken, replacement_taken, cancel_taken, submitted, Submitted, submit_number, submit_length}
-use Rattle.calls.specs.Run.{event_report, event_reports, step_reports, worked, ran, Ran, run_number, run_bytes, run_reports, run_steps}
+use Rattle.calls.specs.Run.{event_report, event_reports, step_reports, worked, ran, Ran, run_bytes, run_reports, run_steps}
 use Rattle.calls.specs.Told.{joined}
 use Rattle.report.specs.Fields.{label, written, field_bytes as written_field}
 use Rattle.report.specs.Frame.{version, front, trailer, report_bytes}
 use Rattle.rows.specs.Rows.{text, or_number, digit, or_digit, or_nobody, group, own_field, last_field, other_field, count_field, avg_px, replaced_status, trade_status, status_of, figures_of, header, accepted_fields, replaced_fields, canceled_fields, trade_fields, cancel_reject_row}
 use Rattle.ticket.specs.Tickets.{or_stored_at, stamp_on, shown_on, row_of, ticket_of, unchanged_on, unchanged_row}
-use Rattle.calls.specs.declared.RunAnswer.{RunAnswer}
+use Rattle.std.specs.Prelude.{Result}
+use Rattle.refusals.specs.declared.Refusal.{Refusal}
+use Rattle.refusals.specs.Refusals.{answer_number}
+use Rattle.calls.specs.declared.Progress.{Progress}
 use Rattle.decimal.specs.declared.Instrument.TheVariants.{Bonds, Equities}
-use Rattle.calls.specs.Open.{open_answer, open_number_of}
+use Rattle.calls.specs.Open.{open_answer}
 use Rattle.std.specs.Prelude.{Some}
 use Rattle.kamurjesh.specs.Numbers.{signed_of, quote_of}
 use lib.IntN.{pos}
@@ -51,7 +54,7 @@ abbrev sevens : List ℕ
 sevens = replicate 32768 7
 
 -- there is no mode 4
-mode_four : open_number_of (open_answer Bonds sevens (message "V") (message "P") (message "350") 1 (10 ∷ []) (4 ∷ [])) ≡ 9
+mode_four : answer_number (open_answer Bonds sevens (message "V") (message "P") (message "350") 1 (10 ∷ []) (4 ∷ [])) ≡ 9
 unfolding computes
 mode_four = refl
 
@@ -148,7 +151,7 @@ unfolding computes
 newest_stops = refl
 
 -- a budget of one is one step, with the two reports of its trade, 508 bytes; a second step is not taken with 1,023 bytes free
-abbrev figures : RunAnswer → List ℕ
+abbrev figures : Result Progress Refusal → List ℕ
 figures a = run_bytes a ∷ run_reports a ∷ run_steps a ∷ []
 
 one_step : figures (ran Bonds (book_r 1) 262144 1).answer ≡ 508 ∷ 2 ∷ 1 ∷ []
@@ -222,7 +225,7 @@ submit_other : submit_number (submitted Bonds fresh_shares buy 1024).answer ≡ 
 unfolding computes
 submit_other = refl
 
-run_other : run_number (ran Bonds fresh_shares 262144 256).answer ≡ 2
+run_other : answer_number (ran Bonds fresh_shares 262144 256).answer ≡ 2
 unfolding computes
 run_other = refl
 
@@ -230,7 +233,7 @@ depth_other : depth_number (depth_answer Bonds fresh_shares 1 0) ≡ 2
 unfolding computes
 depth_other = refl
 
-bonds_other : run_number (ran Equities (fresh 1) 262144 256).answer ≡ 2
+bonds_other : answer_number (ran Equities (fresh 1) 262144 256).answer ≡ 2
 unfolding computes
 bonds_other = refl
 

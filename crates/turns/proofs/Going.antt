@@ -25,8 +25,10 @@ use Rattle.table.specs.Facts.{Market}
 use Rattle.table.proofs.Instruments.{of_market}
 use Rattle.table.proofs.Facts.{market_facts}
 use Rattle.table.proofs.Kept.{stepped_kept}
-use Rattle.calls.specs.declared.RunAnswer.{RunAnswer}
-use Rattle.calls.specs.declared.RunAnswer.TheVariants as answer
+use Rattle.std.specs.Prelude.{Result, Ok, Err}
+use Rattle.refusals.specs.declared.Refusal.{Refusal}
+use Rattle.refusals.specs.declared.Refusal.TheVariants.{NoRoom, NoMarket}
+use Rattle.calls.specs.declared.Progress.{Progress}
 use Rattle.calls.specs.Told.{joined, area_after}
 use Rattle.calls.specs.Run.{step_reports, stops, still, one_more, worked, ran}
 use Rattle.turns.specs.declared.events.Told.{Told}
@@ -82,7 +84,7 @@ module _ (t₀ area₀ : List ℕ) (budget : ℕ) (t area : List ℕ) (at report
     stopped : worked (budget - taken) t (length area₀ - at) ≡ still t
     stopped = stops_still t (length area₀ - at) (budget - taken) (sym e ∙ z)
 
-    pub stop_walked : Walked t₀ area₀ budget (answer.Ran at reports taken) t area
+    pub stop_walked : Walked t₀ area₀ budget (record { bytes = at; reports = reports; steps = taken }) t area
     unfolding joined put
     stop_walked =
         let b = rw stopped at g.bytes in
@@ -165,15 +167,16 @@ module _ (t₀ area₀ : List ℕ) (budget : ℕ) (t area : List ℕ) (at report
 
 -- the budget is spent
 pub spent_walked : (t₀ area₀ : List ℕ) (budget : ℕ) (t area : List ℕ) (at reports taken : ℕ) → Going t₀ area₀ budget t area at reports taken
-    → budget ≤ taken → Walked t₀ area₀ budget (answer.Ran at reports taken) t area
+    → budget ≤ taken → Walked t₀ area₀ budget (record { bytes = at; reports = reports; steps = budget }) t area
 unfolding worked joined put
 spent_walked t₀ area₀ budget t area at reports taken g l =
     let z : budget - taken ≡ 0 = omega arith in
+    let k : taken ≡ budget = omega (arith, g.few) in
     let b = rw z at g.bytes in
     let c = rw z at g.count in
     let s = rw z at g.steps in
     record {
-      answer = rw (b, c, s, add-zero at, add-zero reports, add-zero taken);
+      answer = rw (b, c, s, add-zero at, add-zero reports, add-zero taken, k);
       table = sym (rw z at g.table);
       bytes_in = sym (rw z at g.written);
     }
@@ -187,7 +190,7 @@ module _ (t area : List ℕ) (budget : ℕ) (f : Bool) (e : f ≡ stops t (lengt
   none_worked h =
       split (eqb budget 0) (λ z. rw (eqb-true budget 0 z)) (λ z. stops_still t (length area) budget (sym e ∙ (rw z at h)))
 
-  pub none_walked : (eqb budget 0 || f) ≡ true → Walked t area budget (answer.Ran 0 0 0) t area
+  pub none_walked : (eqb budget 0 || f) ≡ true → Walked t area budget (record { bytes = 0; reports = 0; steps = 0 }) t area
   unfolding joined put
   none_walked h = let w = none_worked h in record { answer = rw w; table = rw w; bytes_in = rw w }
 
@@ -217,7 +220,7 @@ module _ (t area : List ℕ) (budget : ℕ) (f : Bool) (e : f ≡ stops t (lengt
           ap (λ (k : ℕ). worked k t (length area)) b ∙ goes_one t (length area) (budget - 1) last_goes ∙ rw s
 
       pub last_walked : (r : Told) (u written : List ℕ) → Turned t area r u written
-          → Walked t area budget (answer.Ran r.bytes r.reports 1) u written
+          → Walked t area budget (record { bytes = r.bytes; reports = r.reports; steps = 1 }) u written
       last_walked r u written x =
           let b : r.bytes ≡ length (joined (step_reports t)) = omega (arith, x.bytes_in.place) in
           record {
@@ -234,21 +237,25 @@ last_partner t e = sym e
 
 -- ---- Run
 
+-- what is answered of steps that are taken
+abbrev answered : Progress → Result Progress Refusal
+answered p = Ok p
+
 -- what Run leaves
-pub record Leaves (q : Instrument) (t area : List ℕ) (budget : ℕ) (r : RunAnswer) (after written : List ℕ) : Type 0 where
+pub record Leaves (q : Instrument) (t area : List ℕ) (budget : ℕ) (r : Result Progress Refusal) (after written : List ℕ) : Type 0 where
   pub answer : r ≡ (ran q t (length area) budget).answer
   pub table : after ≡ (ran q t (length area) budget).table
   pub bytes_in : written ≡ area_after area (ran q t (length area) budget).reports
 
 module _ (q : Instrument) (t area : List ℕ) (budget : ℕ) where
-  pub run_no_room : length area < 1024 → Leaves q t area budget answer.NoRoom t area
+  pub run_no_room : length area < 1024 → Leaves q t area budget (Err NoRoom) t area
   unfolding ran joined put
   run_no_room h =
       let e = lt-ltb (length area) 1024 h in
       record { answer = rw e; table = rw e; bytes_in = rw e }
 
   module _ (l : 1024 ≤ length area) (f : Bool) (p : f ≡ is_market_of q t) where
-    pub run_no_market : not f ≡ true → Leaves q t area budget answer.NoMarket t area
+    pub run_no_market : not f ≡ true → Leaves q t area budget (Err NoMarket) t area
     unfolding ran joined put
     run_no_market h =
         let e : not (is_market_of q t) ≡ true = rw (← p) h in
@@ -262,9 +269,9 @@ module _ (q : Instrument) (t area : List ℕ) (budget : ℕ) where
         yes true e = refl
         yes false e = sym e
 
-    pub run_walked : not f ≡ false → (r : RunAnswer) (u written : List ℕ) → Walked t area budget r u written → Leaves q t area budget r u written
+    pub run_walked : not f ≡ false → (r : Progress) (u written : List ℕ) → Walked t area budget r u written → Leaves q t area budget (Ok r) u written
     unfolding ran
     run_walked h r u written w =
         let e : not (is_market_of q t) ≡ false = rw (← p) h in
         let d = le-ltb (length area) 1024 l in
-        record { answer = rw (d, e) w.answer; table = rw (d, e) w.table; bytes_in = rw (d, e) w.bytes_in }
+        record { answer = rw (d, e) (ap answered w.answer); table = rw (d, e) w.table; bytes_in = rw (d, e) w.bytes_in }

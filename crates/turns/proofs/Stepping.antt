@@ -1,7 +1,7 @@
 -- A step of the order in work: whom it is matched with, what that comes to, that its events can be told of, and the table after
 -- it: its next number, its order in work, its book and its modes.
 use mathlib.Core.Path.{◌≡◌, refl, sym, ap, ◌∙◌}
-use mathlib.Core.Bool.{Bool, true, false, cond, ◌&&◌, ◌||◌}
+use mathlib.Core.Bool.{Bool, true, false, not, cond, ◌&&◌, ◌||◌}
 use mathlib.Core.List.{List, [], ◌∷◌}
 use Prim.Native.Nat.{ℕ, ◌+◌, ◌≤◌, ◌<◌}
 use native.Mathlib.Omega.{arith}
@@ -47,6 +47,8 @@ use Rattle.calls.specs.Told.{joined}
 use Rattle.calls.specs.Run.{step_reports}
 use Rattle.turns.specs.declared.events.Told.{Told}
 use Rattle.turns.specs.declared.step.Plan.{Plan}
+use Rattle.std.specs.Bool.{then_some}
+use Rattle.std.specs.Prelude.{Option, Some, None}
 use Rattle.turns.specs.Turns.{Telling, Tellings, Reported, Busy, Planned, finished, Turned}
 use Rattle.turns.proofs.Joins.{reports_length}
 use Rattle.turns.proofs.Happening.{reports_short}
@@ -287,11 +289,13 @@ module _ (t : List ℕ) (y : Busy t) where
 
 -- ---- what is planned
 module _ (t : List ℕ) (y : Busy t) (o : Order) (w : ℕ) (x : o ≡ order_at t w) (e : w ≡ work_of t) where
-  pub planned_is : (missed : Bool) (r : ℕ) (came : Outcome) (d : ℕ) → missed ≡ misses_now t → r ≡ partner (book_of t) (work_of t)
+  pub planned_is : (missed : Bool) (r : ℕ) (came : Outcome) (d : ℕ) (k : Option ℕ) → missed ≡ misses_now t → r ≡ partner (book_of t) (work_of t)
       → came ≡ outcome (mode_of t) (misses_now t) (book_of t) (work_of t) → d ≡ cond (ltb 0 (minimum_of o)) 1 0
-      → Planned t (record { work = w; other = r; came = came; ends = missed || eqb r 0; decided = d })
-  planned_is missed r came d m p c n =
-      record { work = e; other = p; came = c; ends = rw (m, p); decided = noted_after t y o (worker_is t y o w x e) d n }
+      → k ≡ then_some (not (missed || eqb r 0)) d → Planned t (record { work = w; other = r; came = came; decided = k })
+  planned_is missed r came d k m p c n q =
+      let z : d ≡ decided_after (book_of t) (work_of t) = noted_after t y o (worker_is t y o w x e) d n in
+      let f : Bool = misses_now t || eqb (partner (book_of t) (work_of t)) 0 in
+      record { work = e; other = p; came = c; decided = q ∙ rw (m, p, z) (split f (λ a. rw a) (λ a. rw a)) }
 
 -- ---- the events of a step can be told of
 
@@ -370,15 +374,15 @@ module _ (t : List ℕ) (y : Busy t) where
       unfolding numbered
       numbered_is = rw (counted, all_played_is, en, played_next t y.market y.work)
 
-      finished_is : finished u (n + x.reports) p.ends p.decided ≡ stepped t
+      finished_is : finished u (n + x.reports) p.decided ≡ stepped t
       unfolding finished stepped step_work work_after
       finished_is =
           let e : eqb (work_of t) 0 ≡ false = ne_eqb (work_of t) 0 (λ z. omega (arith, y.work)) in
           split (misses_now t || eqb (partner (book_of t) (work_of t)) 0)
-          (λ z. rw (h.ends, z, numbered_is))
-          (λ z. rw (h.ends, z, e, h.decided, numbered_is))
+          (λ z. rw (h.decided, z, numbered_is))
+          (λ z. rw (h.decided, z, e, numbered_is))
 
-      pub step_turned : (v : List ℕ) → v ≡ finished u (n + x.reports) p.ends p.decided → Turned t out x v area
+      pub step_turned : (v : List ℕ) → v ≡ finished u (n + x.reports) p.decided → Turned t out x v area
       step_turned v z = record { table = z ∙ finished_is; bytes_in = written; count = counted ∙ sym step_count }
 
 -- whom the order in work meets after a step
@@ -392,11 +396,11 @@ step_facing {t} {turns = turns} {firsts = firsts} {after = after} {ranks = ranks
 
 -- ---- the end of a step
 
-module _ (t u : List ℕ) (n : ℕ) (ends : Bool) (d : ℕ) (e : u ≡ put_next t n) where
-  pub finish_ends : (w v : List ℕ) → ends ≡ true → w ≡ end_work u → v ≡ put_best w → v ≡ finished t n ends d
+module _ (t u : List ℕ) (n : ℕ) (decided : Option ℕ) (e : u ≡ put_next t n) where
+  pub finish_ends : (w v : List ℕ) → decided ≡ None → w ≡ end_work u → v ≡ put_best w → v ≡ finished t n decided
   unfolding finished
   finish_ends w v z q h = h ∙ rw (z, q, e)
 
-  pub finish_goes : (v : List ℕ) → ends ≡ false → v ≡ put_decided u d → v ≡ finished t n ends d
+  pub finish_goes : (d : ℕ) (v : List ℕ) → decided ≡ Some d → v ≡ put_decided u d → v ≡ finished t n decided
   unfolding finished
-  finish_goes v z h = h ∙ rw (z, e)
+  finish_goes d v z h = h ∙ rw (z, e)

@@ -1,6 +1,6 @@
 -- What the functions below Run ask for and leave: events that can happen in turn on a table and be told of, and the table and the
 -- report area after them. Assumes nothing.
-use Rattle.std.specs.Prelude.{◌≡◌, Bool, cond, ◌||◌, List, [], ◌∷◌, ℕ, ◌+◌, ◌≤◌, eqb, length}
+use Rattle.std.specs.Prelude.{◌≡◌, cond, ◌||◌, List, [], ◌∷◌, ℕ, ◌+◌, ◌≤◌, eqb, length, Option, Some, None}
 use Rattle.octets.specs.Written.{Wrote}
 use Rattle.matching.specs.declared.Event.{Event}
 use Rattle.matching.specs.Matching.{who, partner, outcome, decided_after}
@@ -11,9 +11,9 @@ use Rattle.table.specs.Facts.{Market, Due}
 use Rattle.table.specs.Changes.{played, misses_now, stepped}
 use Rattle.ticket.specs.Tickets.{kept_cause}
 use Rattle.ticket.specs.Legible.{Legible}
-use Rattle.calls.specs.declared.RunAnswer.{RunAnswer}
+use Rattle.calls.specs.declared.Progress.{Progress}
 use Rattle.calls.specs.Told.{joined, area_after}
-use Rattle.calls.specs.Run.{event_reports, step_reports, worked, done}
+use Rattle.calls.specs.Run.{event_reports, step_reports, worked, progress}
 use Rattle.turns.specs.declared.events.Told.{Told}
 use Rattle.turns.specs.declared.step.Plan.{Plan}
 
@@ -38,18 +38,17 @@ pub record Busy (t : List ℕ) : Type 0 where
   pub market : Market t
   pub work : 1 ≤ work_of t
 
--- what the next step comes to: who is in work, with whom he is matched, the outcome, whether it ends the work, and the decision
--- to be noted if it does not
+-- what the next step comes to: who is in work, with whom he is matched, the outcome, and the decision to be noted, none if it ends the work
 pub record Planned (t : List ℕ) (p : Plan) : Type 0 where
   pub work : p.work ≡ work_of t
   pub other : p.other ≡ partner (book_of t) (work_of t)
   pub came : p.came ≡ outcome (mode_of t) (misses_now t) (book_of t) (work_of t)
-  pub ends : p.ends ≡ (misses_now t || eqb (partner (book_of t) (work_of t)) 0)
-  pub decided : p.decided ≡ decided_after (book_of t) (work_of t)
+  pub decided : p.decided ≡ cond (misses_now t || eqb (partner (book_of t) (work_of t)) 0) None (Some (decided_after (book_of t) (work_of t)))
 
--- the end of a step, once its events have happened: the next number, and nothing in work and the best levels, or the decision
-unfoldable pub finished : List ℕ → ℕ → Bool → ℕ → List ℕ
-finished t n ends d = cond ends (put_best (end_work (put_next t n))) (put_decided (put_next t n) d)
+-- the end of a step, once its events have happened: the next number, and the decision, or nothing in work and the best levels
+unfoldable pub finished : List ℕ → ℕ → Option ℕ → List ℕ
+finished t n None = put_best (end_work (put_next t n))
+finished t n (Some d) = put_decided (put_next t n) d
 
 -- a step was taken
 pub record Turned (t out : List ℕ) (r : Told) (after area : List ℕ) : Type 0 where
@@ -58,7 +57,7 @@ pub record Turned (t out : List ℕ) (r : Told) (after area : List ℕ) : Type 0
   pub count : r.reports ≡ length (step_reports t)
 
 -- all steps were taken that the budget and the room allow
-pub record Walked (t area : List ℕ) (budget : ℕ) (r : RunAnswer) (after written : List ℕ) : Type 0 where
-  pub answer : r ≡ (done (worked budget t (length area))).answer
+pub record Walked (t area : List ℕ) (budget : ℕ) (r : Progress) (after written : List ℕ) : Type 0 where
+  pub answer : r ≡ progress (worked budget t (length area))
   pub table : after ≡ (worked budget t (length area)).table
   pub bytes_in : written ≡ area_after area (worked budget t (length area)).reports

@@ -11,8 +11,9 @@ ghost use Rattle.turns.specs.Turns.{Walked};
 
 use crate::step::{step_among, step_with};
 use audit::is_market_of;
-use calls::RunAnswer;
+use calls::Progress;
 use decimal::Instrument;
+use refusals::Refusal;
 use table::facing::{END, alone, face};
 use table::heading::work;
 
@@ -25,19 +26,19 @@ fn rests(t: &[u8], free: usize) -> bool
 }
 
 // The one step of an order in work that meets nobody, if the budget and the room allow it.
-fn last_step(table: &mut [u8], area: &mut [u8], budget: u64) -> RunAnswer
+fn last_step(table: &mut [u8], area: &mut [u8], budget: u64) -> Progress
     requires { Market table.old × (partner (book_of table.old) (work_of table.old) ≡ 0) }
     ensures { Walked table.old area.old budget result table.new area.new }
 {
     if (budget == 0) | rests(table, area.len()) {
-        return RunAnswer::Ran {
+        return Progress {
             bytes: 0,
             reports: 0,
             steps: 0,
         };
     }
     let told = step_with(table, area, 0);
-    RunAnswer::Ran {
+    Progress {
         bytes: told.bytes,
         reports: told.reports,
         steps: 1,
@@ -45,7 +46,7 @@ fn last_step(table: &mut [u8], area: &mut [u8], budget: u64) -> RunAnswer
 }
 
 // Steps within a budget of an order in work that meets somebody; the reports of each start where those of the one before ended.
-fn steps_among(table: &mut [u8], area: &mut [u8], budget: u64) -> RunAnswer
+fn steps_among(table: &mut [u8], area: &mut [u8], budget: u64) -> Progress
     requires { Market table.old }
     ensures { Walked table.old area.old budget result table.new area.new }
 {
@@ -55,10 +56,9 @@ fn steps_among(table: &mut [u8], area: &mut [u8], budget: u64) -> RunAnswer
     let m = face(table, &mut turns, &mut firsts);
     let mut at: usize = 0;
     let mut reports: u64 = 0;
-    let mut taken: u64 = 0;
-    while taken < budget {
+    for taken in 0..budget {
         if rests(table, room - at) {
-            return RunAnswer::Ran {
+            return Progress {
                 bytes: at,
                 reports,
                 steps: taken,
@@ -67,18 +67,17 @@ fn steps_among(table: &mut [u8], area: &mut [u8], budget: u64) -> RunAnswer
         let told = step_among(table, &mut area[at..], &mut turns, &mut firsts, m);
         at += told.bytes;
         reports += told.reports;
-        taken += 1;
     }
-    RunAnswer::Ran {
+    Progress {
         bytes: at,
         reports,
-        steps: taken,
+        steps: budget,
     }
 }
 
 // Steps within a budget; the reports of each start where those of the one before ended. For callers that know that their table is a market: it
 // is not looked at again.
-pub fn steps(table: &mut [u8], area: &mut [u8], budget: u64) -> RunAnswer
+pub fn steps(table: &mut [u8], area: &mut [u8], budget: u64) -> Progress
     requires { Market table.old }
     ensures { Walked table.old area.old budget result table.new area.new }
 {
@@ -90,16 +89,21 @@ pub fn steps(table: &mut [u8], area: &mut [u8], budget: u64) -> RunAnswer
 
 // Steps of the order in work, at most as many as the budget, on a market of bonds or of equities. Refused if the area is below 1,024
 // bytes, or the table is no such market.
-pub fn run(q: Instrument, table: &mut [u8], area: &mut [u8], budget: u64) -> RunAnswer
+pub fn run(
+    q: Instrument,
+    table: &mut [u8],
+    area: &mut [u8],
+    budget: u64,
+) -> Result<Progress, Refusal>
     ensures value { result ≡ (ran q table.old (length area.old) budget).answer }
     ensures table_after { table.new ≡ (ran q table.old (length area.old) budget).table }
     ensures area_after { area.new ≡ area_after area.old (ran q table.old (length area.old) budget).reports }
 {
     if area.len() < 1024 {
-        return RunAnswer::NoRoom;
+        return Err(Refusal::NoRoom);
     }
     if !is_market_of(q, table) {
-        return RunAnswer::NoMarket;
+        return Err(Refusal::NoMarket);
     }
-    steps(table, area, budget)
+    Ok(steps(table, area, budget))
 }

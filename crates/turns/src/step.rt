@@ -20,15 +20,14 @@ use table::ids::count;
 use table::look::would_trade;
 use table::record::load;
 
-// What a step comes to: who is in work, the one he is matched with (0 for none), the outcome, whether the work ends with it, and the
-// decision to be noted if it does not.
+// What a step comes to: who is in work, the one he is matched with (0 for none), the outcome, and the decision to be noted after it, none if
+// the work ends with it.
 #[derive(Clone, Copy)]
 pub struct Plan {
     pub work: u64,
     pub other: u64,
     pub came: Outcome,
-    pub ends: bool,
-    pub decided: u8,
+    pub decided: Option<u8>,
 }
 
 // A decrement between w, in work, and r, resting: the smaller is canceled and the larger lowered; equal ones are both canceled, the
@@ -164,10 +163,7 @@ fn misses(t: &[u8], o: Order, w: usize) -> bool
 fn noted(o: Order) -> u8
     ensures { result ≡ cond (ltb 0 (minimum_of o)) 1 0 }
 {
-    if 0 < o.minimum_of() {
-        return 1;
-    }
-    0
+    u8::from(0 < o.minimum_of())
 }
 
 // What the step of o, the order in work, comes to, matched with r; missed tells that it does not reach its minimum.
@@ -194,27 +190,28 @@ fn planned(t: &[u8], r: usize) -> Plan
     let o = load(t, w);
     let missed = misses(t, o, w);
     let came = comes_to(t, o, r, missed);
-    let decided = noted(o);
+    let ends = missed | (r == 0);
+    let decided = (!ends).then_some(noted(o));
     Plan {
         work: w as u64,
         other: r as u64,
         came,
-        ends: missed | (r == 0),
         decided,
     }
 }
 
-// Sets the next number, and ends the work, with the best levels of the book, or notes the decision.
-fn finish(table: &mut [u8], n: u64, ends: bool, d: u8)
+// Sets the next number, and notes the decision, or without one ends the work, with the best levels of the book.
+fn finish(table: &mut [u8], n: u64, decided: Option<u8>)
     requires { length table.old ≡ table_bytes }
-    ensures { table.new ≡ finished table.old n ends d }
+    ensures { table.new ≡ finished table.old n decided }
 {
     put_next(table, n);
-    if ends {
-        end_work(table);
-        put_best(table);
-    } else {
-        put_decided(table, d);
+    match decided {
+        Some(decision) => put_decided(table, decision),
+        None => {
+            end_work(table);
+            put_best(table);
+        }
     }
 }
 
@@ -227,7 +224,7 @@ pub fn step_with(table: &mut [u8], out: &mut [u8], r: usize) -> Told
     let n = next(table);
     let came = p.came;
     let told = happen(table, out, n, p.work, p.other, came);
-    finish(table, n + told.reports, p.ends, p.decided);
+    finish(table, n + told.reports, p.decided);
     told
 }
 

@@ -42,25 +42,25 @@ next-first-requires c =
     let s = c.args in
     market_long s.q s.table.now s.buffer.now s.area.now c.if-area-lt1024.false _ c.is_market_of.ensures (ap not c.if-not-is_market_of.false)
 
-pub go-h-requires : goal.go-h-requires
-go-h-requires c =
+pub go-halt-requires : goal.go-halt-requires
+go-halt-requires c =
     let s = c.args in
     idle_is s.q s.table.now s.buffer.now s.area.now c.if-area-lt1024.false _ c.is_market_of.ensures (ap not c.if-not-is_market_of.false) _ c.work.ensures.0 c.if-work-ne0.false
 
 pub next-requires : goal.next-requires
 next-requires c =
     let s = c.args in
-    after_long s.q s.table.now s.buffer.now s.area.now c.if-area-lt1024.false _ c.is_market_of.ensures (ap not c.if-not-is_market_of.false) _ c.work.ensures.0 c.if-work-ne0.false _ c.next-first.ensures _ _ _ c.go-h.ensures
+    after_long s.q s.table.now s.buffer.now s.area.now c.if-area-lt1024.false _ c.is_market_of.ensures (ap not c.if-not-is_market_of.false) _ c.work.ensures.0 c.if-work-ne0.false _ c.next-first.ensures _ _ _ c.go-halt.ensures
 
 pub overflow_sub-reports : goal.overflow_sub-reports
 overflow_sub-reports c =
     let s = c.args in
-    numbers_up s.q s.table.now s.buffer.now s.area.now c.if-area-lt1024.false _ c.is_market_of.ensures (ap not c.if-not-is_market_of.false) _ c.work.ensures.0 c.if-work-ne0.false _ c.next-first.ensures _ _ _ c.go-h.ensures _ c.next.ensures
+    numbers_up s.q s.table.now s.buffer.now s.area.now c.if-area-lt1024.false _ c.is_market_of.ensures (ap not c.if-not-is_market_of.false) _ c.work.ensures.0 c.if-work-ne0.false _ c.next-first.ensures _ _ _ c.go-halt.ensures _ c.next.ensures
 
 pub returns : goal.returns
 returns c =
     let s = c.args in
-    let l = loaded_leaves s.q s.table.now s.buffer.now s.area.now c.if-area-lt1024.false _ c.is_market_of.ensures (ap not c.if-not-is_market_of.false) _ c.work.ensures.0 c.if-work-ne0.false _ c.next-first.ensures _ _ _ c.go-h.ensures _ c.next.ensures in
+    let l = loaded_leaves s.q s.table.now s.buffer.now s.area.now c.if-area-lt1024.false _ c.is_market_of.ensures (ap not c.if-not-is_market_of.false) _ c.work.ensures.0 c.if-work-ne0.false _ c.next-first.ensures _ _ _ c.go-halt.ensures _ c.next.ensures in
     record {
       value = l.answers;
       table_after = l.table_is;

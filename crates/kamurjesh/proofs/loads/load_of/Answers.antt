@@ -5,13 +5,13 @@ use Rattle.kamurjesh.proofs.loads.load_of.Goals as goal
 
 pub returns : goal.returns
 returns c =
-    let answer = c.load.ensures in
-    let says = c.figures_of-says.ensures in (
-      says.0 ∙ ap load_number answer.value,
-      says.1 ∙ ap load_place answer.value,
-      says.2 ∙ ap load_finished answer.value,
-      says.3 ∙ ap load_bytes answer.value,
-      says.4 ∙ ap load_reports answer.value,
+    let answer = c.load-answer.ensures in
+    let went = c.load_done-went.ensures in (
+      c.load_number.ensures ∙ ap load_number answer.value,
+      went.0 ∙ ap load_place answer.value,
+      went.1 ∙ ap load_finished answer.value,
+      went.2 ∙ ap load_bytes answer.value,
+      went.3 ∙ ap load_reports answer.value,
       answer.table_after,
       answer.area_after,
     )

@@ -9,8 +9,8 @@ returns-then-place-buffer c = search (rules, next_done)
 pub returns-then-free-lt1024 : goal.returns-then-free-lt1024
 returns-then-free-lt1024 c = search (rules, next_full)
 
-pub returns-then-n-eq0 : goal.returns-then-n-eq0
-returns-then-n-eq0 c = search (rules, next_unread)
+pub returns-in_default : goal.returns-in_default
+returns-in_default c = search (rules, next_unread)
 
 pub returns-then-next-gt999998976 : goal.returns-then-next-gt999998976
 returns-then-next-gt999998976 c = search (rules, next_spent)

@@ -44,12 +44,6 @@ overflow_add-at c =
 pub overflow_add-reports : goal.overflow_add-reports
 overflow_add-reports c = search (rules, reports_fit)
 
-pub overflow_add-taken : goal.overflow_add-taken
-overflow_add-taken c = omega arith
-
-pub loop-taken-smaller : goal.loop-taken-smaller
-loop-taken-smaller c = omega arith
-
 pub loop-taken-preserved : goal.loop-taken-preserved
 loop-taken-preserved c =
     let told = c in
