@@ -21,10 +21,6 @@ use Rattle.table.proofs.Instruments.{of_market}
 use Rattle.table.proofs.Facts.{market_facts}
 use Rattle.std.specs.Prelude.{Option, Result, Ok, Err}
 use Rattle.octets.proofs.Bools.{split}
-use Rattle.table.specs.Opened.{is_opening, open_number}
-use Rattle.std.specs.Prelude.{Ok, Err}
-use Rattle.refusals.specs.declared.Refusal.TheVariants.{BadSetting}
-use Rattle.calls.specs.Open.{open_answer}
 use Rattle.market.specs.Depth.{depth_answer}
 use Rattle.market.proofs.Tops.{asked, asked_err, asked_idle, asked_side, asked_ok, market_words}
 
@@ -72,16 +68,3 @@ module _ (i : Instrument) (t : List ℕ) (side k : ℕ) (f : Bool) (p : f ≡ is
         let found : in_words (best_at t side) ≡ depth (book_of t) side 0 =
         market_words t (checked i t f p m) idle side (asked_side t side r q u h) in
         depth_found u h d (rw (y, x, z) found)
-
--- ---- Open
-
-module _ (i : Instrument) (t venue port code : List ℕ) (first : ℕ) (mpids modes : List ℕ) (n : ℕ) (e : n ≡ open_number i t venue port code first mpids modes) where
-  pub open_taken : n ≡ 0 → Ok tt ≡ open_answer i t venue port code first mpids modes
-  unfolding open_answer open_number
-  open_taken z =
-      split (is_opening i t venue port code first mpids modes) (λ h. rw h)
-      (λ h. let q : n ≡ 9 = e ∙ rw h in let f : ⊥ = omega arith in absurd f)
-
-  pub open_refused : (n ≡ 0 → ⊥) → Err BadSetting ≡ open_answer i t venue port code first mpids modes
-  unfolding open_answer open_number
-  open_refused d = split (is_opening i t venue port code first mpids modes) (λ h. absurd (d (e ∙ rw h))) (λ h. rw h)

@@ -46,10 +46,7 @@ pub fn open(
     ensures { (result ≡ open_answer q table.old venue.now port.now code.now first mpids.now modes.now)
         × (table.new ≡ opened q table.old venue.now port.now code.now first mpids.now modes.now) }
 {
-    if table::opening::open_table(q, table, venue, port, code, first, mpids, modes) == 0 {
-        return Ok(());
-    }
-    Err(Refusal::BadSetting)
+    table::opening::open_table(q, table, venue, port, code, first, mpids, modes)
 }
 
 // Takes one message: refuses it, or rejects it with a report, or does what it asks and writes its first report.

@@ -19,7 +19,7 @@ use Rattle.table.specs.Changes.{played, misses_now, step_events, step_work, numb
 use Rattle.table.specs.Heading.{instrument_of, entries, entry_of, is_listed, mode_of, mpid_bytes, next_of, decided_of, put_next, end_work}
 use Rattle.table.specs.Market.{every, is_code_character, is_padded, has_length, has_names, is_entry, has_list, has_settings, has_next, has_stamp, has_work, has_kind, rest_zero, is_capacity, is_class, is_cash, is_marked, is_record, is_ranged, is_known, is_within, is_shut, is_priced, is_order, has_orders, is_fresh_id, has_ids, is_fresh, are_fresh, has_order_ids, has_places, is_done, no_ioc, is_clear, no_cross, has_numbers, is_book, has_decision, has_best, is_market, is_of, is_market_of, is_text as is_stored_text}
 use Rattle.table.specs.Best.{best_on, orders_bytes, levels_bytes, totals_bytes, best_row, book_row, best_due, put_best}
-use Rattle.table.specs.Opened.{is_name, is_new, is_given, are_given, are_names, are_settings, named_table, fresh_table, is_opening, opened}
+use Rattle.table.specs.Opened.{is_name, is_new, is_given, are_given, are_names, are_settings, named_table, fresh_table, is_opening, opened, open_answer}
 use Rattle.table.specs.Orders.{order_id_at, marks_at, order_at, filled, orders_from, book_of, first_record, record_with, record_for, term_bytes, amount_bytes, end_bytes, tail_bytes, record_of, applied, withdrawn, replaced, accepted, field_bytes}
 use Rattle.calls.specs.Checks.{holder, new_stands, change_stands, cancel_stands, replace_stands}
 use Rattle.calls.specs.Submit.{rejecting, faulted, new_rejected, change_rejected, new_taken, replacement_taken, cancel_taken, submitted, Submitted, submit_number, submit_length}
@@ -34,7 +34,6 @@ use Rattle.refusals.specs.declared.Refusal.{Refusal}
 use Rattle.refusals.specs.Refusals.{answer_number}
 use Rattle.calls.specs.declared.Progress.{Progress}
 use Rattle.decimal.specs.declared.Instrument.TheVariants.{Bonds, Equities}
-use Rattle.calls.specs.Open.{open_answer}
 use Rattle.std.specs.Prelude.{Some}
 use Rattle.kamurjesh.specs.Numbers.{signed_of, quote_of}
 use lib.IntN.{pos}
