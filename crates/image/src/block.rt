@@ -19,7 +19,7 @@ fn put_data(image: &mut [u8], table: &[u8], k: usize)
     octets::put_zeros(image, next, places::BLOCK - data.len());
 }
 
-// Writes block k of a table.
+// Writes block k of a table. What a block weighs is written out here and in is_checked: a function for it takes 64 instructions more a block.
 pub fn put_block(image: &mut [u8], table: &[u8], k: usize)
     requires { (length image.old ≡ image_bytes) × (length table.now ≡ table_bytes) × (k < 65) }
     ensures { image.new ≡ put image.old (512 * k) (block_of table.now k) }
