@@ -1,5 +1,5 @@
 -- The blocks of a table and of an image: how long they are, and what the code computes of them.
-use mathlib.Core.Path.{◌≡◌, refl, sym, ap, ◌∙◌}
+use mathlib.Core.Path.{◌≡◌, sym, ap, ◌∙◌}
 use mathlib.Core.Bool.{Bool, ◌&&◌}
 use mathlib.Core.List.{List, ◌++◌, append_assoc}
 use mathlib.Core.Logic.{⊎_elim}
@@ -137,15 +137,15 @@ data_weight image image₁ table k w e f l p x =
     ∙ omega (arith, weighed_zeros (1 + length (block_data table k)) 4)
 
 pub block_put : (image image₁ image₂ table : List ℕ) (k w : ℕ) → length image ≡ image_bytes → length table ≡ table_bytes → k < 65
-    → image₁ ≡ put image (512 * k) (block_data table k ++ replicate 4 0) → w ≡ weighed 1 (part_at image₁ (512 * k) 512) + k * 33554432
-    → image₂ ≡ put image₁ (512 * k + 508) (bytes_of 4 w) → image₂ ≡ put image (512 * k) (block_of table k)
+    → image₁ ≡ put image (512 * k) (block_data table k ++ replicate 4 0) → w ≡ weighed 1 (part_at image₁ (512 * k) 512)
+    → image₂ ≡ put image₁ (512 * k + 508) (bytes_of 4 (w + k * 33554432)) → image₂ ≡ put image (512 * k) (block_of table k)
 unfolding block_of check_of
 block_put image image₁ image₂ table k w e f l p x q =
     let d : List ℕ = block_data table k in
     let n : length d ≡ 508 = length_data table k f l in
-    let v : w ≡ weighed 1 d + k * 33554432 = x ∙ ap (λ (y : ℕ). y + k * 33554432) (data_weight image image₁ table k (weighed 1 (part_at image₁ (512 * k) 512)) e f l p refl) in
-    let c : List ℕ = bytes_of 4 w in
-    let m : length c ≡ 4 = length_bytes_of 4 w in
+    let v : w ≡ weighed 1 d = data_weight image image₁ table k w e f l p x in
+    let c : List ℕ = bytes_of 4 (w + k * 33554432) in
+    let m : length c ≡ 4 = length_bytes_of 4 (w + k * 33554432) in
     let s : 512 * k + 508 ≡ 512 * k + length d = omega arith in
     let r : length (put image (512 * k) d) ≡ image_bytes = length_put image (512 * k) d ∙ e in
     q
@@ -153,7 +153,7 @@ block_put image image₁ image₂ table k w e f l p x q =
     ∙ ap (λ (j : ℕ). put (put (put image (512 * k) d) (512 * k + length d) (replicate 4 0)) j c) s
     ∙ put_over (put image (512 * k) d) (512 * k + length d) (replicate 4 0) c (omega (arith, length-replicate {A = ℕ} 4 0)) (omega arith)
     ∙ put_put image (512 * k) d c
-    ∙ ap (λ (y : ℕ). put image (512 * k) (d ++ bytes_of 4 y)) v
+    ∙ ap (λ (y : ℕ). put image (512 * k) (d ++ bytes_of 4 (y + k * 33554432))) v
 
 -- ---- checking: the whole block weighs as its data and its check
 pub four_weigh : (t : List ℕ) (p a b c d : ℕ) → p + 4 ≤ length t → a ≡ get_or t p 0 → b ≡ get_or t (p + 1) 0 → c ≡ get_or t (p + 2) 0 → d ≡ get_or t (p + 3) 0
@@ -179,17 +179,17 @@ pub part_both : (t : List ℕ) (p m n : ℕ) → part_at t p (m + n) ≡ part_at
 unfolding part_at
 part_both t p m n = take-add m n (drop p t) ∙ ap (λ (y : List ℕ). take m (drop p t) ++ take n y) (drop-drop m p t)
 
-pub checked_is : (image : List ℕ) (k f o w : ℕ) → length image ≡ image_bytes → k < 65 → w ≡ weighed 1 (part_at image (512 * k) 512) + k * 33554432 → f ≡ le_at 4 image (512 * k + 508)
-    → o ≡ weighed 509 (part_at image (512 * k + 508) 4) → eqb (f + o) w ≡ is_checked image k
+pub checked_is : (image : List ℕ) (k f o w : ℕ) → length image ≡ image_bytes → k < 65 → w ≡ weighed 1 (part_at image (512 * k) 512) → f ≡ le_at 4 image (512 * k + 508)
+    → o ≡ weighed 509 (part_at image (512 * k + 508) 4) → eqb (f + o) (w + k * 33554432) ≡ is_checked image k
 unfolding is_checked check_in check_of data_in
 checked_is image k f o w e l x y z =
     let d : List ℕ = data_in image k in
     let n : length d ≡ 508 = length_data_in image k e l in
     let whole : part_at image (512 * k) 512 ≡ d ++ part_at image (512 * k + 508) 4 = part_both image (512 * k) 508 4 in
-    let v : weighed 1 (part_at image (512 * k) 512) ≡ weighed 1 d + o =
-    ap (weighed 1) whole ∙ weighed_append 1 d (part_at image (512 * k + 508) 4)
+    let v : w ≡ weighed 1 d + o =
+    x ∙ ap (weighed 1) whole ∙ weighed_append 1 d (part_at image (512 * k + 508) 4)
     ∙ rw n (ap (λ (y : ℕ). weighed 1 d + y) (sym z)) in
-    let s : w ≡ weighed 1 d + k * 33554432 + o = omega arith in
+    let s : w + k * 33554432 ≡ weighed 1 d + k * 33554432 + o = omega arith in
     rw (s, ← y) (eqb_both f (weighed 1 d + k * 33554432) o)
 
 pub good_is : (image d : List ℕ) (k : ℕ) (a b : Bool) → d ≡ part_at image (512 * k) 508 → a ≡ is_checked image k → b ≡ all_zero (drop (32768 - 508 * k) d) → (a && b) ≡ is_good image k

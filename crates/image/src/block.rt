@@ -19,27 +19,15 @@ fn put_data(image: &mut [u8], table: &[u8], k: usize)
     octets::put_zeros(image, next, places::BLOCK - data.len());
 }
 
-// What block k weighs, its check included, and its number.
-fn weight(image: &[u8], k: usize) -> u64
-    requires { (length image.now ≡ image_bytes) × (k < 65) }
-    ensures { result ≡ weighed 1 (part_at image.now (512 * k) 512) + k * 33554432 }
-{
-    u64::from(weigh(image, places::BLOCK * k)) + (k as u64) * places::STEP
-}
-
-// Writes block k of a table.
+// Writes block k of a table. What a block weighs is written out here and in is_checked: a function for it takes 64 instructions more a block.
 pub fn put_block(image: &mut [u8], table: &[u8], k: usize)
     requires { (length image.old ≡ image_bytes) × (length table.now ≡ table_bytes) × (k < 65) }
     ensures { image.new ≡ put image.old (512 * k) (block_of table.now k) }
 {
     put_data(image, table, k);
-    let check = weight(image, k);
-    octets::put_le(
-        image,
-        places::BLOCK * k + places::DATA,
-        places::CHECK,
-        check,
-    );
+    let at = places::BLOCK * k;
+    let check = (weigh(image, at) as u64) + (k as u64) * places::STEP;
+    octets::put_le(image, at + places::DATA, places::CHECK, check);
 }
 
 // The four bytes of a check from place p on times their positions in the block.
@@ -59,8 +47,10 @@ fn is_checked(image: &[u8], k: usize) -> bool
     requires { (length image.now ≡ image_bytes) × (k < 65) }
     ensures { result ≡ is_checked image.now k }
 {
-    let end = places::BLOCK * k + places::DATA;
-    four_at(image, end) + weigh_check(image, end) == weight(image, k)
+    let at = places::BLOCK * k;
+    let end = at + places::DATA;
+    let sum = (weigh(image, at) as u64) + (k as u64) * places::STEP;
+    four_at(image, end) + weigh_check(image, end) == sum
 }
 
 // Whether block k is good: its check is right, and its filling is zero.

@@ -1,6 +1,7 @@
 -- What a market promises if it is kept overnight (document 02, T-12): whatever holds of every history of calls holds of every history with
 -- images, since the second comes to the table and the reports of one of the first; the promises that document 01 asks for are said again.
 -- And every market can be kept: what it writes is read back.
+use Rattle.std.specs.Prelude.{Ok}
 use mathlib.Core.Path.{◌≡◌, refl, sym, ap, ◌∙◌}
 use mathlib.Core.Bool.{true, false}
 use mathlib.Core.List.{List, [], ◌∷◌, ◌++◌, append-nil, append_assoc, map}
@@ -19,8 +20,6 @@ use Rattle.table.specs.Opened.{is_opening, opened}
 use Rattle.table.proofs.Instruments.{of_market}
 use Rattle.table.proofs.Facts.{market_facts}
 use Rattle.image.specs.Image.{image_bytes, table_in}
-use Rattle.image.specs.declared.SaveAnswer.TheVariants.{Saved}
-use Rattle.image.specs.declared.RestoreAnswer.TheVariants.{Restored}
 use Rattle.image.specs.Answers.{saved_answer, image_after, restored_answer, table_after as table_read}
 use Rattle.image.proofs.Answered.{long_table}
 use Rattle.image.proofs.Images.{table_back}
@@ -58,7 +57,7 @@ carried : (P : List ℕ → List (List ℕ) → Type 0) (t u : List ℕ) (rs ss 
 carried P t u rs ss e f h = rw (e, f) h
 
 -- ---- an image that a market wrote and that is taken gives back its table
-woken : (q : Instrument) (t image u : List ℕ) → saved_answer q t image ≡ Saved → restored_answer q u (image_after q t image) ≡ Restored
+woken : (q : Instrument) (t image u : List ℕ) → saved_answer q t image ≡ Ok tt → restored_answer q u (image_after q t image) ≡ Ok tt
     → table_read q u (image_after q t image) ≡ t
 woken q t image u s r =
     let k : Kept q t image = kept q t image s in
@@ -166,10 +165,10 @@ module _ (q : Instrument) (before venue port code : List ℕ) (first : ℕ) (mpi
 
     -- ---- the table, whose bytes are below 256 as lent ones are, is written into any bytes of an image's length
     module _ (lent : Bytes t) (image : List ℕ) (fits : length image ≡ image_bytes) where
-      pub is_saved : saved_answer q t image ≡ Saved
+      pub is_saved : saved_answer q t image ≡ Ok tt
       is_saved = market_saved q t image (market_facts t (of_market q t a_market)).long fits a_market
 
       -- and read back from there into any bytes of a table's length
       pub is_restored : (u : List ℕ) → length u ≡ table_bytes
-          → (restored_answer q u (image_after q t image) ≡ Restored) × (table_read q u (image_after q t image) ≡ t)
+          → (restored_answer q u (image_after q t image) ≡ Ok tt) × (table_read q u (image_after q t image) ≡ t)
       is_restored u e = saved_restored q t image u lent e is_saved

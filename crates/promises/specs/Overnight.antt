@@ -2,11 +2,9 @@
 -- one after the other, and whenever it was written out it may be read back and go on from there, in this table or in another, as often
 -- as one likes. Its history is then the one up to the writing, with its reports; calls between the writing and the reading are no part
 -- of it. Writing changes no table, so it is no step of a history. Assumes nothing.
-use Rattle.std.specs.Prelude.{◌≡◌, true, List, [], ◌++◌, ℕ}
+use Rattle.std.specs.Prelude.{◌≡◌, true, List, [], ◌++◌, ℕ, Ok}
 use Rattle.decimal.specs.declared.Instrument.{Instrument}
 use Rattle.table.specs.Opened.{is_opening, opened}
-use Rattle.image.specs.declared.SaveAnswer.TheVariants.{Saved}
-use Rattle.image.specs.declared.RestoreAnswer.TheVariants.{Restored}
 use Rattle.image.specs.Answers.{saved_answer, image_after, restored_answer, table_after as table_read}
 use Rattle.promises.specs.History.{Call, table_of, reports_of, table_after, reports_after}
 
@@ -20,7 +18,7 @@ pub data Lived (q : Instrument) (before venue port code : List ℕ) (first : ℕ
       → Lived q before venue port code first mpids modes (table_of q t c) (reports ++ reports_of q t c)
   -- the image that it wrote, which nobody changed, read into the table u of any market or of none
   wakes : (t : List ℕ) (reports : List (List ℕ)) (image u : List ℕ) → Lived q before venue port code first mpids modes t reports
-      → saved_answer q t image ≡ Saved → restored_answer q u (image_after q t image) ≡ Restored
+      → saved_answer q t image ≡ Ok tt → restored_answer q u (image_after q t image) ≡ Ok tt
       → Lived q before venue port code first mpids modes (table_read q u (image_after q t image)) reports
 
 -- a table and reports that an accepted Open and calls in turn come to, with nothing read back
