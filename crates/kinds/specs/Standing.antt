@@ -1,6 +1,6 @@
--- The fields of a report, place by place: where the slots of a row end, with none for "they do not stand there". The parts of the tables that several
+-- The fields of a report, place by place: where the slots of a row end, with 0 for "they do not stand there". The parts of the tables that several
 -- kinds share have a name. Nothing here need be believed: proofs/Standings says what it comes to in terms of Parse and Slots.
-use Rattle.std.specs.Prelude.{ℕ, Bool, true, false, List, [], ◌∷◌, ◌++◌, Option, option_map, option_and_then}
+use Rattle.std.specs.Prelude.{ℕ, ◌+◌, Bool, true, false, cond, List, [], ◌∷◌, ◌++◌, eqb, length, drop, Option, Some, None}
 use Rattle.decimal.specs.declared.Instrument.{Instrument}
 use Rattle.report.specs.declared.Shape.{Shape}
 use Rattle.report.specs.declared.Shape.TheVariants as shape
@@ -8,20 +8,25 @@ use Rattle.report.specs.declared.Slot.{Slot}
 use Rattle.report.specs.declared.Got.{Got}
 use Rattle.report.specs.declared.Kind.{Kind}
 use Rattle.report.specs.declared.Kind.TheVariants.{Accepted, Replaced, Canceled, Trade, Rejected, CancelReject, SessionReject, Refused}
-use Rattle.report.specs.Fields.{group_of}
-use Rattle.report.specs.Parse.{field_at, Rows, row, bad}
+use Rattle.report.specs.Fields.{label, group_of}
+use Rattle.report.specs.Parse.{starts, field_at, Rows, row, bad}
 use Rattle.report.specs.Slots.{always, maybe, one_of, exact, unused, sides, symbols, own_slot, last_slot}
 
--- the place behind what was read
-abbrev pub next_of : Option Got → Option ℕ
-next_of got = option_map (λ g. g.next) got
+-- the place behind a tag and `=`
+unfoldable pub value_from : List ℕ → ℕ → ℕ → ℕ
+value_from s at tag = cond (eqb at 0) 0 (cond (starts (label tag) (drop at s)) (at + length (label tag)) 0)
 
--- the place behind the field of a slot that stands at a place, if there is one
-unfoldable pub after : List ℕ → Option ℕ → Slot → Option ℕ
-after s at slot = option_and_then (λ n. next_of (field_at s n slot)) at
+-- the place behind what was read
+abbrev pub next_of : Option Got → ℕ
+next_of (Some got) = got.next
+next_of None = 0
+
+-- the place behind the field of a slot
+unfoldable pub after : List ℕ → ℕ → Slot → ℕ
+after s at slot = cond (eqb at 0) 0 (next_of (field_at s at slot))
 
 -- and behind those of several
-abbrev pub after_all : List ℕ → Option ℕ → List Slot → Option ℕ
+abbrev pub after_all : List ℕ → ℕ → List Slot → ℕ
 after_all s at [] = at
 after_all s at (slot ∷ slots) = after_all s (after s at slot) slots
 

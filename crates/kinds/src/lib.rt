@@ -33,10 +33,7 @@ fn is_framed(q: Instrument, s: &[u8], kind: Kind) -> bool
     if !trailer_at(s, end) {
         return false;
     }
-    let Some(next) = row_end(q, kind, s, body.start) else {
-        return false;
-    };
-    next == end
+    row_end(q, kind, s, body.start) == end
 }
 
 // The kind of a report of a market, as `read` tells it, with no field kept.

@@ -1,5 +1,5 @@
 -- `kinds::is_framed` meets its contract: the frame, the CheckSum, and the fields that fill it.
-use Rattle.kinds.proofs.Standings.{unframed, frame_within, frame_fits, framed_sum, framed_none, framed_row}
+use Rattle.kinds.proofs.Standings.{unframed, frame_within, frame_fits, framed_sum, framed_row}
 use borrow.Author.Rules.{rules}
 use Rattle.kinds.proofs.is_framed.Goals as goal
 
@@ -15,8 +15,5 @@ trailer_at-requires c = search (rules, frame_within)
 pub returns-then-not-trailer_at : goal.returns-then-not-trailer_at
 returns-then-not-trailer_at c = search (rules, framed_sum)
 
-pub returns-in_default-row_end : goal.returns-in_default-row_end
-returns-in_default-row_end c = search (rules, framed_none, c.in_default-row_end.ensures)
-
 pub returns : goal.returns
-returns c = search (rules, framed_row, c.in-Some-row_end.ensures)
+returns c = search (rules, framed_row)

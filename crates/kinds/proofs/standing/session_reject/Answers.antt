@@ -1,30 +1,15 @@
--- `standing::session_reject` meets its contract: one field behind another; where one does not stand, nothing does behind it.
-use borrow.Author.Rules.{rules}
-use lib.ListN.{drop}
-use Rattle.kinds.proofs.Standings.{link, stop, idle}
+-- `standing::session_reject` meets its contract: one field behind another.
+use Rattle.kinds.proofs.Standings.{link, idle}
 use Rattle.report.specs.Slots.{session_reject_slots}
 use Rattle.kinds.proofs.standing.session_reject.Goals as goal
 
-pub returns-in_err-a : goal.returns-in_err-a
-unfolding session_reject_slots
-returns-in_err-a c = let q = c.args.q in stop _ (drop 6 (session_reject_slots q)) (c.in_err-a.ensures) (search rules)
-
-pub returns-in_err-b : goal.returns-in_err-b
-unfolding session_reject_slots
-returns-in_err-b c = let q = c.args.q in stop _ (drop 7 (session_reject_slots q)) (link _ _ c.in_err-b.ensures (c.in_ok-a.ensures)) (search rules)
-
-pub returns-in_err-c : goal.returns-in_err-c
-unfolding session_reject_slots
-returns-in_err-c c = let q = c.args.q in stop _ (drop 8 (session_reject_slots q)) (link _ _ c.in_err-c.ensures (link _ _ c.in_ok-b.ensures (c.in_ok-a.ensures))) (search rules)
-
-pub returns-in_err-d : goal.returns-in_err-d
-unfolding session_reject_slots
-returns-in_err-d c = let q = c.args.q in stop _ (drop 9 (session_reject_slots q)) (link _ _ c.in_err-d.ensures (link _ _ c.in_ok-c.ensures (link _ _ c.in_ok-b.ensures (c.in_ok-a.ensures)))) (search rules)
-
-pub returns-in_err-e : goal.returns-in_err-e
-unfolding session_reject_slots
-returns-in_err-e c = let q = c.args.q in stop _ (drop 10 (session_reject_slots q)) (link _ _ c.in_err-e.ensures (link _ _ c.in_ok-d.ensures (link _ _ c.in_ok-c.ensures (link _ _ c.in_ok-b.ensures (c.in_ok-a.ensures))))) (search rules)
-
 pub returns : goal.returns
 unfolding session_reject_slots
-returns c = let q = c.args.q in idle _ _ 25 _ (link _ _ c.unused.ensures (link _ _ c.in_ok-e.ensures (link _ _ c.in_ok-d.ensures (link _ _ c.in_ok-c.ensures (link _ _ c.in_ok-b.ensures (c.in_ok-a.ensures))))))
+returns c =
+    idle _ _ 25 _
+    (link _ _ c.unused.ensures
+    (link _ _ c.listed-e.ensures
+    (link _ _ c.text-d.ensures
+    (link _ _ c.number-c.ensures
+    (link _ _ c.number-b.ensures
+    c.front-a.ensures)))))
