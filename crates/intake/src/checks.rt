@@ -21,7 +21,7 @@ pub fn text_of(message: &[u8], p: Part) -> &[u8]
     octets::part_at(message, p.start, p.len)
 }
 
-// The record of a market that has a ClOrdID; 0 if none has.
+// The record of a market that has a ClOrdID; 0 if none has, which is no record's number, as `holder` of calls says.
 pub fn holder(t: &[u8], clordid: &[u8]) -> usize
     requires { Market t.now }
     ensures { (result ≡ holder t.now clordid.now) × (result ≤ 255) }

@@ -1,4 +1,4 @@
-// What a message asks of a market that can take it: done, or rejected.
+// What a message asks of a market that can take it: done, or rejected. Table, message and area pass as three slices, as C lends them.
 ghost use Rattle.std.specs.Prelude.{◌≤◌, length, Ok};
 ghost use Rattle.request.specs.declared.Asked.TheVariants.{Enters, Replaces, Cancels};
 ghost use Rattle.calls.specs.Checks.{new_stands, cancel_stands, replace_stands};

@@ -2,31 +2,19 @@
 // bytes and the reports are each written through a pointer, 0 where the whole call is refused.
 ghost use Rattle.std.specs.Prelude.{◌≡◌, length};
 ghost use Rattle.calls.specs.Told.{area_after};
-ghost use Rattle.load.specs.Load.{loaded, stop_number, load_number, load_place, load_finished, load_bytes, load_reports};
+ghost use Rattle.load.specs.Load.{loaded, load_number, load_place, load_finished, load_bytes, load_reports};
 
 use decimal::Instrument;
 use load::go::Halt;
 use load::{LoadProgress, Stop, load};
 use refusals::Refusal;
 
-// The paper's number of why a load took no more messages.
-pub fn stop_number(stop: Stop) -> u64
-    ensures { result ≡ stop_number stop }
-{
-    match stop {
-        Stop::Done => 0,
-        Stop::Full => 1,
-        Stop::Spent => 4,
-        Stop::Unread => 5,
-    }
-}
-
 // The paper's number of Load's answer: of why it stopped, or of its refusal.
 fn load_number(answer: Result<LoadProgress, Refusal>) -> u64
     ensures { result ≡ load_number answer }
 {
     match answer {
-        Ok(loading) => stop_number(loading.halt.stop),
+        Ok(loading) => u64::from(loading.halt.stop),
         Err(refusal) => u64::from(refusal),
     }
 }

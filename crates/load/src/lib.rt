@@ -7,7 +7,7 @@ pub mod take;
 
 ghost use Rattle.std.specs.Prelude.{◌≡◌, length};
 ghost use Rattle.calls.specs.Told.{area_after};
-ghost use Rattle.load.specs.Load.{loaded};
+ghost use Rattle.load.specs.Load.{loaded, stop_number};
 
 use crate::go::{Halt, go};
 use audit::is_market_of;
@@ -22,6 +22,20 @@ pub enum Stop {
     Full,
     Spent,
     Unread,
+}
+
+impl From<Stop> for u64 {
+    ghost from_gives = { λ stop number. number ≡ stop_number stop };
+
+    // The number that Load answers.
+    fn from(stop: Stop) -> u64 {
+        match stop {
+            Stop::Done => 0,
+            Stop::Full => 1,
+            Stop::Spent => 4,
+            Stop::Unread => 5,
+        }
+    }
 }
 
 // What Load answers where it is not refused: where and why it stopped, and how many reports it wrote.
