@@ -7,16 +7,10 @@ use octets::part_at;
 use std::io::Result;
 use table::record::four_at;
 
-// The checks of an image's blocks, as they stand in it.
+// The checks of an image's blocks, of which each is the last number in its block.
 fn checks(out: &impl Print, image: &[u8]) -> Result<()> {
-    let mut k = 0;
-    while k < 65 {
-        let end = 512 * k + 512;
-        if image.len() < end {
-            return Ok(());
-        }
-        say::number(out, four_at(image, end - 4))?;
-        k += 1;
+    for block in image.chunks_exact(512).take(65) {
+        say::number(out, four_at(block, 508))?;
     }
     Ok(())
 }
@@ -29,12 +23,10 @@ pub fn save(
     image: &mut [u8],
     s: &[u8],
 ) -> Result<()> {
-    let from = 0;
     let lent = at_most(number(part(s, 0)), table.len());
     let room = at_most(number(part(s, 1)), image.len());
-    let refusal = save_of(q, part_at(table, 0, lent), &mut image[from..room]);
-    say::word(out, b"w")?;
-    say::number(out, refusal)?;
+    let refusal = save_of(q, part_at(table, 0, lent), &mut image[..room]);
+    print!(out; "w {refusal}")?;
     if refusal == 0 {
         checks(out, image)?;
     }
@@ -50,17 +42,8 @@ pub fn restore(
     s: &[u8],
 ) -> Result<()> {
     let mut block = 0;
-    let from = 0;
     let room = at_most(number(part(s, 0)), table.len());
     let lent = at_most(number(part(s, 1)), image.len());
-    let refusal = restore_of(
-        q,
-        &mut table[from..room],
-        part_at(image, 0, lent),
-        &mut block,
-    );
-    say::word(out, b"u")?;
-    say::number(out, refusal)?;
-    say::number(out, block)?;
-    say::word(out, b"\n")
+    let refusal = restore_of(q, &mut table[..room], part_at(image, 0, lent), &mut block);
+    println!(out; "u {refusal} {block}")
 }

@@ -19,24 +19,18 @@ fn load_in(
     let mut finished = 0;
     let mut bytes = 0;
     let mut reports = 0;
-    let from = 0;
     let room = at_most(lent, area.len());
     let refusal = load_of(
         q,
         table,
         buffer,
-        &mut area[from..room],
+        &mut area[..room],
         &mut place,
         &mut finished,
         &mut bytes,
         &mut reports,
     );
-    say::word(out, b"l")?;
-    say::number(out, refusal)?;
-    say::number(out, place)?;
-    say::number(out, finished)?;
-    say::number(out, bytes)?;
-    say::number(out, reports)?;
+    print!(out; "l {refusal} {place} {finished} {bytes} {reports}")?;
     say::rest(out, part_at(area, 0, bytes as usize))
 }
 

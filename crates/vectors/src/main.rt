@@ -6,7 +6,9 @@ mod loads;
 mod say;
 mod text;
 
-use crate::text::{at_most, before, behind, bytes_of, marks, next, number, part};
+ghost use Rattle.std.specs.Prelude.{◌≤◌, length};
+
+use crate::text::{at_most, before, behind, bytes_of, marks, number, part};
 use decimal::Instrument;
 use kamurjesh::both::{copy_of, copy_read_of, open_of, read_of, run_of, submit_of};
 use kamurjesh::kamurjesh_field;
@@ -17,35 +19,18 @@ use octets::part_at;
 use refusals::{Refusal, answer_number};
 use std::io::{Read, Result};
 
-// The first n numbers, or as many as there are.
-fn first(s: &[u64], n: usize) -> &[u64] {
-    if s.len() <= n {
-        return s;
-    }
-    let from = 0;
-    &s[from..n]
-}
-
 // The list of Open: entry k is part 4 + k of the command. More than fit are as wrong as nine.
-fn entries(s: &[u8], mpids: &mut [u64], modes: &mut [u64]) -> usize {
-    let n = marks(s);
-    let mut k = 0;
-    while k < n {
-        if mpids.len() <= k {
-            return k;
-        }
-        if modes.len() <= k {
-            return k;
-        }
-        if n - k <= 3 {
-            return k;
-        }
+fn entries(s: &[u8], mpids: &mut [u64], modes: &mut [u64]) -> usize
+    ensures { (result ≤ length mpids.new) × (result ≤ length modes.new) }
+{
+    let listed = marks(s).saturating_sub(3);
+    let n = listed.min(mpids.len()).min(modes.len());
+    for k in 0..n {
         let entry = part(s, k + 4);
         mpids[k] = number(before(entry, b':'));
         modes[k] = number(behind(entry, b':'));
-        k += 1;
     }
-    k
+    n
 }
 
 // Open, with the names and the list of the command.
@@ -68,8 +53,8 @@ fn open_named(
         port,
         code,
         number,
-        first(&mpids, n),
-        first(&modes, n),
+        &mpids[..n],
+        &modes[..n],
     )
 }
 
@@ -84,9 +69,7 @@ fn open(out: &impl Print, q: Instrument, table: &mut [u8], s: &[u8]) -> Result<(
     let venue_id = part_at(&venue, 0, v);
     let port_id = part_at(&port, 0, p);
     let refusal = open_named(q, table, venue_id, port_id, part_at(&code, 0, c), s);
-    say::word(out, b"o")?;
-    say::number(out, refusal)?;
-    say::word(out, b"\n")
+    println!(out; "o {refusal}")
 }
 
 // Submit, with as much of the area as the command lends.
@@ -99,12 +82,9 @@ fn submit_in(
     lent: u64,
 ) -> Result<()> {
     let mut len = 0;
-    let from = 0;
     let room = at_most(lent, area.len());
-    let refusal = submit_of(q, table, message, &mut area[from..room], &mut len);
-    say::word(out, b"s")?;
-    say::number(out, refusal)?;
-    say::number(out, len)?;
+    let refusal = submit_of(q, table, message, &mut area[..room], &mut len);
+    print!(out; "s {refusal} {len}")?;
     say::rest(out, part_at(area, 0, len as usize))
 }
 
@@ -129,22 +109,17 @@ fn run_in(
     let mut bytes = 0;
     let mut reports = 0;
     let mut steps = 0;
-    let from = 0;
     let room = at_most(lent, area.len());
     let refusal = run_of(
         q,
         table,
-        &mut area[from..room],
+        &mut area[..room],
         budget,
         &mut bytes,
         &mut reports,
         &mut steps,
     );
-    say::word(out, b"r")?;
-    say::number(out, refusal)?;
-    say::number(out, bytes)?;
-    say::number(out, reports)?;
-    say::number(out, steps)?;
+    print!(out; "r {refusal} {bytes} {reports} {steps}")?;
     say::rest(out, part_at(area, 0, bytes as usize))
 }
 
@@ -199,12 +174,11 @@ fn tops(out: &impl Print, q: Instrument, table: &[u8], s: &[u8]) -> Result<()> {
 // A byte put into the table or the image: the one that was there is said behind the command's letter.
 fn put_byte(out: &impl Print, letter: &[u8], bytes: &mut [u8], s: &[u8]) -> Result<()> {
     let i = at_most(number(part(s, 0)), bytes.len());
-    let byte = (number(part(s, 1)) % 256) as u8;
-    if i < bytes.len() {
+    if let Some(byte) = bytes.get_mut(i) {
+        let was = *byte;
         say::word(out, letter)?;
-        say::number(out, octets::wide(bytes[i]))?;
-        say::word(out, b"\n")?;
-        bytes[i] = byte;
+        println!(out; " {was}")?;
+        *byte = (number(part(s, 1)) % 256) as u8;
     }
     Ok(())
 }
@@ -221,21 +195,17 @@ fn field(out: &impl Print, report: &[u8], tag: u64) -> Result<()> {
     Ok(())
 }
 
-// The fields of a report, in the order of its bytes.
+// The fields of a report, in the order of its bytes, each up to its SOH.
 fn fields(out: &impl Print, report: &[u8]) -> Result<()> {
-    let mut at = 0;
-    while at < report.len() {
-        let e = next(report, at, 1);
-        field(out, report, number(before(&report[at..e], b'=')))?;
-        at = e + 1;
+    for text in report.split_inclusive(|b| *b == 1) {
+        field(out, report, number(before(text, b'=')))?;
     }
     Ok(())
 }
 
 // What was read: the number, the kind, and the fields if it was taken.
 fn read_as(out: &impl Print, report: &[u8], refusal: u64, kind: u64) -> Result<()> {
-    say::number(out, refusal)?;
-    say::number(out, kind)?;
+    print!(out; " {refusal} {kind}")?;
     if refusal == 0 {
         say::word(out, b" ")?;
         fields(out, report)?;
@@ -277,7 +247,6 @@ fn copy_in(
 ) -> Result<()> {
     let mut len = 0;
     let mut after = 0;
-    let from = 0;
     let subscription = number(part(s, 0));
     let shows = number(part(s, 1));
     let first = number(part(s, 4));
@@ -290,14 +259,11 @@ fn copy_in(
         port,
         group,
         first,
-        &mut area[from..room],
+        &mut area[..room],
         &mut len,
         &mut after,
     );
-    say::word(out, b"c")?;
-    say::number(out, refusal)?;
-    say::number(out, len)?;
-    say::number(out, after)?;
+    print!(out; "c {refusal} {len} {after}")?;
     say::rest(out, part_at(area, 0, len as usize))
 }
 
@@ -322,8 +288,8 @@ fn copy(out: &impl Print, q: Instrument, s: &[u8]) -> Result<()> {
     )
 }
 
-// One command that keeps a market: the table written into the image, read back from it, or a byte of the image changed.
-fn keep(
+// One command to a market of bonds or of equities, or to the image that is kept of it.
+fn command(
     out: &impl Print,
     q: Instrument,
     table: &mut [u8],
@@ -331,64 +297,37 @@ fn keep(
     letter: u8,
     s: &[u8],
 ) -> Result<()> {
-    if letter == b'w' {
-        return images::save(out, q, table, image, s);
+    match letter {
+        b'o' => open(out, q, table, s),
+        b's' => submit(out, q, table, s),
+        b'r' => run(out, q, table, s),
+        b'l' => loads::load(out, q, table, s),
+        b'd' => depths(out, q, table, s),
+        b't' => tops(out, q, table, s),
+        b'b' => put_byte(out, b"b", table, s),
+        b'x' => read(out, q, s),
+        b'c' => copy(out, q, s),
+        b'y' => read_copy(out, q, s),
+        b'w' => images::save(out, q, table, image, s),
+        b'u' => images::restore(out, q, table, image, s),
+        b'i' => put_byte(out, b"i", image, s),
+        _ => Ok(()),
     }
-    if letter == b'u' {
-        return images::restore(out, q, table, image, s);
-    }
-    if letter == b'i' {
-        return put_byte(out, b"i", image, s);
-    }
-    Ok(())
-}
-
-// One command to a market of bonds or of equities.
-fn command(out: &impl Print, q: Instrument, table: &mut [u8], letter: u8, s: &[u8]) -> Result<()> {
-    if letter == b'o' {
-        return open(out, q, table, s);
-    }
-    if letter == b's' {
-        return submit(out, q, table, s);
-    }
-    if letter == b'r' {
-        return run(out, q, table, s);
-    }
-    if letter == b'l' {
-        return loads::load(out, q, table, s);
-    }
-    if letter == b'd' {
-        return depths(out, q, table, s);
-    }
-    if letter == b't' {
-        return tops(out, q, table, s);
-    }
-    if letter == b'b' {
-        return put_byte(out, b"b", table, s);
-    }
-    if letter == b'x' {
-        return read(out, q, s);
-    }
-    if letter == b'c' {
-        return copy(out, q, s);
-    }
-    if letter == b'y' {
-        return read_copy(out, q, s);
-    }
-    Ok(())
 }
 
 // What the calls from here on are of.
 fn chosen(out: &impl Print, q: Instrument, s: &[u8]) -> Result<Instrument> {
-    if octets::same(s, b"0") {
-        say::word(out, b"q 0\n")?;
-        return Ok(Instrument::Bonds);
+    match s {
+        b"0" => {
+            say::word(out, b"q 0\n")?;
+            Ok(Instrument::Bonds)
+        }
+        b"1" => {
+            say::word(out, b"q 1\n")?;
+            Ok(Instrument::Equities)
+        }
+        _ => Ok(q),
     }
-    if octets::same(s, b"1") {
-        say::word(out, b"q 1\n")?;
-        return Ok(Instrument::Equities);
-    }
-    Ok(q)
 }
 
 // One line: a comment is said back. What the calls behind it are of is given back.
@@ -399,67 +338,53 @@ fn line(
     image: &mut [u8],
     s: &[u8],
 ) -> Result<Instrument> {
-    if s.len() == 0 {
-        return Ok(q);
+    match s {
+        [] => Ok(q),
+        [b'#', ..] => {
+            say::word(out, s)?;
+            say::word(out, b"\n")?;
+            Ok(q)
+        }
+        [b'q', ..] => chosen(out, q, part_at(s, 2, s.len())),
+        [letter, ..] => {
+            command(out, q, table, image, *letter, part_at(s, 2, s.len()))?;
+            Ok(q)
+        }
     }
-    let letter = s[0];
-    if letter == b'#' {
-        say::word(out, s)?;
-        say::word(out, b"\n")?;
-        return Ok(q);
-    }
-    if letter == b'q' {
-        return chosen(out, q, part_at(s, 2, s.len()));
-    }
-    command(out, q, table, letter, part_at(s, 2, s.len()))?;
-    keep(out, q, table, image, letter, part_at(s, 2, s.len()))?;
-    Ok(q)
 }
 
-// What was read: a line of so many bytes, and whether the input goes on.
+// What was read: a line of so many bytes, and whether the input goes on; the last line counts as well.
 #[derive(Clone, Copy)]
 struct Got {
     len: usize,
     more: bool,
 }
 
-// The next byte of the input, and 256 at its end.
-fn read_byte(input: &mut impl Read) -> Result<u64> {
+// The next byte of the input, if it has not ended.
+fn read_byte(input: &mut impl Read) -> Result<Option<u8>> {
     let mut one = [0u8; 1];
     if input.read(&mut one)? == 0 {
-        return Ok(256);
+        return Ok(None);
     }
-    Ok(octets::wide(one[0]))
+    Ok(Some(one[0]))
 }
 
 // Reads a line, without its end; of one that is too long, as much as there is room for.
 fn read_line(input: &mut impl Read, buffer: &mut [u8]) -> Result<Got> {
-    let mut i = 0;
-    while i < buffer.len() {
-        let b = read_byte(input)?;
-        if b > 255 {
-            return Ok(Got {
-                len: i,
-                more: false,
-            });
+    for (len, place) in buffer.iter_mut().enumerate() {
+        match read_byte(input)? {
+            None => return Ok(Got { len, more: false }),
+            Some(b'\n') => return Ok(Got { len, more: true }),
+            Some(b) => *place = b,
         }
-        if b == 10 {
-            return Ok(Got { len: i, more: true });
-        }
-        buffer[i] = (b % 256) as u8;
-        i += 1;
     }
-    Ok(Got { len: i, more: true })
+    Ok(Got {
+        len: buffer.len(),
+        more: true,
+    })
 }
 
-// What the calls behind a line are of, and whether the input goes on.
-#[derive(Clone, Copy)]
-struct Onward {
-    of: Instrument,
-    more: bool,
-}
-
-// Reads a line and answers it.
+// Reads a line and answers it. What the calls behind it are of is given back, if the input goes on.
 fn turn(
     input: &mut impl Read,
     out: &impl Print,
@@ -467,10 +392,10 @@ fn turn(
     table: &mut [u8],
     image: &mut [u8],
     buffer: &mut [u8],
-) -> Result<Onward> {
+) -> Result<Option<Instrument>> {
     let got = read_line(input, buffer)?;
     let of = line(out, q, table, image, part_at(buffer, 0, got.len))?;
-    Ok(Onward { of, more: got.more })
+    Ok(got.more.then_some(of))
 }
 
 // The lines, one after another, at most a million. The calls are of bonds at the start.
@@ -483,11 +408,10 @@ fn lines(
 ) -> Result<()> {
     let mut of = Instrument::Bonds;
     for _ in 0..1_000_000 {
-        let t = turn(input, out, of, table, image, buffer)?;
-        of = t.of;
-        if !t.more {
+        let Some(next) = turn(input, out, of, table, image, buffer)? else {
             break;
-        }
+        };
+        of = next;
     }
     Ok(())
 }
