@@ -134,16 +134,6 @@ fn is_side(q: Instrument, side: u64) -> bool
     }
 }
 
-// The highest level of a market.
-fn highest(q: Instrument) -> u64
-    ensures { result ≡ highest q }
-{
-    match q {
-        Instrument::Bonds => 1999999999,
-        Instrument::Equities => 1000000000,
-    }
-}
-
 // Whether each number of an order is in its range; top is the market's highest level.
 fn is_ranged(q: Instrument, top: u64, o: Order) -> bool
     requires { top ≡ highest q }
@@ -276,7 +266,7 @@ pub fn has_orders(q: Instrument, t: &[u8], n: usize, m: usize) -> bool
     let records = Records {
         table: t,
         instrument: q,
-        top: highest(q),
+        top: q.highest(),
         characters: &characters,
         mpids: n,
     };

@@ -12,11 +12,10 @@ use Rattle.octets.specs.Octets.{part_at, same_bytes}
 use Rattle.octets.proofs.Bools.{split, not_both, both_l, both_r}
 use Rattle.octets.proofs.Parts.{part_rest}
 use Rattle.std.specs.Prelude.{Option, Some, None}
-use Rattle.decimal.specs.declared.Said.{Said}
-use Rattle.decimal.specs.declared.Said.TheVariants.{Value, Wrong}
+use Rattle.std.proofs.lemmas.Option.{cond_some}
 use Rattle.decimal.specs.Reading.{is_digit, digit_run, number, is_number, num_of}
 use Rattle.decimal.proofs.Scans.{run_le}
-use Rattle.decimal.proofs.Numbers.{let_through, num_below}
+use Rattle.decimal.proofs.Numbers.{num_below}
 use Rattle.load.specs.Buffer.{beginning, nine_of, says_length, length_said, starts_message, Lying, End, Unreadable, Then, lying_after, lying_in}
 use Rattle.load.specs.Turn.{length_found}
 
@@ -40,7 +39,7 @@ module _ (s a : List ℕ) (ea : a ≡ part_at s 0 12) (f : Bool) (ef : f ≡ sam
       let z : same_bytes (part_at s 0 12) beginning ≡ false = rw (← ea) (sym ef ∙ not-true f h) in
       says_not s (rw z)
 
-  module _ (h : not f ≡ false) (b : List ℕ) (eb : b ≡ part_at s 12 (length s)) (k : ℕ) (ek : k ≡ digit_run b) (d : List ℕ) (ed : d ≡ part_at s 12 k) (x : Said) (ex : x ≡ num_of 4 d) where
+  module _ (h : not f ≡ false) (b : List ℕ) (eb : b ≡ part_at s 12 (length s)) (k : ℕ) (ek : k ≡ digit_run b) (d : List ℕ) (ed : d ≡ part_at s 12 k) (x : Option ℕ) (ex : x ≡ num_of 4 d) where
     begins : same_bytes (part_at s 0 12) beginning ≡ true
     begins = rw (← ea) (sym ef ∙ not-false f h)
 
@@ -51,29 +50,29 @@ module _ (s a : List ℕ) (ea : a ≡ part_at s 0 12) (f : Bool) (ef : f ≡ sam
     unfolding nine_of
     nine_is = rw (← run_is) (sym ed)
 
-    pub no_number : x ≡ Wrong → None ≡ length_found s
+    pub no_number : x ≡ None → None ≡ length_found s
     unfolding says_length num_of
     no_number w =
         let z : is_number 4 (nine_of s) ≡ false =
         split (is_number 4 d)
         (λ y.
-        let v : Value (number d) ≡ Wrong = sym (rw y at ex) ∙ w in
+        let v : Some (number d) ≡ None = sym (rw y at ex) ∙ w in
         let q : ◌≡◌ {A = ℕ} 0 1 = cc in
         absurd (omega arith))
         (λ y. rw nine_is y) in
         says_not s (simp (z, and-false))
 
-    module _ (n : ℕ) (v : x ≡ Value n) where
-      said : num_of 4 d ≡ Value n
+    module _ (n : ℕ) (v : x ≡ Some n) where
+      said : num_of 4 d ≡ Some n
       said = sym ex ∙ v
 
       right : is_number 4 d ≡ true
       unfolding num_of
-      right = (let_through (is_number 4 d) (number d) n said).0
+      right = (cond_some (is_number 4 d) (number d) n said).0
 
       says : number d ≡ n
       unfolding num_of
-      says = (let_through (is_number 4 d) (number d) n said).1
+      says = (cond_some (is_number 4 d) (number d) n said).1
 
       few : n < 10000
       few = num_below 4 d n said

@@ -2,7 +2,6 @@
 ghost use Rattle.std.specs.Prelude.{◌≡◌, ◌≤◌, length, drop};
 ghost use Rattle.load.specs.Turn.{length_found};
 
-use decimal::Said;
 use decimal::read::{byte_at, digit_run, read_number};
 use octets::part::{part_at, same};
 
@@ -14,9 +13,7 @@ fn length_found(s: &[u8]) -> Option<usize>
         return None;
     }
     let k = digit_run(part_at(s, 12, s.len()));
-    let Said::Value(n) = read_number(part_at(s, 12, k), 4) else {
-        return None;
-    };
+    let n = read_number(part_at(s, 12, k), 4)?;
     if byte_at(s, 12 + k) != 1 {
         return None;
     }

@@ -49,16 +49,6 @@ fn is_none(b: Level) -> bool
     (b.level == 0) & (b.total == 0) & (b.orders == 0)
 }
 
-// The highest level of a market.
-fn highest(q: Instrument) -> u64
-    ensures { result ≡ highest q }
-{
-    match q {
-        Instrument::Bonds => 1999999999,
-        Instrument::Equities => 1000000000,
-    }
-}
-
 // Whether they do, or are those of a level.
 fn is_best(q: Instrument, b: Level) -> bool
     ensures { result ≡ is_best q b }
@@ -71,7 +61,7 @@ fn is_best(q: Instrument, b: Level) -> bool
     }
     (1 <= b.orders)
         & (1 <= b.level)
-        & (b.level <= highest(q))
+        & (b.level <= q.highest())
         & (b.orders <= b.total)
         & (b.total <= b.orders * 999999999)
 }

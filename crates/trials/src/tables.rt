@@ -6,7 +6,7 @@ ghost use Rattle.table.specs.Facts.{InBytes};
 
 use audit::is_market;
 use decimal::read::read_number;
-use decimal::{Instrument, Said};
+use decimal::Instrument;
 use matching::Order;
 use octets::part_at;
 use std::io::Result;
@@ -179,10 +179,7 @@ fn build(q: Instrument, t: &mut [u8], working: Working)
 
 // The number that n digits at a place of a line say, and 0 where they are none.
 fn said(s: &[u8], at: usize, n: usize) -> u64 {
-    match read_number(part_at(s, at, n), 9) {
-        Said::Value(v) => v,
-        Said::Wrong => 0,
-    }
+    read_number(part_at(s, at, n), 9).unwrap_or(0)
 }
 
 // Whether the table is a market with another value at place p, which it keeps.
