@@ -1,6 +1,5 @@
 // The heading of a table by itself: whether it is in its ranges, and the best level that it keeps. No record is looked at.
 ghost use Rattle.std.specs.Prelude.{◌≡◌, length, cond};
-ghost use Rattle.decimal.specs.Instruments.{highest};
 ghost use Rattle.matching.specs.Matching.{buys};
 ghost use Rattle.table.specs.Places.{table_bytes};
 ghost use Rattle.table.specs.Best.{best_at, in_words};
