@@ -11,7 +11,7 @@ use fix::frame::Part;
 use request::{NewOrder, Refusal};
 use rows::{Faulty, Refused};
 use table::heading::next;
-use ticket::refusals::{tell_faulty, tell_refused, tell_unchanged, unchanged_on};
+use ticket::rejects::{tell_faulty, tell_refused, tell_unchanged, unchanged_on};
 
 // A cancel or a replacement as its reject tells of it: its 52, its ClOrdID, its 41, the record that has the 41 or 0, and the value of 434: 1 of a
 // cancel, 2 of a replacement.

@@ -1,7 +1,7 @@
 // The report of what happens on a table.
 #![tactic(auto)]
 
-pub mod refusals;
+pub mod rejects;
 pub mod tell;
 
 ghost use Rattle.std.specs.Prelude.{◌≡◌, ◌≤◌, ◌<◌, length};

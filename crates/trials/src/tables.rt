@@ -5,8 +5,8 @@ ghost use Rattle.std.specs.Prelude.{◌≡◌, ◌≤◌, ◌<◌, length};
 ghost use Rattle.table.specs.Facts.{InBytes};
 
 use audit::is_market;
-use decimal::read::read_number;
 use decimal::Instrument;
+use decimal::read::read_number;
 use matching::Order;
 use octets::part_at;
 use std::io::Result;

@@ -1,4 +1,4 @@
--- `refusals::unchanged_on` meets its contract: where no record has the 41, and where one has.
+-- `rejects::unchanged_on` meets its contract: where no record has the 41, and where one has.
 use Prim.Native.Nat.{ℕ}
 use native.Mathlib.Omega.{arith}
 use mathlib.Core.Path.{◌≡◌}
@@ -13,7 +13,7 @@ use Rattle.ticket.specs.Tickets.{unchanged_on}
 use Rattle.ticket.specs.Legible.{Holder}
 use borrow.Author.Tests.{eq-eqb, ne_eqb}
 use borrow.Author.Rules.{rules}
-use Rattle.ticket.proofs.refusals.unchanged_on.Goals as goal
+use Rattle.ticket.proofs.rejects.unchanged_on.Goals as goal
 
 -- what is executed, decremented and canceled of the order that has the 41 is covered
 held_covered : (t : List ℕ) (i : ℕ) (o : Order) → Holder t i → o ≡ order_at t i → (i ≡ 0 → ⊥) → Covered o
