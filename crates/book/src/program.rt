@@ -30,7 +30,7 @@ fn open_rehearsal(q: Instrument, t: &mut [u8])
 {
     let mpids = [10u64, 11, 12, 13, 14];
     let modes = [1u64, 1, 1, 1, 1];
-    open(q, t, b"V", b"P", code_of(q), 1, &mpids, &modes);
+    let _ = open(q, t, b"V", b"P", code_of(q), 1, &mpids, &modes);
 }
 
 // Reads a part of the input, and gives how many bytes that are: none at its end, which a read that fails is taken for.

@@ -26,14 +26,14 @@ fn as_message(line: &mut [u8])
     }
 }
 
-// A line is taken: its message is submitted, and what it put in work is run to its end.
+// A line is taken: its message is submitted, and what it put in work is run to its end. What they answer is let go: the sheet shows what the market became.
 fn take_line(q: Instrument, t: &mut [u8], line: &mut [u8], area: &mut [u8])
     requires { length area.old ≡ area_bytes }
     ensures { (t.new ≡ line_taken q t.old line.old) × (length area.new ≡ area_bytes) }
 {
     as_message(line);
-    submit(q, t, line, area);
-    run(q, t, area, 256);
+    let _ = submit(q, t, line, area);
+    let _ = run(q, t, area, 256);
 }
 
 // One byte more: it ends the line, or is a byte of it. How many bytes of the line are held is given back.
