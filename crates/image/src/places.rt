@@ -12,3 +12,8 @@ pub const CHECK: usize = 4;
 
 // What the number of a block counts in its check.
 pub const STEP: u64 = 33554432;
+
+// A table is copied in so many pieces, each of so many bytes.
+pub const PIECES: usize = 8;
+
+pub const PIECE: usize = 4096;

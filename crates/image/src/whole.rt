@@ -1,5 +1,5 @@
 // All blocks of an image: written, looked through for a bad one, and read, to stay if that makes a market.
-ghost use Rattle.std.specs.Prelude.{◌≡◌, cond, ◌<◌, length, MatchOption};
+ghost use Rattle.std.specs.Prelude.{◌≡◌, cond, ◌<◌, length, MatchOption, ◌+◌, ◌≤◌, take};
 ghost use Rattle.table.specs.Places.{table_bytes};
 ghost use Rattle.table.specs.Market.{is_market_of};
 ghost use Rattle.image.specs.Image.{image_bytes, image_of, first_bad, table_in};
@@ -43,6 +43,27 @@ pub fn read_image(t: &mut [u8], image: &[u8])
     }
 }
 
+// Copies a piece of a table, from place p on, up to which the table is copied already.
+fn copy_piece(to: &mut [u8], from: &[u8], p: usize)
+    requires { (length to.old ≡ table_bytes) × (length from.now ≡ table_bytes) × (p + 4096 ≤ table_bytes)
+        × (take p to.old ≡ take p from.now) }
+    ensures { take (p + 4096) to.new ≡ take (p + 4096) from.now }
+{
+    for j in 0..places::PIECE {
+        to[p + j] = from[p + j];
+    }
+}
+
+// Copies a table. It goes by pieces of one length, known to the compiler: copy_from_slice over the whole takes some 25,000 instructions more.
+fn copy_table(to: &mut [u8], from: &[u8])
+    requires { (length to.old ≡ table_bytes) × (length from.now ≡ table_bytes) }
+    ensures { to.new ≡ from.now }
+{
+    for k in 0..places::PIECES {
+        copy_piece(to, from, places::PIECE * k);
+    }
+}
+
 // Reads the table that an image holds, and answers whether it is a market of the instrument. Where it is not, the caller's table is put back
 // as it was, from a copy that is made first.
 pub fn read_market(q: Instrument, table: &mut [u8], image: &[u8]) -> bool
@@ -51,11 +72,11 @@ pub fn read_market(q: Instrument, table: &mut [u8], image: &[u8]) -> bool
         × (table.new ≡ cond result (table_in image.now) table.old) }
 {
     let mut before = [0u8; TABLE];
-    before.copy_from_slice(table);
+    copy_table(&mut before, table);
     read_image(table, image);
     if is_market_of(q, table) {
         return true;
     }
-    table.copy_from_slice(&before);
+    copy_table(table, &before);
     false
 }

@@ -1,6 +1,6 @@
 // Searches among the records of a market: how many are filled, by halving, and which has a ClOrdID, eight bytes at a time.
 ghost use Rattle.std.specs.Prelude.{◌≡◌, ◌+◌, ◌≤◌, length};
-ghost use Rattle.octets.specs.Octets.{same_bytes};
+ghost use Rattle.octets.specs.Octets.{same_bytes, text_at};
 ghost use Rattle.table.specs.Orders.{cl_ord_id_at, filled, record_with};
 ghost use Rattle.table.specs.Facts.{Market};
 ghost use Rattle.table.specs.Keys.{Keyed, Halved};
@@ -57,6 +57,14 @@ fn key_of(m: &[u8]) -> Key
     }
 }
 
+// Whether the text at place p is m. Asked only where the keys are the same: the loop over the records is shorter where this is no part of it.
+#[inline(never)]
+fn text_is(t: &[u8], p: usize, m: &[u8]) -> bool
+    ensures { result ≡ same_bytes (text_at t.now p) m.now }
+{
+    octets::text_is(t, p, m)
+}
+
 // Whether the ClOrdID of record i is m: the numbers of its key are compared first, and its characters only where those are the same. The second
 // number comes before the first, since it differs oftener; `==` of two keys would read all four of each record.
 fn is_named(t: &[u8], i: usize, key: Key, m: &[u8]) -> bool
@@ -76,7 +84,7 @@ fn is_named(t: &[u8], i: usize, key: Key, m: &[u8]) -> bool
     if eight_at(t, p + 24) != key.fourth {
         return false;
     }
-    octets::text_is(t, p, m)
+    text_is(t, p, m)
 }
 
 // The record among the n of a market whose ClOrdID is m; 0 if none has it, as the definition `record_with`, which theorems name, numbers none.
