@@ -169,7 +169,8 @@ pub fn order_at(t: &[u8], i: usize) -> Order
     load(t, i)
 }
 
-// What is executed, decremented and canceled. It is no method of an order, of which any may be wider than one that is read from a record.
+// What is executed, decremented and canceled. No method of Order: the sum fits only of an order that is read from a record
+// (Narrow).
 pub fn used(o: Order) -> u64
     requires { Narrow o }
     ensures { (result ≡ o.executed + o.decremented + o.canceled) × (result < 12884901888) }

@@ -40,7 +40,8 @@ fn next_at(t: &[u8], buffer: &[u8], place: usize, free: usize) -> Result<usize, 
     Ok(n)
 }
 
-// Takes the messages of the buffer until no more can be taken; the reports of each start where those of the one before ended.
+// Takes the messages of the buffer until no more can be taken; the reports of each start where those of the one before ended. A loop:
+// how far it moves on depends on each message.
 pub fn go(q: Instrument, table: &mut [u8], buffer: &[u8], area: &mut [u8]) -> Halt
     requires { Idle q table.old }
     ensures { Went q table.old buffer.now area.old result table.new area.new }

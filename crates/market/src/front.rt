@@ -41,7 +41,7 @@ impl Kept {
     }
 }
 
-// Whether the numbers say that there is no level.
+// Whether the numbers say that there is no level. The three are tested with no branch between them.
 fn is_none(b: Level) -> bool
     ensures { result ≡ is_none b }
 {

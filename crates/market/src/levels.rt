@@ -22,7 +22,7 @@ pub fn next_level(t: &[u8], n: usize, side: u64, x: u64) -> u64
     c
 }
 
-// What stands on a level of a side.
+// `stands_on`, under the name that docs/PROMISES.md promises.
 pub fn sums(t: &[u8], n: usize, side: u64, level: u64) -> Level
     requires { Market t.now × (n ≡ filled t.now) }
     ensures { (result.total ≡ total (book_of t.now) side level) × (result.orders ≡ orders (book_of t.now) side level) }

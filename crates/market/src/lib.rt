@@ -77,7 +77,7 @@ pub fn run(
     turns::run(q, table, area, budget)
 }
 
-// Whether a side is 1, the buys, or 2, all the sells.
+// Whether a side is 1, the buys, or 2, all the sells. The side is a number, since a caller may lend any and `depth_answer` refuses the others.
 fn is_side(side: u64) -> bool
     ensures { result ≡ is_side side }
 {

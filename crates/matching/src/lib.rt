@@ -10,7 +10,7 @@ ghost use Rattle.matching.specs.Held.{Covered, Sound, May};
 // One order: the eleven numbers that matching needs. Side 1 buys and any other sells; time in force 0 is Day, 3 IOC and 4 Fill or Kill; the level is
 // 1,000,000,000 and the yield in thousandths, or less the price in tenths; the sum is that of executed quantity times level; the place is the number of
 // the Accepted report, or of the last requested Replaced report that did not keep it; MPID 0 is none; MinQty is 110 as it was sent, 0
-// for none.
+// for none. All are numbers, since the record of a table that is no market may hold any, and the definitions read them.
 #[derive(Clone, Copy)]
 pub struct Order {
     pub side: u64,

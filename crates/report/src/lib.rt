@@ -32,7 +32,7 @@ pub struct Field {
 }
 
 // Where a text stands: in the message that caused the report, or else in the table where it is stored; its first byte and how
-// many there are.
+// many there are. The flag says which of the two slices, not whether there is a text.
 #[derive(Clone, Copy)]
 pub struct Place {
     pub sent: bool,

@@ -114,7 +114,7 @@ pub struct Cancellation {
     pub side: u64,
 }
 
-// What a message asks. Each case has what its own answer needs.
+// What a message asks: five answers, each with data of its own, so neither an Option nor a Result.
 #[derive(Clone, Copy)]
 pub enum Asked {
     Garbled,

@@ -19,7 +19,8 @@ pub fn filled(t: &[u8]) -> usize
     places::MOST_ORDERS
 }
 
-// The record that a new order takes, n records being filled; 0 if every order is open, as the definition `record_for`, which theorems name, numbers none.
+// The record that a new order takes, n records being filled; 0 if every order is open: the definition `record_for`,
+// of which theorems speak, has 0 for none.
 pub fn record_for(t: &[u8], n: usize) -> usize
     requires { (length t.now ≡ table_bytes) × (n ≡ filled t.now) }
     ensures { (result ≡ record_for t.now) × (result ≤ 255) }

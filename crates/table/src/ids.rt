@@ -87,7 +87,8 @@ fn is_named(t: &[u8], i: usize, key: Key, m: &[u8]) -> bool
     text_is(t, p, m)
 }
 
-// The record among the n of a market whose ClOrdID is m; 0 if none has it, as the definition `record_with`, which theorems name, numbers none.
+// The record among the n of a market whose ClOrdID is m; 0 if none has it: the definition `record_with`, of which theorems
+// speak, has 0 for none.
 pub fn find_id(t: &[u8], n: usize, m: &[u8]) -> usize
     requires { Market t.now × (n ≡ filled t.now) }
     ensures { (result ≡ record_with t.now n m.now) × (result ≤ n) }

@@ -174,7 +174,8 @@ impl Offers<'_> {
         r
     }
 
-    // The turn behind the last that is before x; 0 if there is none. No twin of `first_from`: each starts at its own end and looks for another turn.
+    // The turn behind the last that is before x; 0 if there is none. Not one function with `first_from`: each
+    // starts at its own end and looks for another turn.
     fn last_before(self, x: u64) -> u64
         ensures { Clear self.entry.turns.now self.entry.n result x }
     {

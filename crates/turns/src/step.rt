@@ -30,6 +30,8 @@ pub struct Plan {
     pub decided: Option<u8>,
 }
 
+// Each function below carries out one outcome; it takes only the parts of a Plan that it needs.
+
 // A decrement between w, in work, and r, resting: the smaller is canceled and the larger lowered; equal ones are both canceled, the
 // resting one first.
 fn decrement(

@@ -353,7 +353,8 @@ fn line(
     }
 }
 
-// What was read: a line of so many bytes, and whether the input goes on; the last line counts as well.
+// What was read: a line of so many bytes, and whether the input goes on. A flag, not an Option: the last line has bytes too, and the input ends
+// with it.
 #[derive(Clone, Copy)]
 struct Got {
     len: usize,
