@@ -1,7 +1,7 @@
-/* Lends Submit a message with one long field and a CheckSum that is not true, and prints where that field lies: the address of its first
- * byte, in hexadecimal, and how many bytes it has, from its tag to its SOH. Nothing but the library loads a byte from there, so that a
- * trace of the program's loads tells how often the library does (.ci/tests/one-pass). Exit status 1 where Submit answers something
- * else than it must. */
+/* Lends Submit a message with one long field and a CheckSum that is not true, and prints where that field lies, and the value of 8: the address
+ * of the first byte, in hexadecimal, how many bytes there are (of the field from its tag to its SOH), and how often the library is to
+ * load each. Nothing but the library loads a byte from there, so that a trace of the program's loads tells how often it does
+ * (.ci/tests/one-pass). Exit status 1 where Submit answers something else than it must. */
 #include <inttypes.h>
 #include <stdio.h>
 #include <stdlib.h>
@@ -53,5 +53,6 @@ int main(void)
     m.bytes[m.length - 2] ^= 1;                                  /* the last digit of the CheckSum */
     memcpy(lent, m.bytes, m.length);
     must(submit(lent, m.length) == KAMURJESH_GARBLED);
-    printf("%" PRIxPTR " %d\n", (uintptr_t)&lent[ten - FIELD], FIELD);
+    printf("%" PRIxPTR " %d 1\n", (uintptr_t)&lent[ten - FIELD], FIELD);
+    printf("%" PRIxPTR " %zu 2\n", (uintptr_t)&lent[strlen("8=")], strlen("FIX.4.2"));
 }

@@ -82,14 +82,19 @@ fn high_part(key: usize) -> usize
     key / 34359738368 % 2048
 }
 
-// Whether the ClOrdID of record j + 1 is that of no record before it, j of n that are filled with orders.
+// Whether the ClOrdID of record j + 1 is that of no record before it, j of n that are filled with orders. The first number is
+// compared before the whole, since `==` reads all four of each record.
 fn is_fresh_id(t: &[u8], n: usize, j: usize) -> bool
     requires { (length t.now ≡ table_bytes) × (n ≡ filled t.now) × (n ≤ 255) × (has_orders t.now ≡ true) × (j < n) }
     ensures { result ≡ is_fresh_id t.now j }
 {
     let x = id_at(t, j + 1);
     for i in 0..j {
-        if id_at(t, i + 1) == x {
+        let y = id_at(t, i + 1);
+        if y.a != x.a {
+            continue;
+        }
+        if y == x {
             return false;
         }
     }

@@ -63,13 +63,10 @@ pub fn copy_row(fields: [Field; 36], number: u64, width: usize) -> [Field; 36]
             let field = row[at];
             row[at] = held;
             held = field;
-            continue;
+        } else if is_new(tag) {
+            let field = row[at];
+            row[at] = copy_field(field, number, width);
         }
-        if !is_new(tag) {
-            continue;
-        }
-        let field = row[at];
-        row[at] = copy_field(field, number, width);
     }
     row[35] = held;
     row
@@ -114,7 +111,8 @@ fn copy_slot(q: Instrument, slot: Slot) -> Slot
     slot
 }
 
-// The slots of a copy. Not one function with the row's: that takes a field only where it moves or changes, and this each slot.
+// The slots of a copy. Not one function with the row's: that takes a field only where it moves or changes, and this each slot. An else in
+// each, since `continue` in its place makes the compiler hold copies of the whole row on the stack.
 pub fn copy_slots(q: Instrument, slots: [Slot; 36]) -> [Slot; 36]
     ensures { result ≡ copy_slots q slots }
 {
@@ -137,9 +135,9 @@ pub fn copy_slots(q: Instrument, slots: [Slot; 36]) -> [Slot; 36]
         if behind {
             all[at] = held;
             held = slot;
-            continue;
+        } else {
+            all[at] = copy_slot(q, slot);
         }
-        all[at] = copy_slot(q, slot);
     }
     all[35] = held;
     all

@@ -3,7 +3,7 @@ ghost use Rattle.std.specs.Prelude.{◌≡◌, ℕ, ◌+◌, ◌-◌, ◌*◌, �
 ghost use Rattle.octets.specs.Octets.{part_at};
 ghost use Rattle.decimal.specs.Reading.{num_of, is_time};
 ghost use Rattle.fix.specs.Fields.{fields_of, fields_from, value_of};
-ghost use Rattle.fix.specs.Garbled.{headed_by, header, check_sum, frame_of, garbled_message};
+ghost use Rattle.fix.specs.Garbled.{headed_by, header, said_of, check_sum, frame_of, garbled_message};
 ghost use Rattle.fix.specs.Steps.{row_fields, Rowed, part_row, Headed, OpeningSays, right_of, sums_of, Lined, Laid, Framed};
 
 use crate::pass::walk;
@@ -97,6 +97,13 @@ fn opens(s: &[u8], row: &[u16; 1023]) -> Option<Opening>
     })
 }
 
+// The number that is said, and 0 where none is: no Option, since docs/landings/T-04.md promises a number under this name.
+pub fn said(x: Option<u64>) -> u64
+    ensures { result ≡ said_of x }
+{
+    x.unwrap_or(0)
+}
+
 // Whether the values of the header are what they may be, where 34 says n.
 fn right(s: &[u8], p: Places, n: u64) -> bool
     ensures { result ≡ right_of s.now p n }
@@ -142,7 +149,7 @@ fn settled(
     if !sums(s, sum, p) {
         return None;
     }
-    let number = read_number(part_at(s, h.number.start, h.number.len), 9).unwrap_or(0);
+    let number = said(read_number(part_at(s, h.number.start, h.number.len), 9));
     if !right(s, h, number) {
         return None;
     }

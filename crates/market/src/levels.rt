@@ -1,6 +1,7 @@
 // The levels of a side of a market in which nothing is in work: the best, the next behind it, the k-th, and what stands on one.
 ghost use Rattle.std.specs.Prelude.{◌≡◌};
 ghost use Rattle.matching.specs.Depth.{next, total, orders, depth};
+ghost use Rattle.table.specs.Best.{stands_on};
 ghost use Rattle.table.specs.Orders.{filled, book_of};
 ghost use Rattle.table.specs.Facts.{Market};
 
@@ -22,10 +23,10 @@ pub fn next_level(t: &[u8], n: usize, side: u64, x: u64) -> u64
     c
 }
 
-// `stands_on`, under the name that docs/PROMISES.md promises.
+// What stands on a level of a side, for Depth and for the program book.
 pub fn sums(t: &[u8], n: usize, side: u64, level: u64) -> Level
     requires { Market t.now × (n ≡ filled t.now) }
-    ensures { (result.total ≡ total (book_of t.now) side level) × (result.orders ≡ orders (book_of t.now) side level) }
+    ensures { (result.total ≡ total (book_of t.now) side level) × (result.orders ≡ orders (book_of t.now) side level) × (result ≡ stands_on (book_of t.now) side level) }
 {
     stands_on(t, n, side, level)
 }
@@ -37,5 +38,5 @@ pub(crate) fn level(t: &[u8], side: u64, k: u64) -> Option<Level>
 {
     let n = count(t);
     let level = level_of(t, n, side, k)?;
-    Some(stands_on(t, n, side, level))
+    Some(sums(t, n, side, level))
 }

@@ -5,11 +5,12 @@ use mathlib.Core.Bool.{true, false}
 use mathlib.Core.List.{List, [], ◌∷◌, ◌++◌}
 use Prim.Native.Nat.{ℕ, suc, ◌+◌, ◌-◌, ◌≤◌, ◌<◌}
 use native.Mathlib.Nat.{add-zero, add_assoc}
+use native.Mathlib.Numerals.{add-one}
 use native.Mathlib.Omega.{arith}
-use borrow.Author.Tests.{eq-eqb, eqb-true}
+use borrow.Author.Tests.{eq-eqb, ne_eqb, eqb-true}
 use lib.Dec.{eqb}
 use lib.ListN.{length, get_or, set, take, drop, replicate, length-drop, length-append, length-replicate, drop_of_length-le}
-use lib.Seq.{get_or-take, get_or-drop, length-take-le, take_all, take-nil, take-append_seam, drop-append_seam, drop-length, ext_get_or}
+use lib.Seq.{get_or-take, get_or-drop, length-take-le, take_all, take-nil, take-append_seam, drop-append_seam, drop-cons, drop-length, ext_get_or}
 use Rattle.std.specs.Cmp.Lexicographic.{pointwise}
 use Rattle.octets.specs.Octets.{put, part_at, text_at, text_bytes, put_text, same_bytes}
 use Rattle.octets.proofs.Bools.{both_i, both_l, both_r, split, not_both}
@@ -186,6 +187,23 @@ not_same xs ys h = split (same_bytes xs ys) (λ e. absurd (h (same_is xs ys e)))
 
 pub same_not : (xs ys : List ℕ) → same_bytes xs ys ≡ false → xs ≡ ys → ⊥
 same_not xs ys h e = not_both (rw e (is_same ys)) h
+
+-- a turn of a comparing loop that goes on, one that stops, and the end
+pub same_more : (a b : List ℕ) (i : ℕ) → i < length a → i < length b → get_or a i 0 ≡ get_or b i 0
+    → same_bytes (drop i a) (drop i b) ≡ same_bytes (drop (i + 1) a) (drop (i + 1) b)
+unfolding same_bytes
+same_more a b i h l e = rw (drop-cons a i 0 h, drop-cons b i 0 l, eq-eqb (get_or a i 0) (get_or b i 0) e, add-one)
+
+pub same_stop : (a b : List ℕ) (i : ℕ) → i < length a → i < length b → (get_or a i 0 ≡ get_or b i 0 → ⊥) → same_bytes (drop i a) (drop i b) ≡ false
+unfolding same_bytes
+same_stop a b i h l n = rw (drop-cons a i 0 h, drop-cons b i 0 l, ne_eqb (get_or a i 0) (get_or b i 0) n)
+
+pub same_end : (a b : List ℕ) (i : ℕ) → i ≡ length a → i ≡ length b → same_bytes (drop i a) (drop i b) ≡ true
+unfolding same_bytes
+same_end a b i e f =
+    let x : drop i a ≡ [] = rw e (drop-length a) in
+    let y : drop i b ≡ [] = rw f (drop-length b) in
+    rw (x, y)
 
 -- as `==` of slices compares them
 pub same_equal : (xs ys : List ℕ) → pointwise eqb xs ys ≡ same_bytes xs ys

@@ -6,12 +6,10 @@ use decimal::Instrument;
 use octets::part_at;
 use std::io::Result;
 
-// Puts SOH for each `|`.
+// Puts SOH for each `|`. Each byte is stored, so that the compiler takes many at once.
 pub fn soh(s: &mut [u8]) {
     for b in s.iter_mut() {
-        if *b == b'|' {
-            *b = 1;
-        }
+        *b = if *b == b'|' { 1 } else { *b };
     }
 }
 

@@ -13,12 +13,10 @@ use report::{Field, Place, Value};
 use rows::{Faulty, Fill, Ground, Refused, Shown, Stamp, Unchanged};
 use std::io::Result;
 
-// Makes every SOH a bar.
+// Makes every SOH a bar. Each byte is stored, so that the compiler takes many at once.
 fn bars(s: &mut [u8]) {
     for b in s.iter_mut() {
-        if *b == 1 {
-            *b = b'|';
-        }
+        *b = if *b == 1 { b'|' } else { *b };
     }
 }
 

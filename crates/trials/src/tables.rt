@@ -146,11 +146,10 @@ fn at_rest(q: Instrument, t: &mut [u8])
     put_best(t);
 }
 
-// The same with the buy that meets the sell, in work, and so no best levels.
+// On such a market, the buy that meets the sell, in work, and so no best levels.
 fn in_work(q: Instrument, t: &mut [u8], tif: u64, minqty: u64)
     requires { (length t.old ≡ 32768) × (tif < 256) }
 {
-    at_rest(q, t);
     meeting(q, t, tif, minqty);
     put_work(t, 3, b"20260105-09:00:00");
     clear_best(t);
@@ -165,15 +164,16 @@ pub enum Working {
     Nothing,
 }
 
-// The table of a section.
+// The table of a section. The market is opened at one place for all of them: with that in line the compiler clears the table once.
 fn build(q: Instrument, t: &mut [u8], working: Working)
     requires { length t.old ≡ 32768 }
 {
+    at_rest(q, t);
     match working {
         Working::Immediate => in_work(q, t, 3, 0),
         Working::Minimum => in_work(q, t, 3, 20),
         Working::FillOrKill => in_work(q, t, 4, 0),
-        Working::Nothing => at_rest(q, t),
+        Working::Nothing => (),
     }
 }
 

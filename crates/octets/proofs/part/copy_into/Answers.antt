@@ -1,10 +1,16 @@
--- `octets::copy_into` meets its contract: the part written over is put.
-use mathlib.Core.Path.{refl}
+-- `octets::copy_into` meets its contract: after j bytes the first j are written.
+use mathlib.Core.Path.{◌≡◌, refl}
+use Prim.Native.Nat.{◌+◌}
 use native.Mathlib.Omega.{arith}
-use Rattle.octets.proofs.Places.{put_over}
+use Rattle.octets.specs.Octets.{put}
+use Rattle.octets.proofs.Runs.{copy_more}
 use Rattle.octets.proofs.part.copy_into.Goals as goal
 
-pub returns : goal.returns
-returns c =
-    let room = c.requires in
-    record { place = refl; bytes_in = put_over _ _ _ _ c.copy_from_slice.ensures.after (omega arith) room.fits }
+pub loop-j-init : goal.loop-j-init
+unfolding put
+loop-j-init c = record { place = refl; bytes_in = refl }
+
+pub loop-j-preserved : goal.loop-j-preserved
+loop-j-preserved c =
+    let e : c.args.at + c.loop-j.j + 1 ≡ c.args.at + (c.loop-j.j + 1) = omega arith in
+    rw e at (copy_more c.args.from.now c.loop-j.j c.loop-j-test.true c.loop-j.invariant)
