@@ -191,7 +191,8 @@ fn with_byte(t: &mut [u8], p: usize, v: u8) -> bool {
     is_market(t)
 }
 
-// Writes a line with its answer.
+// Writes a line with its answer. By itself, since whoever it were part of would have a table on its stack for lines that need none.
+#[inline(never)]
 fn answer(out: &impl Print, q: Instrument, s: &[u8], working: Working) -> Result<()> {
     let p = said(s, 0, 5) as usize;
     let v = (said(s, 6, 3) % 256) as u8;

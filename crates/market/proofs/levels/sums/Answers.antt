@@ -4,4 +4,4 @@ use Rattle.market.proofs.LevelLaws.{sums_total, sums_orders}
 use Rattle.market.proofs.levels.sums.Goals as goal
 
 pub returns : goal.returns
-returns c = (search (rules, sums_total), search (rules, sums_orders), c.stands_on.ensures)
+returns c = (search (rules, sums_total), search (rules, sums_orders), search rules)
