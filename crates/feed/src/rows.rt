@@ -111,8 +111,8 @@ fn copy_slot(q: Instrument, slot: Slot) -> Slot
     slot
 }
 
-// The slots of a copy. Not one function with the row's: that takes a field only where it moves or changes, and this each slot. An else in
-// each, since `continue` in its place makes the compiler hold copies of the whole row on the stack.
+// The slots of a copy. Not one function with the row's: that takes a field only where it moves or changes, and this each slot. Both have an
+// `else`: with `continue` in its place the compiler holds copies of all 36 on the stack.
 pub fn copy_slots(q: Instrument, slots: [Slot; 36]) -> [Slot; 36]
     ensures { result ≡ copy_slots q slots }
 {
